@@ -1,0 +1,8 @@
+use Rattle.std.proofs.Common.{◌≡◌, true, inl, refl, rules}
+use Rattle.sj_base.specs.InMemory.{is_listed}
+use Rattle.sj_base.proofs.shelf.MemShelfShelf.pick.Goals as goal
+
+pub returns-then-contains-clause-fails : goal.returns-then-contains-clause-fails
+returns-then-contains-clause-fails c =
+    let listed : is_listed c.args.self.now.fails c.args.self.now.calls ≡ true = search rules in
+    (λ _. inl listed, λ _. refl)
