@@ -1,0 +1,11 @@
+pub mod Tree
+pub mod Keys
+pub mod Spelling
+pub mod Printing
+pub mod Cells
+pub mod Layouts
+pub mod Building
+pub mod Links
+pub mod Coding
+pub mod Machine
+pub mod Document
