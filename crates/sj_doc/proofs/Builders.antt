@@ -1,0 +1,499 @@
+-- What the calls of a builder keep.
+use Rattle.std.proofs.Common.{◌≡◌, ℕ, suc, zero, ◌+◌, ◌-◌, ◌<◌, ◌≤◌, ◌^◌, List, [], ◌∷◌, ◌++◌, length, take, drop, get_or, set, Bool, true, false, Option, Some, None, option_map, IfSome, refl, sym, ap, ◌∙◌, subst, length-append, arith}
+use Rattle.std.specs.List.{AllByRecursion}
+use Rattle.std.specs.Str.{IsUtf8}
+use Rattle.std.proofs.Math.ListN.{get_or-map}
+use Rattle.std.proofs.lemmas.List.{append-nil, length-map, map-append, map-set, set_at, get_or_at, take-append-le, drop-append-le, take_at, drop_at, length-set, length-drop}
+use Rattle.sj_json.specs.Tree.{Tree}
+use Rattle.sj_json.specs.Cells.{Cell, string_cell, closed, opened, Entry, layout, tree_of}
+use Rattle.sj_json.specs.Building.{Part, top, elements, pairs, State, TakesValue, TakesKey, TakesClose, put, put_key, empty, with_value, with_key, with_open, put_option, with_close, fresh, IsComplete, part_entries, part_kids, part_key, is_object, laid, place, IsState, state_of}
+use Rattle.sj_json.specs.Layouts.{tree_of-layout}
+use Rattle.sj_json.proofs.Buildings.{seen, outer_state, kids-put, key-put, laid-put, place-put, state-put, closes, kids_le, outer_le, state-put_key, laid-put_key, key-put_key, place-put_key, kids-put_key, laid-empty, state-empty, key-empty, kids-empty}
+use Rattle.sj_doc.specs.Kinds.{opens_object, want_of}
+use Rattle.sj_doc.specs.declared.node.Want.{Want}
+use Rattle.sj_doc.specs.declared.node.Want.TheVariants as wants
+use Rattle.sj_doc.specs.declared.node.Body.{Body}
+use Rattle.sj_doc.specs.declared.node.Body.TheVariants.{Null, Truth, Text, Closed, Opened}
+use Rattle.sj_doc.specs.declared.node.Node.{Node}
+use Rattle.sj_doc.specs.declared.node.Span.{Span}
+use Rattle.sj_json.specs.Links.{ups, laid_ups}
+use Rattle.sj_json.proofs.Links.{ups-put, ups-empty, ups-put_key, ups-close}
+use Rattle.sj_doc.specs.Nodes.{text_in, cell_of, entry_of, entries, links, IsSpan, IsBody, IsNode, IsDoc}
+use Rattle.sj_doc.specs.Builders.{built, node_total, IsBuilder}
+
+pub all_push : {X : Type 0} (P : X → Type 0) (xs : List X) (x : X) → AllByRecursion P xs → P x → AllByRecursion P (xs ++ x ∷ [])
+all_push P [] x h p = (p, tt)
+all_push P (y ∷ ys) x h p = (h.0, all_push P ys x h.1 p)
+
+take_all : (x : List ℕ) → take (length x) x ≡ x
+take_all x = ap (take (length x)) (sym (append-nil x)) ∙ take_at x [] (length x) refl
+
+-- a node whose children, if it may have any, stand elsewhere
+abbrev pub IsAlone : List ℕ → Tree → Body → Type 0
+IsAlone a t body = (k : Option (List ℕ)) → layout k t ≡ (k, cell_of a body) ∷ []
+
+-- it has no children
+abbrev pub IsLeaf : Tree → Type 0
+IsLeaf t = (n : ℕ) → ups n t ≡ n ∷ []
+
+module _ (a : List ℕ) (ns : List Node) (key : Option Span) (inner count depth : ℕ) (b : IsBuilder a ns key inner count depth) where
+  pub now_seen : built a ns key ≡ (b.part, b.outer)
+  now_seen = ap (λ k. state_of k (entries a ns)) b.keyed ∙ ap (state_of (part_key b.part)) b.laid_out ∙ seen b.part b.outer b.shape
+
+  pub total : length ns ≡ node_total (b.part, b.outer)
+  total = sym (length-map ns (entry_of a)) ∙ ap length b.laid_out
+
+module _ (a : List ℕ) (ns : List Node) (key : Option Span) (inner count depth : ℕ) (b : IsBuilder a ns key inner count depth) (s : State) (view : built a ns key ≡ s) where
+  pub state_is : (b.part, b.outer) ≡ s
+  state_is = sym (now_seen a ns key inner count depth b) ∙ view
+
+  pub count_small : count ≤ length ns
+  count_small = omega (arith, b.count_is, kids_le b.part b.outer, total a ns key inner count depth b)
+
+  pub depth_small : depth ≤ length ns
+  depth_small = omega (arith, b.depth_is, outer_le b.part b.outer, total a ns key inner count depth b)
+
+  pub room_left : node_total s < 2 ^ 25 → length ns < 2 ^ 25
+  room_left h = subst (λ n. n < 2 ^ 25) (ap node_total (sym state_is) ∙ sym (total a ns key inner count depth b)) h
+
+  pub value_comes : (t : Tree) (body : Body) → TakesValue s.0 → node_total s < 2 ^ 25 → IsAlone a t body → IsLeaf t → IsBody a body → (up : ℕ) → up ≡ length ns - inner → (new : List Node) → new ≡ ns ++ record { key = key; up = up; body = body } ∷ []
+      → IsBuilder a new None inner (count + 1) depth × (built a new None ≡ with_value t s)
+  value_comes t body wanted room alone single good up far new e =
+      let took : TakesValue b.part = subst (λ (x : State). TakesValue x.0) (sym state_is) wanted in
+      let node : Node = record { key = key; up = up; body = body } in
+      let distance : up ≡ length (laid b.part b.outer) - place b.part b.outer = omega (arith, far, b.inner_is, total a ns key inner count depth b) in
+      let free = room_left room in
+      let out : entries a new ≡ laid (put t b.part) b.outer =
+      ap (entries a) e ∙ map-append (entry_of a) ns (node ∷ []) ∙ ap (λ (x : List Entry). x ++ entries a (node ∷ [])) b.laid_out
+      ∙ ap (λ (k : Option (List ℕ)). laid b.part b.outer ++ (k, cell_of a body) ∷ []) b.keyed
+      ∙ ap (λ (x : List Entry). laid b.part b.outer ++ x) (sym (alone (part_key b.part)))
+      ∙ sym (laid-put t b.part b.outer took) in
+      let after : IsBuilder a new None inner (count + 1) depth = record {
+        part = put t b.part;
+        outer = b.outer;
+        shape = state-put t b.part b.outer b.shape;
+        laid_out = out;
+        linked = ap links e ∙ map-append (λ (n : Node). n.up) ns (node ∷ []) ∙ ap (λ (x : List ℕ). x ++ up ∷ []) b.linked ∙ ap (λ (m : ℕ). laid_ups b.part b.outer ++ m ∷ []) distance ∙ ap (λ (x : List ℕ). laid_ups b.part b.outer ++ x) (sym (single (length (laid b.part b.outer) - place b.part b.outer))) ∙ sym (ups-put t b.part b.outer took b.shape);
+        keyed = sym (key-put t b.part);
+        inner_is = b.inner_is ∙ sym (place-put t b.part b.outer);
+        count_is = omega (arith, b.count_is, kids-put t b.part took);
+        depth_is = b.depth_is;
+        fits = subst (AllByRecursion (IsNode a)) (sym e) (all_push (IsNode a) ns node b.fits (b.key_fits, good));
+        key_fits = tt;
+        small = omega (arith, ap length e, length-append ns (node ∷ []));
+        narrow = b.narrow;
+      } in
+      (after, now_seen a new None inner (count + 1) depth after ∙ ap (with_value t) state_is)
+
+  -- a key comes
+  pub key_comes : (k : Span) → TakesKey s.0 → IsSpan a k → IsBuilder a ns (Some k) inner count depth × (built a ns (Some k) ≡ with_key (text_in a k) s)
+  key_comes k wanted good =
+      let wants : TakesKey b.part = subst (λ (x : State). TakesKey x.0) (sym state_is) wanted in
+      let after : IsBuilder a ns (Some k) inner count depth = record {
+        part = put_key (text_in a k) b.part;
+        outer = b.outer;
+        shape = state-put_key (text_in a k) b.part b.outer b.shape;
+        laid_out = b.laid_out ∙ laid-put_key (text_in a k) b.part b.outer;
+        linked = b.linked ∙ ups-put_key (text_in a k) b.part b.outer;
+        keyed = sym (key-put_key (text_in a k) b.part wants);
+        inner_is = b.inner_is ∙ place-put_key (text_in a k) b.part b.outer;
+        count_is = b.count_is ∙ ap length (kids-put_key (text_in a k) b.part);
+        depth_is = b.depth_is;
+        fits = b.fits;
+        key_fits = good;
+        small = b.small;
+        narrow = b.narrow;
+      } in
+      (after, now_seen a ns (Some k) inner count depth after ∙ ap (with_key (text_in a k)) state_is)
+
+  -- a container opens
+  pub opens : (kind : Bool) → TakesValue s.0 → node_total s < 2 ^ 25 → (up : ℕ) → up ≡ length ns - inner → (new : List Node) → new ≡ ns ++ record { key = key; up = up; body = Opened kind inner count } ∷ []
+      → IsBuilder a new None (length ns) 0 (depth + 1) × (built a new None ≡ with_open kind s)
+  opens kind wanted room up far new e =
+      let took : TakesValue b.part = subst (λ (x : State). TakesValue x.0) (sym state_is) wanted in
+      let node : Node = record { key = key; up = up; body = Opened kind inner count } in
+      let distance : up ≡ length (laid b.part b.outer) - place b.part b.outer = omega (arith, far, b.inner_is, total a ns key inner count depth b) in
+      let free = room_left room in
+      let out : entries a new ≡ laid (empty kind) (b.part ∷ b.outer) =
+      ap (entries a) e ∙ map-append (entry_of a) ns (node ∷ []) ∙ ap (λ (x : List Entry). x ++ entries a (node ∷ [])) b.laid_out
+      ∙ ap (λ (k : Option (List ℕ)). laid b.part b.outer ++ (k, opened kind inner count) ∷ []) b.keyed
+      ∙ ap (λ (i : ℕ). laid b.part b.outer ++ (part_key b.part, opened kind i count) ∷ []) b.inner_is
+      ∙ ap (λ (n : ℕ). laid b.part b.outer ++ (part_key b.part, opened kind (place b.part b.outer) n) ∷ []) b.count_is
+      ∙ sym (laid-empty kind b.part b.outer) in
+      let after : IsBuilder a new None (length ns) 0 (depth + 1) = record {
+        part = empty kind;
+        outer = b.part ∷ b.outer;
+        shape = state-empty kind b.part b.outer took b.shape;
+        laid_out = out;
+        linked = ap links e ∙ map-append (λ (n : Node). n.up) ns (node ∷ []) ∙ ap (λ (x : List ℕ). x ++ up ∷ []) b.linked ∙ ap (λ (m : ℕ). laid_ups b.part b.outer ++ m ∷ []) distance ∙ sym (ups-empty kind b.part b.outer);
+        keyed = key-empty kind;
+        inner_is = total a ns key inner count depth b;
+        count_is = kids-empty kind;
+        depth_is = omega (arith, b.depth_is);
+        fits = subst (AllByRecursion (IsNode a)) (sym e) (all_push (IsNode a) ns node b.fits (b.key_fits, tt));
+        key_fits = tt;
+        small = omega (arith, ap length e, length-append ns (node ∷ []));
+        narrow = b.narrow;
+      } in
+      (after, now_seen a new None (length ns) 0 (depth + 1) after ∙ ap (with_open kind) state_is)
+
+-- ---- the text grows
+
+text-grown : (a x : List ℕ) (s : Span) → IsSpan a s → text_in (a ++ x) s ≡ text_in a s
+text-grown a x s h =
+    let within : s.start ≤ length a = omega arith in
+    let enough : s.len ≤ length (drop s.start a) = omega (arith, length-drop s.start a) in
+    ap (take s.len) (drop-append-le s.start a x within) ∙ take-append-le s.len (drop s.start a) x enough
+
+pub span-grown : (a x : List ℕ) (s : Span) → IsSpan a s → IsSpan (a ++ x) s
+span-grown a x s h = (omega (arith, length-append a x), subst IsUtf8 (sym (text-grown a x s h)) h.1)
+
+key-grown : (a x : List ℕ) (k : Option Span) → IfSome k (IsSpan a) → option_map (text_in (a ++ x)) k ≡ option_map (text_in a) k
+key-grown a x None h = refl
+key-grown a x (Some s) h = ap Some (text-grown a x s h)
+
+key_fits-grown : (a x : List ℕ) (k : Option Span) → IfSome k (IsSpan a) → IfSome k (IsSpan (a ++ x))
+key_fits-grown a x None h = tt
+key_fits-grown a x (Some s) h = span-grown a x s h
+
+cell-grown : (a x : List ℕ) (b : Body) → IsBody a b → cell_of (a ++ x) b ≡ cell_of a b
+cell-grown a x Null h = refl
+cell-grown a x (Truth b) h = refl
+cell-grown a x (Text s) h = ap string_cell (text-grown a x s h)
+cell-grown a x (Closed k n m) h = refl
+cell-grown a x (Opened k n m) h = refl
+
+body-grown : (a x : List ℕ) (b : Body) → IsBody a b → IsBody (a ++ x) b
+body-grown a x Null h = tt
+body-grown a x (Truth b) h = tt
+body-grown a x (Text s) h = span-grown a x s h
+body-grown a x (Closed k n m) h = tt
+body-grown a x (Opened k n m) h = tt
+
+entry-grown : (a x : List ℕ) (n : Node) → IsNode a n → entry_of (a ++ x) n ≡ entry_of a n
+entry-grown a x n h = ap (λ (k : Option (List ℕ)). (k, cell_of (a ++ x) n.body)) (key-grown a x n.key h.0) ∙ ap (λ (c : Cell). (option_map (text_in a) n.key, c)) (cell-grown a x n.body h.1)
+
+entries-grown : (a x : List ℕ) (ns : List Node) → AllByRecursion (IsNode a) ns → entries (a ++ x) ns ≡ entries a ns
+entries-grown a x [] h = refl
+entries-grown a x (n ∷ ns) h = ap (λ (e : Entry). e ∷ entries (a ++ x) ns) (entry-grown a x n h.0) ∙ ap (λ (es : List Entry). entry_of a n ∷ es) (entries-grown a x ns h.1)
+
+all-grown : (a x : List ℕ) (ns : List Node) → AllByRecursion (IsNode a) ns → AllByRecursion (IsNode (a ++ x)) ns
+all-grown a x [] h = tt
+all-grown a x (n ∷ ns) h = ((key_fits-grown a x n.key h.0.0, body-grown a x n.body h.0.1), all-grown a x ns h.1)
+
+pub text_comes : (a : List ℕ) (ns : List Node) (key : Option Span) (inner count depth : ℕ) → IsBuilder a ns key inner count depth
+    → (x new : List ℕ) → new ≡ a ++ x → length new < 2 ^ 32
+    → IsBuilder new ns key inner count depth × (built new ns key ≡ built a ns key)
+text_comes a ns key inner count depth b x new e small =
+    let grown : IsBuilder (a ++ x) ns key inner count depth = record {
+      part = b.part;
+      outer = b.outer;
+      shape = b.shape;
+      laid_out = entries-grown a x ns b.fits ∙ b.laid_out;
+      linked = b.linked;
+      keyed = key-grown a x key b.key_fits ∙ b.keyed;
+      inner_is = b.inner_is;
+      count_is = b.count_is;
+      depth_is = b.depth_is;
+      fits = all-grown a x ns b.fits;
+      key_fits = key_fits-grown a x key b.key_fits;
+      small = b.small;
+      narrow = subst (λ (l : List ℕ). length l < 2 ^ 32) e small;
+    } in
+    let P : List ℕ → Type 0 = λ l. IsBuilder l ns key inner count depth × (built l ns key ≡ built a ns key) in
+    subst P (sym e) (grown, ap (λ k. state_of k (entries (a ++ x) ns)) (key-grown a x key b.key_fits) ∙ ap (state_of (option_map (text_in a) key)) (entries-grown a x ns b.fits))
+
+-- the text that was put at the end
+pub last_span : (a x new : List ℕ) (s : Span) → new ≡ a ++ x → IsUtf8 x → s.start ≡ length a → s.len ≡ length x → IsSpan new s × (text_in new s ≡ x)
+last_span a x new s e good at long =
+    let same : text_in new s ≡ x =
+    ap (λ (l : List ℕ). text_in l s) e ∙ ap (take s.len) (drop_at a x s.start (sym at)) ∙ ap (λ (n : ℕ). take n x) long ∙ take_all x in
+    ((omega (arith, ap length e, length-append a x), subst IsUtf8 (sym same) good), same)
+
+-- ---- a new builder
+
+pub starts : (a : List ℕ) (ns : List Node) → a ≡ [] → ns ≡ [] → IsBuilder a ns None 0 0 0 × (built a ns None ≡ fresh)
+starts a ns e f =
+    let none : IsBuilder [] [] None 0 0 0 = record {
+      part = top None;
+      outer = [];
+      shape = tt;
+      laid_out = refl;
+      linked = refl;
+      keyed = refl;
+      inner_is = refl;
+      count_is = refl;
+      depth_is = refl;
+      fits = tt;
+      key_fits = tt;
+      small = omega arith;
+      narrow = omega arith;
+    } in
+    let P : List ℕ → Type 0 = λ l. IsBuilder l ns None 0 0 0 × (built l ns None ≡ fresh) in
+    let Q : List Node → Type 0 = λ l. IsBuilder [] l None 0 0 0 × (built [] l None ≡ fresh) in
+    subst P (sym e) (subst Q (sym f) (none, refl))
+
+-- ---- a container closes
+
+all_at : {X : Type 0} (P : X → Type 0) (xs : List X) (i : ℕ) (x : X) → AllByRecursion P xs → i < length xs → x ≡ get_or xs i x → P x
+all_at P [] i x h l e = absurd (omega arith)
+all_at P (y ∷ ys) zero x h l e = subst P (sym e) h.0
+all_at P (y ∷ ys) (suc i) x h l e = all_at P ys i x h.1 (omega arith) e
+
+all_set : {X : Type 0} (P : X → Type 0) (xs : List X) (i : ℕ) (x : X) → AllByRecursion P xs → P x → AllByRecursion P (set xs i x)
+all_set P [] i x h p = tt
+all_set P (y ∷ ys) zero x h p = (p, h.1)
+all_set P (y ∷ ys) (suc i) x h p = (h.0, all_set P ys i x h.1 p)
+
+-- the innermost open container, where there is one
+abbrev pub OpenCell : Part → List Part → Cell → Type 0
+OpenCell p [] c = ⊥
+OpenCell p (q ∷ qs) c = c ≡ opened (is_object p) (place q qs) (length (part_kids q))
+
+abbrev pub HasOuter : List Part → Type 0
+HasOuter [] = ⊥
+HasOuter (q ∷ qs) = Unit {0}
+
+pub has_outer : (p : Part) (qs : List Part) → IsState p qs → TakesClose p → HasOuter qs
+has_outer (top o) qs h g = absurd g
+has_outer (elements ts) [] h g = absurd h
+has_outer (pairs ms k) [] h g = absurd h
+has_outer p (q ∷ qs) h g = tt
+
+open_entry : (p q : Part) (qs : List Part) → Entry
+open_entry p q qs = (part_key q, opened (is_object p) (place q qs) (length (part_kids q)))
+
+inner_within : (p : Part) (qs : List Part) → HasOuter qs → place p qs < length (laid p qs)
+inner_within p [] h = absurd h
+inner_within p (q ∷ qs) h = omega (arith, length-append (laid q qs) ((part_key q, opened (is_object p) (place q qs) (length (part_kids q))) ∷ part_entries p))
+
+-- the entry of the innermost open container
+abbrev open_at : Part → List Part → Entry → Type 0
+open_at p [] e = ⊥
+open_at p (q ∷ qs) e = e ≡ (part_key q, opened (is_object p) (place q qs) (length (part_kids q)))
+
+inner_entry : (p : Part) (qs : List Part) (d : Entry) → HasOuter qs → open_at p qs (get_or (laid p qs) (place p qs) d)
+inner_entry p [] d h = absurd h
+inner_entry p (q ∷ qs) d h = get_or_at (laid q qs) (part_key q, opened (is_object p) (place q qs) (length (part_kids q))) (part_entries p) d (length (laid q qs)) refl
+
+module _ (a : List ℕ) (ns : List Node) (key : Option Span) (inner count depth : ℕ) (b : IsBuilder a ns key inner count depth) where
+  pub inner_small : HasOuter b.outer → inner < length ns
+  inner_small h = omega (arith, b.inner_is, inner_within b.part b.outer h, total a ns key inner count depth b)
+
+  pub entry_open : (n : Node) → HasOuter b.outer → n ≡ get_or ns inner n → open_at b.part b.outer (entry_of a n)
+  entry_open n h e =
+      let d = entry_of a n in
+      let same : get_or (laid b.part b.outer) (place b.part b.outer) d ≡ d =
+      ap (λ (i : ℕ). get_or (laid b.part b.outer) i d) (sym b.inner_is) ∙ ap (λ (cs : List Entry). get_or cs inner d) (sym b.laid_out) ∙ get_or-map (entry_of a) ns inner n ∙ ap (entry_of a) (sym e) in
+      subst (open_at b.part b.outer) same (inner_entry b.part b.outer d h)
+
+same_opened : {k l : Bool} {i j m n : ℕ} → opened k i m ≡ opened l j n → (k ≡ l) × (i ≡ j) × (m ≡ n)
+same_opened e = (cc, cc, cc)
+
+abbrev pub Closed_up : List ℕ → List Node → Option Span → ℕ → ℕ → ℕ → State → Type 0
+Closed_up a new key inner count depth s = IsBuilder a new key inner count depth × (built a new key ≡ with_close s)
+
+-- a node that is overwritten keeps its link
+same_links : (ns : List Node) (i : ℕ) (n : Node) → n ≡ get_or ns i n → set (links ns) i n.up ≡ links ns
+same_links [] i n e = refl
+same_links (m ∷ ns) zero n e = ap (λ (x : Node). x.up ∷ links ns) e
+same_links (m ∷ ns) (suc i) n e = ap (λ (x : List ℕ). m.up ∷ x) (same_links ns i n e)
+
+no_key : (p : Part) → TakesClose p → part_key p ≡ None
+no_key (top o) h = absurd h
+no_key (elements ts) h = refl
+no_key (pairs ms None) h = refl
+no_key (pairs ms (Some k)) h = absurd h
+
+module _ (a : List ℕ) (ns : List Node) (key : Option Span) (n : Node) (inner count depth : ℕ) (kind : Bool) (parent before below : ℕ) (new : List Node) where
+  closing : (p : Part) (qs : List Part) → IsState p qs → TakesClose p → entries a ns ≡ laid p qs
+      → option_map (text_in a) key ≡ part_key p → inner ≡ place p qs → count ≡ length (part_kids p) → depth ≡ length qs
+      → AllByRecursion (IsNode a) ns → IfSome key (IsSpan a) → length ns ≤ 2 ^ 25 → length a < 2 ^ 32
+      → open_at p qs (entry_of a n) → n.body ≡ Opened kind parent before → IsNode a n
+      → links ns ≡ laid_ups p qs → n ≡ get_or ns inner n
+      → new ≡ set ns inner (record { key = n.key; up = n.up; body = Closed kind count below }) → below + 1 + inner ≡ length ns
+      → Closed_up a new key parent (before + 1) (depth - 1) (p, qs)
+  closing p [] shape wanted out keyed inner_is count_is depth_is fits key_fits small narrow here body good linked read e size = absurd (has_outer p [] shape wanted)
+  closing p (q ∷ qs) shape wanted out keyed inner_is count_is depth_is fits key_fits small narrow here body good linked read e size =
+      let t = closes p wanted in
+      let outside = outer_state p q qs shape in
+      let parts = same_opened (ap (cell_of a) (sym body) ∙ ap (λ (x : Entry). x.1) here) in
+      let node : Node = record { key = n.key; up = n.up; body = Closed kind count below } in
+      let total_is : length ns ≡ length (laid p (q ∷ qs)) = sym (length-map ns (entry_of a)) ∙ ap length out in
+      let size_is : below ≡ length (part_entries p) = omega (arith, length-append (laid q qs) ((part_key q, opened (is_object p) (place q qs) (length (part_kids q))) ∷ part_entries p)) in
+      let entry_is : entry_of a node ≡ (part_key q, closed (is_object p) (length (part_kids p)) (length (part_entries p))) =
+      ap (λ (k : Option (List ℕ)). (k, closed kind count below)) (ap (λ (x : Entry). x.0) here)
+      ∙ ap (λ (k : Bool). (part_key q, closed k count below)) parts.0
+      ∙ ap (λ (m : ℕ). (part_key q, closed (is_object p) m below)) count_is
+      ∙ ap (λ (m : ℕ). (part_key q, closed (is_object p) (length (part_kids p)) m)) size_is in
+      let laid_new : entries a new ≡ laid (put t.0 q) qs =
+      ap (entries a) e ∙ map-set (entry_of a) ns inner node ∙ ap (λ (cs : List Entry). set cs inner (entry_of a node)) out
+      ∙ ap (λ (i : ℕ). set (laid p (q ∷ qs)) i (entry_of a node)) inner_is
+      ∙ set_at (laid q qs) (part_key q, opened (is_object p) (place q qs) (length (part_kids q))) (part_entries p) (entry_of a node) (length (laid q qs)) refl
+      ∙ ap (λ (c : Entry). laid q qs ++ c ∷ part_entries p) entry_is
+      ∙ ap (λ (cs : List Entry). laid q qs ++ cs) (t.2 (part_key q))
+      ∙ sym (laid-put t.0 q qs outside.0) in
+      let after : IsBuilder a new key parent (before + 1) (depth - 1) = record {
+        part = put t.0 q;
+        outer = qs;
+        shape = state-put t.0 q qs outside.1;
+        laid_out = laid_new;
+        linked = ap links e ∙ map-set (λ (x : Node). x.up) ns inner node ∙ same_links ns inner n read ∙ linked ∙ ups-close t.0 p q qs wanted t.1 outside.0 outside.1;
+        keyed = keyed ∙ no_key p wanted ∙ sym (key-put t.0 q);
+        inner_is = parts.1 ∙ sym (place-put t.0 q qs);
+        count_is = omega (arith, parts.2, kids-put t.0 q outside.0);
+        depth_is = omega (arith, depth_is);
+        fits = subst (AllByRecursion (IsNode a)) (sym e) (all_set (IsNode a) ns inner node fits (good.0, tt));
+        key_fits = key_fits;
+        small = omega (arith, ap length e, length-set ns inner node);
+        narrow = narrow;
+      } in
+      (after, now_seen a new key parent (before + 1) (depth - 1) after ∙ ap (λ (o : Option Tree). (put_option o q, qs)) (sym t.1))
+
+  pub container_closes : (b : IsBuilder a ns key inner count depth) (s : State) → built a ns key ≡ s → TakesClose s.0
+      → n ≡ get_or ns inner n → n.body ≡ Opened kind parent before
+      → new ≡ set ns inner (record { key = n.key; up = n.up; body = Closed kind count below }) → below + 1 + inner ≡ length ns
+      → Closed_up a new key parent (before + 1) (depth - 1) s
+  container_closes b s view wanted e body new_is size =
+      let same = state_is a ns key inner count depth b s view in
+      let wants : TakesClose b.part = subst (λ (x : State). TakesClose x.0) (sym same) wanted in
+      let outside = has_outer b.part b.outer b.shape wants in
+      let good : IsNode a n = all_at (IsNode a) ns inner n b.fits (inner_small a ns key inner count depth b outside) e in
+      subst (Closed_up a new key parent (before + 1) (depth - 1)) same
+      (closing b.part b.outer b.shape wants b.laid_out b.keyed b.inner_is b.count_is b.depth_is b.fits b.key_fits b.small b.narrow (entry_open a ns key inner count depth b n outside e) body good b.linked e new_is size)
+
+is_open : (a : List ℕ) (b : Body) (k : Bool) (i m : ℕ) → cell_of a b ≡ opened k i m → b ≡ Opened k i m
+is_open a Null k i m e = cc
+is_open a (Truth x) k i m e = cc
+is_open a (Text s) k i m e = cc
+is_open a (Closed l j n) k i m e = cc
+is_open a (Opened l j n) k i m e = cc
+
+-- what the node of the innermost open container has
+abbrev pub IsOpenBody : ℕ → Body → Type 0
+IsOpenBody total b = (k : Bool) × (i : ℕ) × (m : ℕ) × (b ≡ Opened k i m) × (m ≤ total)
+
+open_body : (a : List ℕ) (n : Node) (p : Part) (qs : List Part) → open_at p qs (entry_of a n) → IsOpenBody (length (laid p qs)) n.body
+open_body a n p [] h = absurd h
+open_body a n p (q ∷ qs) h = (
+  is_object p,
+  place q qs,
+  length (part_kids q),
+  is_open a n.body (is_object p) (place q qs) (length (part_kids q)) (ap (λ (x : Entry). x.1) h),
+  omega (arith, kids_le q qs, length-append (laid q qs) ((part_key q, opened (is_object p) (place q qs) (length (part_kids q))) ∷ part_entries p)),
+)
+
+outer_some : (qs : List Part) → HasOuter qs → 0 < length qs
+outer_some [] h = absurd h
+outer_some (q ∷ qs) h = omega arith
+
+module _ (a : List ℕ) (ns : List Node) (key : Option Span) (inner count depth : ℕ) (b : IsBuilder a ns key inner count depth) (s : State) (view : built a ns key ≡ s) (wanted : TakesClose s.0) where
+  pub inside : HasOuter b.outer
+  inside = has_outer b.part b.outer b.shape (subst (λ (x : State). TakesClose x.0) (sym (state_is a ns key inner count depth b s view)) wanted)
+
+  pub inner_here : inner < length ns
+  inner_here = inner_small a ns key inner count depth b inside
+
+  pub depth_some : 0 < depth
+  depth_some = omega (arith, outer_some b.outer inside, b.depth_is)
+
+  pub inner_body : (n : Node) → n ≡ get_or ns inner n → IsOpenBody (length ns) n.body
+  inner_body n e =
+      subst (λ (m : ℕ). IsOpenBody m n.body) (sym (total a ns key inner count depth b)) (open_body a n b.part b.outer (entry_open a ns key inner count depth b n inside e))
+
+same_count : {k l : Bool} {i j m n : ℕ} → Opened k i m ≡ Opened l j n → m ≡ n
+same_count e = cc
+
+pub count_opened : (total : ℕ) (b : Body) (k : Bool) (i m : ℕ) → IsOpenBody total b → b ≡ Opened k i m → m ≤ total
+count_opened total b k i m h e = subst (λ (x : ℕ). x ≤ total) (same_count (sym h.3 ∙ e)) h.4
+
+-- ---- the document is complete
+
+complete : (p : Part) (qs : List Part) → IsState p qs → IsComplete (p, qs) → (t : Tree) × (◌≡◌ {A = State} (p, qs) (top (Some t), []))
+complete (top None) qs h g = absurd g
+complete (top (Some t)) [] h g = (t, refl)
+complete (top (Some t)) (q ∷ qs) h g = absurd h
+complete (elements ts) qs h g = absurd g
+complete (pairs ms k) qs h g = absurd g
+
+pub finishes : (a : List ℕ) (ns : List Node) (key : Option Span) (inner count depth : ℕ) → IsBuilder a ns key inner count depth
+    → (s : State) → built a ns key ≡ s → IsComplete s → IsDoc a ns × (s ≡ (top (Some (tree_of (entries a ns))), []))
+finishes a ns key inner count depth b s view wanted =
+    let same = state_is a ns key inner count depth b s view in
+    let t = complete b.part b.outer b.shape (subst IsComplete (sym same) wanted) in
+    let out : entries a ns ≡ layout None t.0 = b.laid_out ∙ ap (λ (x : State). laid x.0 x.1) t.1 in
+    let tree : tree_of (entries a ns) ≡ t.0 = ap tree_of out ∙ tree_of-layout None t.0 in
+    (record { laid = out ∙ ap (layout None) (sym tree); linked = b.linked ∙ ap (λ (x : State). laid_ups x.0 x.1) t.1 ∙ ap (ups 0) (sym tree); fits = b.fits; small = b.small }, sym same ∙ t.1 ∙ ap (λ (u : Tree). (top (Some u), [])) (sym tree))
+
+-- ---- what is wanted
+
+want_first : (p : Part) (qs : List Part) → IsState p qs → length qs ≡ 0 → length (part_kids p) ≡ 0 → wants.Value ≡ want_of p
+want_first (top None) qs h e f = refl
+want_first (top (Some t)) qs h e f = absurd (omega arith)
+want_first (elements ts) [] h e f = absurd h
+want_first (pairs ms k) [] h e f = absurd h
+want_first (elements ts) (q ∷ qs) h e f = absurd (omega arith)
+want_first (pairs ms k) (q ∷ qs) h e f = absurd (omega arith)
+
+want_nothing : (p : Part) (qs : List Part) → IsState p qs → length qs ≡ 0 → 0 < length (part_kids p) → wants.Nothing ≡ want_of p
+want_nothing (top None) qs h e f = absurd (omega arith)
+want_nothing (top (Some t)) qs h e f = refl
+want_nothing (elements ts) [] h e f = absurd h
+want_nothing (pairs ms k) [] h e f = absurd h
+want_nothing (elements ts) (q ∷ qs) h e f = absurd (omega arith)
+want_nothing (pairs ms k) (q ∷ qs) h e f = absurd (omega arith)
+
+want_items : (p : Part) (qs : List Part) → IsState p qs → 0 < length qs → is_object p ≡ false → wants.ValueOrClose ≡ want_of p
+want_items (top o) [] h e f = absurd (omega arith)
+want_items (top o) (q ∷ qs) h e f = absurd h
+want_items (elements ts) qs h e f = refl
+want_items (pairs ms k) qs h e f = cc
+
+want_key : (p : Part) → is_object p ≡ true → part_key p ≡ None → wants.KeyOrClose ≡ want_of p
+want_key (top o) f e = cc
+want_key (elements ts) f e = cc
+want_key (pairs ms None) f e = refl
+want_key (pairs ms (Some k)) f e = cc
+
+want_member : (p : Part) (k : List ℕ) → is_object p ≡ true → part_key p ≡ Some k → wants.Value ≡ want_of p
+want_member (top o) k f e = cc
+want_member (elements ts) k f e = cc
+want_member (pairs ms None) k f e = cc
+want_member (pairs ms (Some l)) k f e = refl
+
+object_opened : (a : List ℕ) (n : Node) (p : Part) (qs : List Part) → open_at p qs (entry_of a n) → opens_object n.body ≡ is_object p
+object_opened a n p [] h = absurd h
+object_opened a n p (q ∷ qs) h = ap opens_object (is_open a n.body (is_object p) (place q qs) (length (part_kids q)) (ap (λ (x : Entry). x.1) h))
+
+some_outer : (qs : List Part) → 0 < length qs → HasOuter qs
+some_outer [] h = absurd (omega arith)
+some_outer (q ∷ qs) h = tt
+
+module _ (a : List ℕ) (ns : List Node) (key : Option Span) (inner count depth : ℕ) (b : IsBuilder a ns key inner count depth) (s : State) (view : built a ns key ≡ s) where
+  part_is : (w : Want) → w ≡ want_of b.part → w ≡ want_of s.0
+  part_is w e = e ∙ ap (λ (x : State). want_of x.0) (state_is a ns key inner count depth b s view)
+
+  pub wants_first : depth ≡ 0 → count ≡ 0 → wants.Value ≡ want_of s.0
+  wants_first e f = part_is wants.Value (want_first b.part b.outer b.shape (sym b.depth_is ∙ e) (sym b.count_is ∙ f))
+
+  pub wants_nothing : depth ≡ 0 → 0 < count → wants.Nothing ≡ want_of s.0
+  wants_nothing e f = part_is wants.Nothing (want_nothing b.part b.outer b.shape (sym b.depth_is ∙ e) (omega (arith, b.count_is)))
+
+  pub nested_small : 0 < depth → inner < length ns
+  nested_small h = inner_small a ns key inner count depth b (some_outer b.outer (omega (arith, b.depth_is)))
+
+  module _ (h : 0 < depth) (n : Node) (e : n ≡ get_or ns inner n) where
+    object_is : opens_object n.body ≡ is_object b.part
+    object_is = object_opened a n b.part b.outer (entry_open a ns key inner count depth b n (some_outer b.outer (omega (arith, b.depth_is))) e)
+
+    pub wants_items : opens_object n.body ≡ false → wants.ValueOrClose ≡ want_of s.0
+    wants_items f = part_is wants.ValueOrClose (want_items b.part b.outer b.shape (omega (arith, b.depth_is)) (sym object_is ∙ f))
+
+    pub wants_key : opens_object n.body ≡ true → key ≡ None → wants.KeyOrClose ≡ want_of s.0
+    wants_key f g = part_is wants.KeyOrClose (want_key b.part (sym object_is ∙ f) (sym b.keyed ∙ ap (option_map (text_in a)) g))
+
+    pub wants_member : (k : Span) → opens_object n.body ≡ true → key ≡ Some k → wants.Value ≡ want_of s.0
+    wants_member k f g = part_is wants.Value (want_member b.part (text_in a k) (sym object_is ∙ f) (sym b.keyed ∙ ap (option_map (text_in a)) g))
+
+pub count_nodes : (a : List ℕ) (ns : List Node) (key : Option Span) (inner count depth : ℕ) → IsBuilder a ns key inner count depth → (s : State) → built a ns key ≡ s → length ns ≡ node_total s
+count_nodes a ns key inner count depth b s view = total a ns key inner count depth b ∙ ap node_total (state_is a ns key inner count depth b s view)

@@ -1,0 +1,7 @@
+pub mod Docs
+pub mod Builders
+pub mod Listing
+pub mod Distinct
+pub mod Stops
+pub mod Ups
+pub mod Touring

@@ -1,0 +1,6 @@
+use Rattle.std.proofs.Common.{◌≡◌, ℕ, ◌<◌, length}
+use Rattle.sj_doc.proofs.Distinct.{DifferAt, SlotsTaken}
+use Rattle.sj_doc.proofs.keys.each_is_new.Given as goal
+
+abbrev pub invariant-loop-i : goal.invariant-loop-i
+invariant-loop-i l = ((j k : ℕ) → j < k → k < l.i → DifferAt l.keys j k) × SlotsTaken l.taken l.keys l.i × (length l.taken ≡ 256)

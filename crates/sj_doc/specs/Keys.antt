@@ -1,0 +1,8 @@
+-- The keys among children.
+use Rattle.std.specs.Prelude.{ℕ, List, [], ◌∷◌, Option, Some, None}
+use Rattle.sj_json.specs.Tree.{Tree}
+
+abbrev pub given : List (Option (List ℕ) × ℕ × Tree) → List (List ℕ)
+given [] = []
+given ((None, i, t) ∷ cs) = given cs
+given ((Some k, i, t) ∷ cs) = k ∷ given cs

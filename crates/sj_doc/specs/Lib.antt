@@ -1,0 +1,10 @@
+pub mod Nodes
+pub mod Kinds
+pub mod Builders
+pub mod Children
+pub mod Listed
+pub mod Slots
+pub mod Keys
+pub mod Tours
+pub mod Stops
+pub mod Visits

@@ -1,0 +1,274 @@
+// A document while it is being built.
+ghost use Rattle.std.specs.Prelude.{◌≡◌, ◌+◌, ◌-◌, ◌^◌, ◌<◌, ◌≤◌, length, [], IfOk, OnOk, OnErr, Some, true, false};
+ghost use Rattle.sj_json.specs.Tree.{null, truth, string};
+ghost use Rattle.sj_json.specs.Building.{fresh, TakesValue, TakesKey, TakesClose, with_value, with_key, with_open, with_close, IsComplete, top};
+ghost use Rattle.sj_doc.specs.Builders.{node_total, Stores};
+ghost use Rattle.sj_doc.specs.Kinds.{want_of};
+
+use crate::doc::Doc;
+use crate::node::{Body, Node, Span, Want};
+use sj_base::Memory;
+use std::alloc::Global;
+use std::marker::Model;
+
+/// A document while it is being built, from its first token to its last. Contracts see what the innermost
+/// open container holds so far, and then the same of those around it, from the inside out.
+///
+/// A value may come where `wants` is `Value` or `ValueOrClose` and fewer than 2^25 nodes were built. All
+/// strings and keys together may have 2^32 - 1 bytes: a call that would pass this gives `Memory`. A call
+/// that gives `Memory` leaves the builder as it was.
+#[derive(Drop)]
+pub struct DocBuilder {
+    arena: Vec<u8>,
+    nodes: Vec<Node>,
+    // the key whose value comes next
+    key: Option<Span>,
+    // the node of the innermost open container, 0 where none is open
+    inner: u32,
+    // how many children it has so far; where none is open, how many roots
+    count: u32,
+    depth: u32,
+}
+
+impl Model for DocBuilder {
+    ghost use Rattle.sj_json.specs.Building.{State};
+    ghost use Rattle.sj_json.specs.Coding.{state_code};
+
+    ghost Value = { State };
+
+    ghost coded = { state_code };
+
+    ghost use Rattle.sj_doc.specs.Builders.{built, IsBuilder};
+
+    ghost view = { λ b. built b.arena.items b.nodes.items b.key };
+
+    ghost invariant = { λ b. IsBuilder b.arena.items b.nodes.items b.key b.inner b.count b.depth };
+}
+
+// Puts s at the end of the text, which has room for 2^32 - 1 bytes.
+#[inline(always)]
+fn store(arena: &mut Vec<u8>, s: &str) -> Result<Span, Memory>
+    requires { length arena.old.items < 2 ^ 32 }
+    ensures ok { IfOk result (λ span. Stores arena.old.items arena.new.items s.now span) }
+    ensures err { OnErr result (arena.new.items ≡ arena.old.items) }
+{
+    let start = arena.len();
+    if s.len() > u32::MAX as usize - start {
+        return Err(Memory);
+    }
+    arena.extend_from_slice(s.as_bytes())?;
+    Ok(Span {
+        start: start as u32,
+        len: s.len() as u32,
+    })
+}
+
+impl DocBuilder {
+    /// An empty builder. It takes no memory yet.
+    pub fn new(alloc: Global) -> DocBuilder
+        ensures { result ≡ fresh }
+    {
+        DocBuilder::over(Vec::new(alloc), Vec::new(alloc))
+    }
+
+    // An empty builder over the memory of these vectors.
+    pub(crate) fn over(arena: Vec<u8>, nodes: Vec<Node>) -> DocBuilder
+        requires no_text { arena.items ≡ [] }
+        requires no_nodes { nodes.items ≡ [] }
+        ensures { result ≡ fresh }
+    {
+        DocBuilder {
+            arena,
+            nodes,
+            key: None,
+            inner: 0,
+            count: 0,
+            depth: 0,
+        }
+    }
+
+    /// A null.
+    #[inline]
+    pub fn null(&mut self) -> Result<(), Memory>
+        requires wanted { TakesValue self.old.0 }
+        requires room { node_total self.old < 2 ^ 25 }
+        ensures ok { OnOk result (self.new ≡ with_value null self.old) }
+        ensures err { OnErr result (self.new ≡ self.old) }
+    {
+        self.nodes.push(Node {
+            key: self.key,
+            up: self.nodes.len() as u32 - self.inner,
+            body: Body::Null,
+        })?;
+        self.key = None;
+        self.count += 1;
+        Ok(())
+    }
+
+    /// A truth value.
+    #[inline]
+    pub fn truth(&mut self, b: bool) -> Result<(), Memory>
+        requires wanted { TakesValue self.old.0 }
+        requires room { node_total self.old < 2 ^ 25 }
+        ensures ok { OnOk result (self.new ≡ with_value (truth b) self.old) }
+        ensures err { OnErr result (self.new ≡ self.old) }
+    {
+        self.nodes.push(Node {
+            key: self.key,
+            up: self.nodes.len() as u32 - self.inner,
+            body: Body::Truth(b),
+        })?;
+        self.key = None;
+        self.count += 1;
+        Ok(())
+    }
+
+    /// A string.
+    #[inline]
+    pub fn text(&mut self, s: &str) -> Result<(), Memory>
+        requires wanted { TakesValue self.old.0 }
+        requires room { node_total self.old < 2 ^ 25 }
+        ensures ok { OnOk result (self.new ≡ with_value (string s.now) self.old) }
+        ensures err { OnErr result (self.new ≡ self.old) }
+    {
+        let span = store(&mut self.arena, s)?;
+        self.nodes.push(Node {
+            key: self.key,
+            up: self.nodes.len() as u32 - self.inner,
+            body: Body::Text(span),
+        })?;
+        self.key = None;
+        self.count += 1;
+        Ok(())
+    }
+
+    /// The key of the next member.
+    #[inline]
+    pub fn key(&mut self, s: &str) -> Result<(), Memory>
+        requires wanted { TakesKey self.old.0 }
+        ensures ok { OnOk result (self.new ≡ with_key s.now self.old) }
+        ensures err { OnErr result (self.new ≡ self.old) }
+    {
+        self.key = Some(store(&mut self.arena, s)?);
+        Ok(())
+    }
+
+    /// An array begins.
+    #[inline]
+    pub fn open_array(&mut self) -> Result<(), Memory>
+        requires wanted { TakesValue self.old.0 }
+        requires room { node_total self.old < 2 ^ 25 }
+        ensures ok { OnOk result (self.new ≡ with_open false self.old) }
+        ensures err { OnErr result (self.new ≡ self.old) }
+    {
+        self.begin(false)
+    }
+
+    /// An object begins.
+    #[inline]
+    pub fn open_object(&mut self) -> Result<(), Memory>
+        requires wanted { TakesValue self.old.0 }
+        requires room { node_total self.old < 2 ^ 25 }
+        ensures ok { OnOk result (self.new ≡ with_open true self.old) }
+        ensures err { OnErr result (self.new ≡ self.old) }
+    {
+        self.begin(true)
+    }
+
+    #[inline(always)]
+    fn begin(&mut self, is_object: bool) -> Result<(), Memory>
+        requires wanted { TakesValue self.old.0 }
+        requires room { node_total self.old < 2 ^ 25 }
+        ensures ok { OnOk result (self.new ≡ with_open is_object self.old) }
+        ensures err { OnErr result (self.new ≡ self.old) }
+    {
+        let at = self.nodes.len() as u32;
+        self.nodes.push(Node {
+            key: self.key,
+            up: at - self.inner,
+            body: Body::Opened {
+                is_object,
+                parent: self.inner,
+                before: self.count,
+            },
+        })?;
+        self.key = None;
+        self.inner = at;
+        self.count = 0;
+        self.depth += 1;
+        Ok(())
+    }
+
+    /// The innermost container ends. It takes no memory, and the number of nodes stays the same.
+    #[inline]
+    pub fn close(&mut self)
+        requires { TakesClose self.old.0 }
+        ensures closed { self.new ≡ with_close self.old }
+        ensures total { node_total self.new ≡ node_total self.old }
+    {
+        let at = self.inner as usize;
+        let below = (self.nodes.len() - at - 1) as u32;
+        let node = self.nodes[at];
+        match node.body {
+            Body::Opened {
+                is_object,
+                parent,
+                before,
+            } => {
+                self.nodes[at] = Node {
+                    key: node.key,
+                    up: node.up,
+                    body: Body::Closed {
+                        is_object,
+                        count: self.count,
+                        below,
+                    },
+                };
+                self.inner = parent;
+                self.count = before + 1;
+                self.depth -= 1;
+            }
+            _ => unreachable!(),
+        }
+    }
+
+    /// What may come next.
+    #[inline]
+    pub fn wants(&self) -> Want
+        ensures { result ≡ want_of self.now.0 }
+    {
+        if self.depth == 0 {
+            if self.count == 0 {
+                Want::Value
+            } else {
+                Want::Nothing
+            }
+        } else if self.nodes[self.inner as usize].body.is_open_object() {
+            match self.key {
+                None => Want::KeyOrClose,
+                Some(_) => Want::Value,
+            }
+        } else {
+            Want::ValueOrClose
+        }
+    }
+
+    /// The number of open containers.
+    #[inline]
+    pub fn depth(&self) -> u64
+        ensures { result ≡ length self.now.1 }
+    {
+        u64::from(self.depth)
+    }
+
+    /// The document, where it is complete. It takes no memory.
+    pub fn finish(self) -> Doc
+        requires { IsComplete self }
+        ensures { self ≡ (top (Some result), []) }
+    {
+        Doc {
+            arena: self.arena,
+            nodes: self.nodes,
+        }
+    }
+}

@@ -1,0 +1,216 @@
+// The document and its nodes.
+ghost use Rattle.std.specs.Prelude.{◌≡◌, ◌+◌, ◌^◌, ◌<◌, ◌≤◌, length, false, None, option_map};
+ghost use Rattle.sj_json.specs.Tree.{node_count, subtree, below, children, numbered, string, truth};
+ghost use Rattle.sj_json.specs.Building.{fresh};
+ghost use Rattle.sj_doc.specs.Kinds.{kind_of};
+ghost use Rattle.sj_doc.specs.Nodes.{text_in, IsSpan};
+ghost use Rattle.sj_doc.specs.Stops.{key_in, up_of};
+ghost use Rattle.sj_doc.specs.Tours.{tour};
+
+use crate::builder::DocBuilder;
+use crate::children::Children;
+use crate::node::{Body, Kind, Node, Span};
+use crate::tour::Tour;
+use std::marker::Model;
+
+/// A JSON document (RFC 8259), which keeps equal keys in their order. Contracts see it as one tree.
+#[derive(Drop)]
+pub struct Doc {
+    pub(crate) arena: Vec<u8>,
+    pub(crate) nodes: Vec<Node>,
+}
+
+impl Model for Doc {
+    ghost use Rattle.sj_json.specs.Tree.{Tree};
+    ghost use Rattle.sj_json.specs.Coding.{tree_code};
+
+    ghost Value = { Tree };
+
+    ghost coded = { tree_code };
+
+    ghost use Rattle.sj_doc.specs.Nodes.{entries, IsDoc};
+    ghost use Rattle.sj_json.specs.Cells.{tree_of};
+
+    ghost view = { λ d. tree_of (entries d.arena.items d.nodes.items) };
+
+    ghost invariant = { λ d. IsDoc d.arena.items d.nodes.items };
+}
+
+/// A node of a document. Contracts see its number in preorder, `node_id`, and the tree that begins there,
+/// `node_tree`.
+#[derive(Clone, Copy, Drop)]
+pub struct NodeRef<'d> {
+    pub(crate) doc: &'d Doc,
+    pub(crate) at: u32,
+    ghost in_range: { at < node_count doc.now },
+    ghost small: { at < 2 ^ 25 },
+}
+
+/// A child of a node. The key is there exactly where the parent is an object.
+#[derive(Clone, Copy, Drop)]
+pub struct Member<'d> {
+    pub key: Option<&'d str>,
+    pub node: NodeRef<'d>,
+}
+
+pub(crate) fn text_at(arena: &[u8], span: Span) -> &str
+    requires { IsSpan arena.now span }
+    ensures { result.now ≡ text_in arena.now span }
+{
+    let start = span.start as usize;
+    let end = start + span.len as usize;
+    unsafe { std::str::from_utf8_unchecked(&arena[start..end]) }
+}
+
+impl Doc {
+    ghost use Rattle.sj_doc.specs.Listed.{node_id, node_tree};
+
+    /// The whole document.
+    pub fn root(&self) -> NodeRef<'_>
+        ensures tree { node_tree result ≡ self.now }
+        ensures number { node_id result ≡ 0 }
+    {
+        NodeRef { doc: self, at: 0 }
+    }
+
+    /// A new builder, over the memory of this document.
+    pub fn recycle(self) -> DocBuilder
+        ensures { result ≡ fresh }
+    {
+        let Doc {
+            mut arena,
+            mut nodes,
+        } = self;
+        arena.clear();
+        nodes.clear();
+        DocBuilder::over(arena, nodes)
+    }
+}
+
+impl Doc {
+    // The node of that number.
+    pub(crate) fn node_at(&self, at: u32) -> NodeRef<'_>
+        requires { at < node_count self.now }
+        ensures doc { result.doc.now ≡ self.now }
+        ensures number { result.at ≡ at }
+    {
+        // shows the proof that a document has at most 2^25 nodes
+        let _ = &self.nodes;
+        NodeRef { doc: self, at }
+    }
+
+    // The number of the first node behind those below a node.
+    pub(crate) fn end_of(&self, at: u32) -> u32
+        requires { at < node_count self.now }
+        ensures { result ≡ at + 1 + below (subtree self.now at) }
+    {
+        let below = self.nodes[at as usize].body.below();
+        at + 1 + below
+    }
+
+    // How far a node lies behind its parent.
+    pub(crate) fn up_at(&self, at: u32) -> u32
+        requires { at < node_count self.now }
+        ensures { result ≡ up_of self.now at }
+    {
+        self.nodes[at as usize].up
+    }
+
+    // The key of a node.
+    pub(crate) fn key_at(&self, at: u32) -> Option<&str>
+        requires { at < node_count self.now }
+        ensures { option_map (λ s. s.now) result ≡ key_in self.now at }
+    {
+        match self.nodes[at as usize].key {
+            Some(span) => Some(text_at(&self.arena, span)),
+            None => None,
+        }
+    }
+
+    // The number of nodes.
+    pub(crate) fn count(&self) -> u32
+        ensures number { result ≡ node_count self.now }
+        ensures small { result ≤ 2 ^ 25 }
+    {
+        self.nodes.len() as u32
+    }
+}
+
+impl<'d> NodeRef<'d> {
+    ghost use Rattle.sj_doc.specs.Listed.{node_id, node_tree};
+
+    /// Its number: the root has 0, and the nodes follow in preorder. It is below 2^25.
+    pub fn id(self) -> u64
+        ensures number { result ≡ node_id self.entry }
+        ensures small { result < 2 ^ 25 }
+    {
+        u64::from(self.at)
+    }
+
+    /// What it is.
+    pub fn kind(self) -> Kind
+        ensures { result ≡ kind_of (node_tree self.entry) }
+    {
+        let doc: &Doc = self.doc;
+        doc.nodes[self.at as usize].body.kind()
+    }
+
+    /// The text of a string, its escapes resolved.
+    pub fn text(self) -> &'d str
+        requires { kind_of (node_tree self) ≡ Kind.String }
+        ensures { node_tree self.entry ≡ string result.now }
+    {
+        let doc: &Doc = self.doc;
+        match doc.nodes[self.at as usize].body {
+            Body::Text(span) => text_at(&doc.arena, span),
+            _ => unreachable!(),
+        }
+    }
+
+    /// A truth value.
+    pub fn truth(self) -> bool
+        requires { kind_of (node_tree self) ≡ Kind.Truth }
+        ensures { node_tree self.entry ≡ truth result }
+    {
+        let doc: &Doc = self.doc;
+        match doc.nodes[self.at as usize].body {
+            Body::Truth(b) => b,
+            _ => unreachable!(),
+        }
+    }
+
+    /// The number of elements of an array or members of an object, and 0 for a scalar.
+    pub fn len(self) -> u64
+        ensures { result ≡ length (children (node_tree self.entry)) }
+    {
+        let doc: &Doc = self.doc;
+        u64::from(doc.nodes[self.at as usize].body.count())
+    }
+
+    /// A walk over it and all nodes below it.
+    pub fn tour(self) -> Tour<'d>
+        ensures { result ≡ (false, tour None (node_id self.entry) (node_tree self.entry)) }
+    {
+        let up = self.doc.up_at(self.at);
+        Tour {
+            doc: self.doc,
+            first: self.at,
+            at: self.at,
+            inner: self.at - up,
+            depth: 0,
+        }
+    }
+
+    /// Its children in order, none for a scalar.
+    pub fn children(self) -> Children<'d>
+        ensures { result ≡ numbered (node_id self.entry + 1) (children (node_tree self.entry)) }
+    {
+        let doc: &Doc = self.doc;
+        let left = doc.nodes[self.at as usize].body.count();
+        Children {
+            doc: self.doc,
+            at: self.at + 1,
+            left,
+        }
+    }
+}

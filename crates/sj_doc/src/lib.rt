@@ -1,0 +1,28 @@
+//! A JSON document: one vector of nodes in preorder, and one run of bytes for the text of all strings and
+//! keys. No call walks a document by recursion.
+//!
+//! It stands on `sj_json` for the definitions and on `sj_base` for the counter of steps.
+//!
+//! Every contract sees a `Doc` as one tree, a `NodeRef` as its number in preorder and the tree that begins
+//! there, `Children` as the list of the children that are left, a `Tour` as the list of the visits that are
+//! left, and a `DocBuilder` as the containers that are open. The words over a `NodeRef` are in
+//! `specs/Listed.antt`: `node_tree`, `node_id` and `member_of`.
+//!
+//! `Children::next` and `Tour::next` alone hand out the children of a node, and raise the counter by one
+//! for each.
+#![tactic(auto)]
+
+mod builder;
+mod children;
+mod doc;
+mod keys;
+mod node;
+#[cfg(test)]
+mod tests;
+mod tour;
+
+pub use builder::DocBuilder;
+pub use children::Children;
+pub use doc::{Doc, Member, NodeRef};
+pub use node::{Kind, Want};
+pub use tour::{Tour, Visit};
