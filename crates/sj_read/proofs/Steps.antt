@@ -1,0 +1,348 @@
+-- Steps of the reader of bytes, as the code takes them.
+use Rattle.std.proofs.Common.{◌≡◌, ◌≢◌, ℕ, ◌+◌, ◌-◌, ◌<◌, ◌≤◌, List, [], ◌∷◌, ◌++◌, length, take, drop, get_or, Bool, true, false, cond, ◌==◌, nat_lt, Option, Some, None, Result, Ok, Err, option_and_then, MatchResult, OnOk, codes, refl, sym, ap, ◌∙◌, subst, arith, inl, inr}
+use Rattle.std.specs.List.{AllByRecursion}
+use Rattle.std.proofs.lemmas.List.{drop_more, drop-drop, take-append-drop, length-drop, length-append, drop_all}
+use Rattle.std.proofs.lemmas.Bool.Decides.{eqb_tells}
+use borrow.Author.Tests.{lt-ltb, le-ltb}
+use Rattle.sj_json.specs.Tree.{Tree, null, truth, string, below}
+use Rattle.sj_json.specs.Building.{Part, top, elements, pairs, State, TakesValue, TakesKey, TakesClose, put, put_key, with_value, with_key, with_open, with_close}
+use Rattle.sj_json.specs.Spelling.{is_blank, is_plain, IsPlain}
+use Rattle.sj_json.specs.Machine.{Mode, value, value_or_close, key, key_or_close, colon, after_value, letters, quoted, open_turn, close_turn, start, separate, end_quote, turn, run}
+use Rattle.sj_json.proofs.Complete.{run_step, run_plain, plain_no_quote}
+use Rattle.sj_json.proofs.Buildings.{total-put, total-open, total-key}
+use Rattle.sj_doc.specs.Builders.{node_total}
+use Rattle.sj_doc.specs.Kinds.{want_of}
+use Rattle.sj_doc.specs.declared.node.Want.TheVariants as wants
+use Rattle.sj_read.specs.declared.reader.Mode as coded
+use Rattle.sj_read.specs.declared.reader.Mode.TheVariants as modes
+use Rattle.sj_read.specs.declared.reader.ReadRefusal.{ReadRefusal}
+use Rattle.sj_read.specs.declared.reader.ReadRefusal.TheVariants.{NotJson, Memory}
+use Rattle.sj_read.specs.Scans.{EndsPlain, StopsPlain}
+use Rattle.sj_read.specs.Turns.{mode_of, HasValue, FirstElement, Ready, Went, Turns}
+
+cond_no : {A : Type 0} (b : Bool) (x y : A) → b ≡ false → cond b x y ≡ y
+cond_no b x y e = ap (λ (c : Bool). cond c x y) e
+
+pub ne_false : (a b : ℕ) → a ≢ b → (a == b) ≡ false
+ne_false a b h = elim (eqb_tells a b) as (λ _. (a == b) ≡ false) [ inl p ↦ absurd (h p.1) | inr p ↦ p.0 ]
+
+module _ (limit : ℕ) (m : Mode) (s : State) (text : List ℕ) (at c : ℕ) (h : at < length text) (e : get_or text at 0 ≡ c) where
+  here : drop at text ≡ c ∷ drop (at + 1) text
+  here = drop_more text at 0 h ∙ ap (λ (x : ℕ). x ∷ drop (at + 1) text) e
+
+  goes : (p : Mode × State) → turn limit m s c ≡ Some p → run limit m s (drop at text) ≡ run limit p.0 p.1 (drop (at + 1) text)
+  goes p t = ap (run limit m s) here ∙ run_step limit m s c (drop (at + 1) text) p t
+
+  pub stops : turn limit m s c ≡ None → run limit m s (drop at text) ≡ None
+  unfolding run
+  stops t = ap (run limit m s) here ∙ ap (option_and_then (λ (q : Mode × State). run limit q.0 q.1 (drop (at + 1) text))) t
+
+  pub one_byte : (n : coded.Mode) (t : State) → turn limit m s c ≡ Some (mode_of n, t) → Ready (mode_of n) t → node_total t ≤ at + 1 → Went limit m s text at n (at + 1) t
+  one_byte n t is ready room = record { same = goes (mode_of n, t) is; later = omega arith; within = omega arith; ready = ready; room = room }
+
+-- ---- white space
+
+pub blank_turn : (limit : ℕ) (n : coded.Mode) (s : State) (c : ℕ) → is_blank c ≡ true → turn limit (mode_of n) s c ≡ Some (mode_of n, s)
+blank_turn limit modes.Value s c h = ap (λ (x : Bool). cond x (Some (value, s)) (start limit s c)) h
+blank_turn limit modes.ValueOrClose s c h = ap (λ (x : Bool). cond x (Some (value_or_close, s)) (cond (c == 93) (close_turn s) (start limit s c))) h
+blank_turn limit modes.Key s c h = ap (λ (x : Bool). cond x (Some (key, s)) (cond (c == 34) (Some (quoted true [], s)) None)) h
+blank_turn limit modes.KeyOrClose s c h = ap (λ (x : Bool). cond x (Some (key_or_close, s)) (cond (c == 125) (close_turn s) (cond (c == 34) (Some (quoted true [], s)) None))) h
+blank_turn limit modes.Colon s c h = ap (λ (x : Bool). cond x (Some (colon, s)) (cond (c == 58) (Some (value, s)) None)) h
+blank_turn limit modes.AfterValue s c h = ap (λ (x : Bool). cond x (Some (after_value, s)) (separate s c)) h
+
+-- ---- after a value
+
+is_array : (p : Part) → want_of p ≡ wants.ValueOrClose → (f : Part → Type 0) → ((ts : Rattle.sj_json.specs.Tree.Items) → f (elements ts)) → f p
+is_array (top None) e f g = cc
+is_array (top (Some t)) e f g = cc
+is_array (elements ts) e f g = g ts
+is_array (pairs ms None) e f g = cc
+is_array (pairs ms (Some k)) e f g = cc
+
+is_map : (p : Part) → want_of p ≡ wants.KeyOrClose → (f : Part → Type 0) → ((ms : Rattle.sj_json.specs.Tree.Members) → f (pairs ms None)) → f p
+is_map (top None) e f g = cc
+is_map (top (Some t)) e f g = cc
+is_map (elements ts) e f g = cc
+is_map (pairs ms None) e f g = g ms
+is_map (pairs ms (Some k)) e f g = cc
+
+module _ (limit : ℕ) (p : Part) (qs : List Part) (c : ℕ) where
+  pub comma_items : want_of p ≡ wants.ValueOrClose → c ≡ 44 → (turn limit after_value (p, qs) c ≡ Some (value, (p, qs))) × TakesValue p
+  comma_items w e =
+      is_array p w (λ q. (turn limit after_value (q, qs) c ≡ Some (value, (q, qs))) × TakesValue q)
+      (λ ts. (subst (λ (x : ℕ). turn limit after_value (elements ts, qs) x ≡ Some (value, (elements ts, qs))) (sym e) refl, tt))
+
+  pub close_items : want_of p ≡ wants.ValueOrClose → c ≡ 93 → turn limit after_value (p, qs) c ≡ close_turn (p, qs)
+  close_items w e =
+      is_array p w (λ q. turn limit after_value (q, qs) c ≡ close_turn (q, qs)) (λ ts. subst (λ (x : ℕ). turn limit after_value (elements ts, qs) x ≡ close_turn (elements ts, qs)) (sym e) refl)
+
+  pub no_items : want_of p ≡ wants.ValueOrClose → is_blank c ≡ false → c ≢ 44 → c ≢ 93 → turn limit after_value (p, qs) c ≡ None
+  no_items w b e f =
+      is_array p w (λ q. turn limit after_value (q, qs) c ≡ None)
+      (λ ts. cond_no (is_blank c) (Some (after_value, (elements ts, qs))) (separate (elements ts, qs) c) b
+      ∙ cond_no (c == 44) (Some (value, (elements ts, qs))) (cond (c == 93) (close_turn (elements ts, qs)) None) (ne_false c 44 e)
+      ∙ cond_no (c == 93) (close_turn (elements ts, qs)) None (ne_false c 93 f))
+
+  pub comma_members : want_of p ≡ wants.KeyOrClose → c ≡ 44 → (turn limit after_value (p, qs) c ≡ Some (key, (p, qs))) × TakesKey p
+  comma_members w e =
+      is_map p w (λ q. (turn limit after_value (q, qs) c ≡ Some (key, (q, qs))) × TakesKey q)
+      (λ ms. (subst (λ (x : ℕ). turn limit after_value (pairs ms None, qs) x ≡ Some (key, (pairs ms None, qs))) (sym e) refl, tt))
+
+  pub close_members : want_of p ≡ wants.KeyOrClose → c ≡ 125 → turn limit after_value (p, qs) c ≡ close_turn (p, qs)
+  close_members w e =
+      is_map p w (λ q. turn limit after_value (q, qs) c ≡ close_turn (q, qs)) (λ ms. subst (λ (x : ℕ). turn limit after_value (pairs ms None, qs) x ≡ close_turn (pairs ms None, qs)) (sym e) refl)
+
+  pub no_members : want_of p ≡ wants.KeyOrClose → is_blank c ≡ false → c ≢ 44 → c ≢ 125 → turn limit after_value (p, qs) c ≡ None
+  no_members w b e f =
+      is_map p w (λ q. turn limit after_value (q, qs) c ≡ None)
+      (λ ms. cond_no (is_blank c) (Some (after_value, (pairs ms None, qs))) (separate (pairs ms None, qs) c) b
+      ∙ cond_no (c == 44) (Some (key, (pairs ms None, qs))) (cond (c == 125) (close_turn (pairs ms None, qs)) None) (ne_false c 44 e)
+      ∙ cond_no (c == 125) (close_turn (pairs ms None, qs)) None (ne_false c 125 f))
+
+pub no_more : (limit : ℕ) (p : Part) (qs : List Part) (c : ℕ) → HasValue p → want_of p ≢ wants.ValueOrClose → want_of p ≢ wants.KeyOrClose → is_blank c ≡ false → turn limit after_value (p, qs) c ≡ None
+no_more limit (top o) qs c h e f b = cond_no (is_blank c) (Some (after_value, (top o, qs))) None b
+no_more limit (elements ts) qs c h e f b = absurd (e refl)
+no_more limit (pairs ms None) qs c h e f b = absurd (f refl)
+no_more limit (pairs ms (Some k)) qs c h e f b = absurd h
+
+-- what has been closed is a value
+pub closed_value : (p : Part) (qs : List Part) → TakesClose p → HasValue (with_close (p, qs)).0
+closed_value (top o) qs h = absurd h
+closed_value (elements ts) [] h = tt
+closed_value (elements ts) (top o ∷ qs) h = tt
+closed_value (elements ts) (elements us ∷ qs) h = tt
+closed_value (elements ts) (pairs ms k ∷ qs) h = tt
+closed_value (pairs ms (Some k)) qs h = absurd h
+closed_value (pairs ms None) [] h = tt
+closed_value (pairs ms None) (top o ∷ qs) h = tt
+closed_value (pairs ms None) (elements us ∷ qs) h = tt
+closed_value (pairs ms None) (pairs us k ∷ qs) h = tt
+
+pub put_value : (t : Tree) (p : Part) → TakesValue p → HasValue (put t p)
+put_value t (top o) h = tt
+put_value t (elements ts) h = tt
+put_value t (pairs ms k) h = tt
+
+pub put_key_ready : (k : List ℕ) (p : Part) → TakesKey p → TakesValue (put_key k p)
+put_key_ready k (top o) h = absurd h
+put_key_ready k (elements ts) h = absurd h
+put_key_ready k (pairs ms l) h = tt
+
+pub first_closes : (p : Part) → FirstElement p → TakesClose p
+first_closes (top o) h = absurd h
+first_closes (elements ts) h = tt
+first_closes (pairs ms k) h = absurd h
+
+-- ---- words
+
+pub no_word : (limit : ℕ) (x : ℕ) (r : List ℕ) (t : Tree) (s : State) (bs : List ℕ) → ((rest : List ℕ) → bs ≡ (x ∷ r) ++ rest → ⊥) → run limit (letters (x ∷ r) t) s bs ≡ None
+unfolding run
+no_word limit x r t s [] h = refl
+no_word limit x [] t s (b ∷ bs) h =
+    let other : b ≢ x = λ e. h bs (ap (λ (y : ℕ). y ∷ bs) e) in
+    ap (option_and_then (λ (q : Mode × State). run limit q.0 q.1 bs)) (cond_no (b == x) (Some (after_value, with_value t s)) None (ne_false b x other))
+no_word limit x (y ∷ r) t s (b ∷ bs) h =
+    let K : Mode × State → Option Tree = λ q. run limit q.0 q.1 bs in
+    elim (eqb_tells b x) as (λ _. option_and_then K (cond (b == x) (Some (letters (y ∷ r) t, s)) None) ≡ None) [
+      | inl e ↦ ap (λ (z : Bool). option_and_then K (cond z (Some (letters (y ∷ r) t, s)) None)) e.0 ∙ no_word limit y r t s bs (λ rest f. h rest (ap (λ (z : ℕ). z ∷ bs) e.1 ∙ ap (λ (z : List ℕ). x ∷ z) f))
+      | inr e ↦ ap (λ (z : Bool). option_and_then K (cond z (Some (letters (y ∷ r) t, s)) None)) e.0
+    ]
+
+-- ---- strings
+
+plain_not_quote : (b : ℕ) → IsPlain b → (b == 34) ≡ false
+plain_not_quote b h = plain_no_quote (b == 34) (b == 92) (nat_lt b 32) h
+
+plain_turn : (limit : ℕ) (k : Bool) (acc : List ℕ) (s : State) (b : ℕ) → IsPlain b → turn limit (quoted k acc) s b ≡ Some (quoted k (acc ++ b ∷ []), s)
+plain_turn limit k acc s b h =
+    cond_no (b == 34) (Some (end_quote k acc s)) (cond (is_plain b) (Some (quoted k (acc ++ b ∷ []), s)) None) (plain_not_quote b h)
+    ∙ ap (λ (y : Bool). cond y (Some (quoted k (acc ++ b ∷ []), s)) None) h
+
+no_string : (limit : ℕ) (k : Bool) (acc x rest : List ℕ) (s : State) → AllByRecursion IsPlain x → ((a : List ℕ) → run limit (quoted k a) s rest ≡ None) → run limit (quoted k acc) s (x ++ rest) ≡ None
+no_string limit k acc [] rest s h e = e acc
+no_string limit k acc (b ∷ x) rest s h e =
+    run_step limit (quoted k acc) s b (x ++ rest) (quoted k (acc ++ b ∷ []), s) (plain_turn limit k acc s b h.0) ∙ no_string limit k (acc ++ b ∷ []) x rest s h.1 e
+
+cut : (text : List ℕ) (from at : ℕ) → from ≤ at → drop from text ≡ take (at - from) (drop from text) ++ drop at text
+cut text from at h =
+    let same : from + (at - from) ≡ at = omega arith in
+    sym (take-append-drop (at - from) (drop from text)) ∙ ap (λ (z : List ℕ). take (at - from) (drop from text) ++ z) (drop-drop (at - from) from text ∙ ap (λ (i : ℕ). drop i text) same)
+
+stop_byte : (limit : ℕ) (k : Bool) (acc : List ℕ) (s : State) (b : ℕ) → is_plain b ≡ false → b ≢ 34 → turn limit (quoted k acc) s b ≡ None
+stop_byte limit k acc s b h e =
+    cond_no (b == 34) (Some (end_quote k acc s)) (cond (is_plain b) (Some (quoted k (acc ++ b ∷ []), s)) None) (ne_false b 34 e) ∙ cond_no (is_plain b) (Some (quoted k (acc ++ b ∷ []), s)) None h
+
+pub string_stops : (limit : ℕ) (k : Bool) (s : State) (text : List ℕ) (from : ℕ) → StopsPlain text from → run limit (quoted k []) s (drop from text) ≡ None
+unfolding run
+string_stops limit k s text from h =
+    let end : (a : List ℕ) → run limit (quoted k a) s (drop h.at text) ≡ None = λ a.
+    elim h.stop as (λ _. run limit (quoted k a) s (drop h.at text) ≡ None) [
+      | inl l ↦ ap (run limit (quoted k a) s) (drop_all h.at text l)
+      | inr l ↦ stops limit (quoted k a) s text h.at (get_or text h.at 0) l.0 refl (stop_byte limit k a s (get_or text h.at 0) l.1 l.2)
+    ] in
+    ap (run limit (quoted k []) s) (cut text from h.at h.later) ∙ no_string limit k [] (take (h.at - from) (drop from text)) (drop h.at text) s h.plain end
+
+pub string_goes : (limit : ℕ) (k : Bool) (s : State) (text : List ℕ) (from end : ℕ) → EndsPlain text from end
+    → run limit (quoted k []) s (drop from text) ≡ run limit (end_quote k (take (end - from) (drop from text)) s).0 (end_quote k (take (end - from) (drop from text)) s).1 (drop (end + 1) text)
+string_goes limit k s text from end h =
+    ap (run limit (quoted k []) s) (cut text from end h.later ∙ ap (λ (z : List ℕ). take (end - from) (drop from text) ++ z) (drop_more text end 0 h.within ∙ ap (λ (b : ℕ). b ∷ drop (end + 1) text) h.quote))
+    ∙ run_plain limit k [] (take (end - from) (drop from text)) (drop (end + 1) text) s h.plain
+
+-- ---- calls of the builder
+
+pub after_call : {A E : Type 0} (limit : ℕ) (d : Result A E) (r : Result (coded.Mode × ℕ) ReadRefusal) (n : coded.Mode) (to : ℕ) (m : Mode) (s : State) (text : List ℕ) (at : ℕ) (new t : State)
+    → MatchResult d (λ _. r ≡ Ok (n, to)) (λ _. r ≡ Err Memory) → OnOk d (new ≡ t) → Went limit m s text at n to t → Turns limit r m s text at new
+after_call limit (Ok x) r n to m s text at new t h e w = subst (λ z. Turns limit z m s text at new) (sym h) (subst (Went limit m s text at n to) (sym e) w)
+after_call limit (Err x) r n to m s text at new t h e w = subst (λ z. Turns limit z m s text at new) (sym h) tt
+
+-- what a value or a key that begins at the place leads to
+module _ (limit : ℕ) (s : State) (text : List ℕ) (at c : ℕ) (h : at < length text) (e : get_or text at 0 ≡ c) (room : node_total s ≤ at) where
+  pub string_value : TakesValue s.0 → c ≡ 34 → (end : ℕ) → EndsPlain text (at + 1) end → Went limit value s text at modes.AfterValue (end + 1) (with_value (string (take (end - (at + 1)) (drop (at + 1) text))) s)
+  string_value ready is end ends =
+      let x = take (end - (at + 1)) (drop (at + 1) text) in
+      let first : turn limit value s c ≡ Some (quoted false [], s) = subst (λ (z : ℕ). turn limit value s z ≡ Some (quoted false [], s)) (sym is) refl in
+      record {
+        same = goes limit value s text at c h e (quoted false [], s) first ∙ string_goes limit false s text (at + 1) end ends;
+        later = omega (arith, ends.later);
+        within = omega (arith, ends.within);
+        ready = put_value (string x) s.0 ready;
+        room = omega (arith, total-put (string x) s.0 s.1 ready, ends.later);
+      }
+
+  pub no_string_value : c ≡ 34 → StopsPlain text (at + 1) → run limit value s (drop at text) ≡ None
+  no_string_value is stop =
+      let first : turn limit value s c ≡ Some (quoted false [], s) = subst (λ (z : ℕ). turn limit value s z ≡ Some (quoted false [], s)) (sym is) refl in
+      goes limit value s text at c h e (quoted false [], s) first ∙ string_stops limit false s text (at + 1) stop
+
+  pub key_value : TakesKey s.0 → c ≡ 34 → (end : ℕ) → EndsPlain text (at + 1) end → Went limit key s text at modes.Colon (end + 1) (with_key (take (end - (at + 1)) (drop (at + 1) text)) s)
+  key_value ready is end ends =
+      let x = take (end - (at + 1)) (drop (at + 1) text) in
+      let first : turn limit key s c ≡ Some (quoted true [], s) = subst (λ (z : ℕ). turn limit key s z ≡ Some (quoted true [], s)) (sym is) refl in
+      record {
+        same = goes limit key s text at c h e (quoted true [], s) first ∙ string_goes limit true s text (at + 1) end ends;
+        later = omega (arith, ends.later);
+        within = omega (arith, ends.within);
+        ready = put_key_ready x s.0 ready;
+        room = omega (arith, total-key x s.0 s.1, ends.later);
+      }
+
+  pub no_key_value : c ≡ 34 → StopsPlain text (at + 1) → run limit key s (drop at text) ≡ None
+  no_key_value is stop =
+      let first : turn limit key s c ≡ Some (quoted true [], s) = subst (λ (z : ℕ). turn limit key s z ≡ Some (quoted true [], s)) (sym is) refl in
+      goes limit key s text at c h e (quoted true [], s) first ∙ string_stops limit true s text (at + 1) stop
+
+  pub no_key : is_blank c ≡ false → c ≢ 34 → run limit key s (drop at text) ≡ None
+  no_key b is = stops limit key s text at c h e (cond_no (is_blank c) (Some (key, s)) (cond (c == 34) (Some (quoted true [], s)) None) b ∙ cond_no (c == 34) (Some (quoted true [], s)) None (ne_false c 34 is))
+
+  -- a container opens
+  pub array_opens : TakesValue s.0 → c ≡ 91 → length s.1 < limit → Went limit value s text at modes.ValueOrClose (at + 1) (with_open false s)
+  array_opens ready is less =
+      one_byte limit value s text at c h e modes.ValueOrClose (with_open false s)
+      (subst (λ (z : ℕ). turn limit value s z ≡ open_turn limit false s) (sym is) refl ∙ ap (λ (x : Bool). cond x (Some (value_or_close, with_open false s)) None) (lt-ltb (length s.1) limit less))
+      tt (omega (arith, total-open false s.0 s.1))
+
+  pub object_opens : TakesValue s.0 → c ≡ 123 → length s.1 < limit → Went limit value s text at modes.KeyOrClose (at + 1) (with_open true s)
+  object_opens ready is less =
+      one_byte limit value s text at c h e modes.KeyOrClose (with_open true s)
+      (subst (λ (z : ℕ). turn limit value s z ≡ open_turn limit true s) (sym is) refl ∙ ap (λ (x : Bool). cond x (Some (key_or_close, with_open true s)) None) (lt-ltb (length s.1) limit less))
+      tt (omega (arith, total-open true s.0 s.1))
+
+  pub array_too_deep : c ≡ 91 → limit ≤ length s.1 → run limit value s (drop at text) ≡ None
+  array_too_deep is deep =
+      stops limit value s text at c h e (subst (λ (z : ℕ). turn limit value s z ≡ open_turn limit false s) (sym is) refl ∙ cond_no (nat_lt (length s.1) limit) (Some (value_or_close, with_open false s)) None (le-ltb (length s.1) limit deep))
+
+  pub object_too_deep : c ≡ 123 → limit ≤ length s.1 → run limit value s (drop at text) ≡ None
+  object_too_deep is deep =
+      stops limit value s text at c h e (subst (λ (z : ℕ). turn limit value s z ≡ open_turn limit true s) (sym is) refl ∙ cond_no (nat_lt (length s.1) limit) (Some (key_or_close, with_open true s)) None (le-ltb (length s.1) limit deep))
+
+  -- a word: its first byte is x, r is the rest of it
+  module _ (x y : ℕ) (r : List ℕ) (t : Tree) (first : turn limit value s x ≡ Some (letters (y ∷ r) t, s)) (is : c ≡ x) where
+    begun : turn limit value s c ≡ Some (letters (y ∷ r) t, s)
+    begun = subst (λ (z : ℕ). turn limit value s z ≡ Some (letters (y ∷ r) t, s)) (sym is) first
+
+    pub word_value : TakesValue s.0 → ((rest : List ℕ) → run limit (letters (y ∷ r) t) s ((y ∷ r) ++ rest) ≡ run limit after_value (with_value t s) rest) → below t ≡ 0
+        → drop (at + 1) text ≡ (y ∷ r) ++ drop (length (y ∷ r)) (drop (at + 1) text) → Went limit value s text at modes.AfterValue (at + 1 + length (y ∷ r)) (with_value t s)
+    word_value ready reads leaf found =
+        let n = length (y ∷ r) in
+        let long : n ≤ length (drop (at + 1) text) = omega (arith, ap length found, length-append (y ∷ r) (drop n (drop (at + 1) text))) in
+        record {
+          same = goes limit value s text at c h e (letters (y ∷ r) t, s) begun ∙ ap (run limit (letters (y ∷ r) t) s) found ∙ reads (drop n (drop (at + 1) text)) ∙ ap (run limit after_value (with_value t s)) (drop-drop n (at + 1) text);
+          later = omega arith;
+          within = omega (arith, length-drop (at + 1) text);
+          ready = put_value t s.0 ready;
+          room = omega (arith, total-put t s.0 s.1 ready);
+        }
+
+    pub no_word_value : ((rest : List ℕ) → drop (at + 1) text ≡ (y ∷ r) ++ rest → ⊥) → run limit value s (drop at text) ≡ None
+    no_word_value missing = goes limit value s text at c h e (letters (y ∷ r) t, s) begun ∙ no_word limit y r t s (drop (at + 1) text) missing
+
+  pub no_value : is_blank c ≡ false → c ≢ 34 → c ≢ 91 → c ≢ 123 → c ≢ 110 → c ≢ 116 → c ≢ 102 → run limit value s (drop at text) ≡ None
+  no_value b p q r x y z =
+      stops limit value s text at c h e (cond_no (is_blank c) (Some (value, s)) (start limit s c) b ∙ cond_no (c == 34) _ _ (ne_false c 34 p) ∙ cond_no (c == 91) _ _ (ne_false c 91 q) ∙ cond_no (c == 123) _ _ (ne_false c 123 r)
+      ∙ cond_no (c == 110) _ _ (ne_false c 110 x) ∙ cond_no (c == 116) _ _ (ne_false c 116 y) ∙ cond_no (c == 102) _ _ (ne_false c 102 z))
+
+pub null_read : (limit : ℕ) (s : State) (rest : List ℕ) → run limit (letters (codes "ull") null) s (codes "ull" ++ rest) ≡ run limit after_value (with_value null s) rest
+unfolding run
+null_read limit s rest = refl
+
+pub true_read : (limit : ℕ) (s : State) (rest : List ℕ) → run limit (letters (codes "rue") (truth true)) s (codes "rue" ++ rest) ≡ run limit after_value (with_value (truth true) s) rest
+unfolding run
+true_read limit s rest = refl
+
+pub false_read : (limit : ℕ) (s : State) (rest : List ℕ) → run limit (letters (codes "alse") (truth false)) s (codes "alse" ++ rest) ≡ run limit after_value (with_value (truth false) s) rest
+unfolding run
+false_read limit s rest = refl
+
+pub closed_went : (limit : ℕ) (m : Mode) (s : State) (text : List ℕ) (at c : ℕ) → at < length text → get_or text at 0 ≡ c → node_total s ≤ at → turn limit m s c ≡ close_turn s → TakesClose s.0
+    → (new : State) → new ≡ with_close s → node_total new ≡ node_total s → Went limit m s text at modes.AfterValue (at + 1) new
+closed_went limit m s text at c h e room is takes new same total =
+    subst (Went limit m s text at modes.AfterValue (at + 1)) (sym same)
+    (one_byte limit m s text at c h e modes.AfterValue (with_close s) is (closed_value s.0 s.1 takes) (omega (arith, ap node_total same)))
+
+pub items_close : (p : Part) → want_of p ≡ wants.ValueOrClose → TakesClose p
+items_close p w = is_array p w TakesClose (λ ts. tt)
+
+pub members_close : (p : Part) → want_of p ≡ wants.KeyOrClose → TakesClose p
+members_close p w = is_map p w TakesClose (λ ms. tt)
+
+-- ---- where a container may close at once
+
+pub first_close : (limit : ℕ) (s : State) (c : ℕ) → c ≡ 93 → turn limit value_or_close s c ≡ close_turn s
+first_close limit s c e = subst (λ (x : ℕ). turn limit value_or_close s x ≡ close_turn s) (sym e) refl
+
+pub first_value_turn : (limit : ℕ) (s : State) (c : ℕ) → is_blank c ≡ false → c ≢ 93 → turn limit value_or_close s c ≡ turn limit value s c
+first_value_turn limit s c b e =
+    cond_no (is_blank c) (Some (value_or_close, s)) (cond (c == 93) (close_turn s) (start limit s c)) b ∙ cond_no (c == 93) (close_turn s) (start limit s c) (ne_false c 93 e)
+    ∙ sym (cond_no (is_blank c) (Some (value, s)) (start limit s c) b)
+
+pub first_close_key : (limit : ℕ) (s : State) (c : ℕ) → c ≡ 125 → turn limit key_or_close s c ≡ close_turn s
+first_close_key limit s c e = subst (λ (x : ℕ). turn limit key_or_close s x ≡ close_turn s) (sym e) refl
+
+pub first_key_turn : (limit : ℕ) (s : State) (c : ℕ) → is_blank c ≡ false → c ≢ 125 → turn limit key_or_close s c ≡ turn limit key s c
+first_key_turn limit s c b e =
+    let rest = cond (c == 34) (Some (quoted true [], s)) None in
+    cond_no (is_blank c) (Some (key_or_close, s)) (cond (c == 125) (close_turn s) rest) b ∙ cond_no (c == 125) (close_turn s) rest (ne_false c 125 e) ∙ sym (cond_no (is_blank c) (Some (key, s)) rest b)
+
+same_run : (limit : ℕ) (m n : Mode) (s : State) (text : List ℕ) (at c : ℕ) → at < length text → get_or text at 0 ≡ c → turn limit m s c ≡ turn limit n s c → run limit m s (drop at text) ≡ run limit n s (drop at text)
+unfolding run
+same_run limit m n s text at c h e f =
+    let cells = here limit m s text at c h e in
+    ap (run limit m s) cells ∙ ap (option_and_then (λ (q : Mode × State). run limit q.0 q.1 (drop (at + 1) text))) f ∙ sym (ap (run limit n s) cells)
+
+pub moved : (limit : ℕ) (m n : Mode) (s : State) (text : List ℕ) (at c : ℕ) → at < length text → get_or text at 0 ≡ c → turn limit m s c ≡ turn limit n s c
+    → (r : Result (coded.Mode × ℕ) ReadRefusal) (new : State) → Turns limit r n s text at new → Turns limit r m s text at new
+moved limit m n s text at c h e f (Ok x) new w = record { same = same_run limit m n s text at c h e f ∙ w.same; later = w.later; within = w.within; ready = w.ready; room = w.room }
+moved limit m n s text at c h e f (Err NotJson) new w = same_run limit m n s text at c h e f ∙ w
+moved limit m n s text at c h e f (Err Memory) new w = tt
+
+pub colon_turn : (limit : ℕ) (s : State) (c : ℕ) → c ≡ 58 → turn limit colon s c ≡ Some (value, s)
+colon_turn limit s c e = subst (λ (x : ℕ). turn limit colon s x ≡ Some (value, s)) (sym e) refl
+
+pub no_colon : (limit : ℕ) (s : State) (c : ℕ) → is_blank c ≡ false → c ≢ 58 → turn limit colon s c ≡ None
+no_colon limit s c b e = cond_no (is_blank c) (Some (colon, s)) (cond (c == 58) (Some (value, s)) None) b ∙ cond_no (c == 58) (Some (value, s)) None (ne_false c 58 e)
+
+pub key_closes : (p : Part) → TakesKey p → TakesClose p
+key_closes (top o) h = absurd h
+key_closes (elements ts) h = absurd h
+key_closes (pairs ms None) h = tt
+key_closes (pairs ms (Some k)) h = absurd h

@@ -1,0 +1,58 @@
+-- What a step of the reader does, against the reader of bytes.
+use Rattle.std.specs.Prelude.{◌≡◌, ℕ, ◌<◌, ◌≤◌, List, length, drop, Some, None, Result, Ok, Err, ⊤}
+use Rattle.sj_json.specs.Building.{Part, top, elements, pairs, State, TakesValue, TakesKey}
+use Rattle.sj_json.specs.Machine as machine
+use Rattle.sj_json.specs.Machine.{run}
+use Rattle.sj_doc.specs.Builders.{node_total}
+use Rattle.sj_read.specs.declared.reader.Mode.{Mode}
+use Rattle.sj_read.specs.declared.reader.Mode.TheVariants.{Value, ValueOrClose, Key, KeyOrClose, Colon, AfterValue}
+use Rattle.sj_read.specs.declared.reader.ReadRefusal.{ReadRefusal}
+use Rattle.sj_read.specs.declared.reader.ReadRefusal.TheVariants.{NotJson, Memory}
+
+abbrev pub mode_of : Mode → machine.Mode
+mode_of Value = machine.value
+mode_of ValueOrClose = machine.value_or_close
+mode_of Key = machine.key
+mode_of KeyOrClose = machine.key_or_close
+mode_of Colon = machine.colon
+mode_of AfterValue = machine.after_value
+
+-- a value or a key has just come to its end
+abbrev pub HasValue : Part → Type 0
+HasValue (top None) = ⊥
+HasValue (top (Some t)) = ⊤
+HasValue (elements ts) = ⊤
+HasValue (pairs ms None) = ⊤
+HasValue (pairs ms (Some k)) = ⊥
+
+abbrev pub FirstElement : Part → Type 0
+FirstElement (top o) = ⊥
+FirstElement (elements ts) = ⊤
+FirstElement (pairs ms k) = ⊥
+
+-- the builder takes what the mode wants
+abbrev pub Ready : machine.Mode → State → Type 0
+Ready machine.value s = TakesValue s.0
+Ready machine.value_or_close s = FirstElement s.0
+Ready machine.key s = TakesKey s.0
+Ready machine.key_or_close s = TakesKey s.0
+Ready machine.colon s = TakesValue s.0
+Ready machine.after_value s = HasValue s.0
+Ready (machine.letters r t) s = ⊥
+Ready (machine.quoted k x) s = ⊥
+
+abbrev pub TakesOneKey : State → Type 0
+TakesOneKey s = TakesKey s.0
+
+-- the rest of the text from the one place is read as the rest from the other is
+pub record Went (limit : ℕ) (m : machine.Mode) (s : State) (text : List ℕ) (at : ℕ) (n : Mode) (to : ℕ) (t : State) : Type 0 where
+  pub same : run limit m s (drop at text) ≡ run limit (mode_of n) t (drop to text)
+  pub later : at < to
+  pub within : to ≤ length text
+  pub ready : Ready (mode_of n) t
+  pub room : node_total t ≤ to
+
+abbrev pub Turns : ℕ → Result (Mode × ℕ) ReadRefusal → machine.Mode → State → List ℕ → ℕ → State → Type 0
+Turns limit (Ok r) m s text at t = Went limit m s text at r.0 r.1 t
+Turns limit (Err NotJson) m s text at t = run limit m s (drop at text) ≡ None
+Turns limit (Err Memory) m s text at t = ⊤

@@ -1,0 +1,74 @@
+// Passing over the plain text of a string, many bytes at a step.
+ghost use Rattle.std.specs.Prelude.{◌≡◌, ◌+◌, ◌≤◌, length, drop, map};
+ghost use Rattle.std.specs.List.{prefix_len};
+ghost use Rattle.std.specs.Simd.Lanes.{mask_l};
+ghost use Rattle.sj_json.specs.Spelling.{is_plain};
+ghost use Rattle.sj_read.specs.Scans.{is_stop};
+
+use std::simd::prelude::*;
+
+#[inline(always)]
+fn stops_in_32(v: u8x32) -> u64
+    ensures { result ≡ mask_l (map is_stop v) }
+{
+    (v.simd_eq(u8x32::splat(b'"'))
+        | v.simd_eq(u8x32::splat(b'\\'))
+        | v.simd_lt(u8x32::splat(0x20))).to_bitmask()
+}
+
+#[inline(always)]
+fn stops_in_8(v: u8x8) -> u64
+    ensures { result ≡ mask_l (map is_stop v) }
+{
+    (v.simd_eq(u8x8::splat(b'"'))
+        | v.simd_eq(u8x8::splat(b'\\'))
+        | v.simd_lt(u8x8::splat(0x20))).to_bitmask()
+}
+
+#[inline(always)]
+fn plain_end_of_7(text: &[u8], from: usize) -> usize
+    requires { from ≤ length text.now }
+    ensures { result ≡ from + prefix_len is_plain (drop from text.now) }
+{
+    let mut i = from;
+    while i < text.len() && text[i] != b'"' && text[i] != b'\\' && text[i] >= 0x20 {
+        i += 1;
+    }
+    i
+}
+
+// Near the end of the text.
+#[inline(never)]
+fn plain_end_of_31(text: &[u8], from: usize) -> usize
+    requires { from ≤ length text.now }
+    ensures value { result ≡ from + prefix_len is_plain (drop from text.now) }
+    ensures bound { result ≤ length text.now }
+{
+    let mut i = from;
+    while text.len() - i >= 8 {
+        let found = stops_in_8(u8x8::from_slice(&text[i..]));
+        if found != 0 {
+            return i + found.trailing_zeros() as usize;
+        }
+        i += 8;
+    }
+    plain_end_of_7(text, i)
+}
+
+// The first quotation mark, backslash or control character from the place on, or the length.
+#[inline(always)]
+pub(crate) fn plain_end(text: &[u8], from: usize) -> usize
+    requires { from ≤ length text.now }
+    ensures value { result ≡ from + prefix_len is_plain (drop from text.now) }
+    ensures bound { result ≤ length text.now }
+{
+    let mut i = from;
+    while text.len() - i >= 32 {
+        let found = stops_in_32(u8x32::from_slice(&text[i..]));
+        if found != 0 {
+            return i + found.trailing_zeros() as usize;
+        }
+        i += 32;
+    }
+    plain_end_of_31(text, i)
+}
