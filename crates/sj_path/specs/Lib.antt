@@ -1,0 +1,5 @@
+pub mod Tokens
+pub mod Seen
+pub mod Names
+pub mod Grammar
+pub mod Next
