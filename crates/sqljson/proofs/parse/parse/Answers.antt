@@ -1,0 +1,32 @@
+use Rattle.std.proofs.Common.{◌≡◌, ◌∷◌, [], ◌++◌, length, refl, sym, ◌∙◌, ap, arith, length-append}
+use Rattle.sqljson.specs.Tokens.{tokens}
+use Rattle.sqljson.specs.File.{verdict}
+use Rattle.sqljson.specs.Meaning.{MemberNames}
+use Rattle.sqljson.specs.Statements.{verdict_from}
+use Rattle.sqljson.proofs.Statements.{with_front, front_none, statements_end, statement_turn, path_refused}
+use Rattle.sqljson.proofs.parse.parse.Goals as goal
+
+pub loop-statements-init : goal.loop-statements-init
+unfolding verdict
+loop-statements-init c = record {
+  read = front_none (verdict_from 1 (tokens c.args.file.now)) ∙ ap (λ l. with_front l (verdict_from 1 (tokens c.args.file.now))) (sym c.new-statements.ensures.items);
+  number = omega (arith, ap length c.new-statements.ensures.items);
+  room = omega (arith, ap length c.new-statements.ensures.items);
+}
+
+pub returns-in-End-clause-accepted : goal.returns-in-End-clause-accepted
+returns-in-End-clause-accepted c = statements_end _ _ _ _ c.loop-statements.invariant.read c.in-End.ensures
+
+pub returns-in-Err-clause-refused : goal.returns-in-Err-clause-refused
+returns-in-Err-clause-refused c =
+    path_refused _ _ _ _ _ c.in-Statement.path.now c.in-Err.refusal c.loop-statements.invariant.read c.in-Statement.ensures.0 c.in-Err.ensures.err
+
+pub loop-statements-preserved : goal.loop-statements-preserved
+loop-statements-preserved c =
+    let items : c.push.new.self.items ≡ c.loop-statements.statements.items ++ c.in-Ok.names.items ∷ [] =
+    c.in-Ok-push.ensures.items ∙ ap (λ (s : MemberNames). c.loop-statements.statements.items ++ s ∷ []) c.new.ensures in
+    record {
+      read = statement_turn _ _ _ _ _ _ _ c.in-Statement.path.now c.in-Ok.names.items c.loop-statements.invariant.read c.in-Statement.ensures.0 c.in-Ok.ensures.ok items refl;
+      number = omega (arith, ap length items, length-append {A = MemberNames}, c.loop-statements.invariant.number);
+      room = omega (arith, ap length items, length-append {A = MemberNames}, c.loop-statements.invariant.room, c.in-Statement.ensures.1);
+    }

@@ -1,0 +1,248 @@
+// Runs over the objects in memory.
+use crate::run::run;
+use crate::status::{FileKind, Status};
+use sj_base::{MemShelf, MemSink, MemSource, Steps, Tally, Text};
+use std::alloc::Global;
+use std::test::Fail;
+
+/// What a run gave: how it ended, and what it wrote.
+#[derive(Drop)]
+struct Outcome {
+    status: Status,
+    out: Vec<u8>,
+    notes: Vec<u8>,
+}
+
+/// What a run is given. The file is `f`, and calls fail as the lists say.
+#[derive(Drop)]
+struct Setup<'a> {
+    words: &'a [&'a str],
+    file: &'a [u8],
+    shelf_fails: &'a [u64],
+    input: &'a [u8],
+    cut: usize,
+    input_fails: &'a [u64],
+    room: usize,
+}
+
+/// The common case: `run f`, with nothing that fails and room enough.
+fn plain<'a>(file: &'a [u8], input: &'a [u8], cut: usize) -> Setup<'a> {
+    Setup {
+        words: &["run", "f"],
+        file,
+        shelf_fails: &[],
+        input,
+        cut,
+        input_fails: &[],
+        room: 4096,
+    }
+}
+
+fn run_on(alloc: Global, setup: &Setup<'_>) -> Result<Outcome, Fail> {
+    let mut words = Vec::new(alloc);
+    for word in setup.words {
+        words.push(String::from_str(alloc, word)?)?;
+    }
+    let name = Text::from_str(alloc, "f").map_err(|_| "memory")?;
+    let mut shelf = MemShelf::new(
+        name,
+        setup.file.to_vec(alloc)?,
+        setup.shelf_fails.to_vec(alloc)?,
+    );
+    let calls = if setup.cut == 0 { 0 } else { setup.input.len() };
+    let cuts = vec![in alloc; setup.cut; calls]?;
+    let mut input = MemSource::new(
+        setup.input.to_vec(alloc)?,
+        cuts,
+        setup.input_fails.to_vec(alloc)?,
+    );
+    let mut out = MemSink::new(alloc, setup.room, Vec::new(alloc)).map_err(|_| "memory")?;
+    let mut notes = MemSink::new(alloc, 4096, Vec::new(alloc)).map_err(|_| "memory")?;
+    let mut steps = Steps::new(Tally::new());
+    let status = run(
+        alloc, &words, &mut shelf, &mut input, &mut out, &mut notes, &mut steps,
+    );
+    Ok(Outcome {
+        status,
+        out: out.bytes().to_vec(alloc)?,
+        notes: notes.bytes().to_vec(alloc)?,
+    })
+}
+
+const AB: &[u8] = b"SELECT JSON_EXISTS(doc, 'lax $.a.b');";
+
+const ROOT: &[u8] = b"SELECT JSON_EXISTS(doc, 'lax $');";
+
+// The rows of small inputs, whole and a byte at a time.
+#[test]
+fn rows_in_any_cut(rt: HostRuntime) -> Result<(), Fail> {
+    let alloc = rt.alloc();
+    let cases: [(&[u8], &[u8], &[u8]); 7] = [
+        (
+            AB,
+            b"{\"a\":{\"b\":null}}\n{\"a\":\"x\"}\n \t\r\n{\"a\":\n",
+            b"1\t1\tR\tTRUE\n2\t1\tR\tFALSE\n4\t1\tR\tFALSE\n",
+        ),
+        (
+            b"SELECT JSON_EXISTS(doc, 'lax $.a.b'); SELECT JSON_EXISTS(doc, 'lax $.a.b');",
+            b"{\"a\":{\"b\":null}}",
+            b"1\t1\tR\tTRUE\n1\t2\tR\tTRUE\n",
+        ),
+        (
+            AB,
+            b"{\"a\":[{\"b\":true},[{\"b\":true}]]}",
+            b"1\t1\tR\tTRUE\n",
+        ),
+        (AB, b"{\"a\":[[{\"b\":true}]]}", b"1\t1\tR\tFALSE\n"),
+        (AB, b"[{\"a\":{\"b\":{}}}]", b"1\t1\tR\tTRUE\n"),
+        (
+            b"SELECT JSON_EXISTS(doc, 'lax $.s');",
+            b"\n{\"s\":\"a\"}",
+            b"2\t1\tR\tTRUE\n",
+        ),
+        (ROOT, b"", b""),
+    ];
+    for (file, input, out) in cases {
+        for cut in [0, 1, 3] {
+            let ran = run_on(alloc, &plain(file, input, cut))?;
+            assert_eq!(rt; ran.status, Status::Done);
+            assert_eq!(rt; ran.out.as_slice(), out, "at a cut of {cut}");
+            assert_eq!(rt; ran.notes.as_slice(), b"".as_slice());
+        }
+    }
+    Ok(())
+}
+
+// How a run ends where the words, the file or the objects are at fault, with the message.
+#[test]
+fn endings_and_messages(rt: HostRuntime) -> Result<(), Fail> {
+    let alloc = rt.alloc();
+    let three = b"{\"a\":{\"b\":null}}\n{\"a\":{\"b\":null}}\n{\"a\":{\"b\":null}}\n".as_slice();
+    let half = b"{\"a\":{\"b\":null}}\n{\"a\":{".as_slice();
+    let usage = "usage: sqljson run [--unique-keys] FILE | check FILE | selfrun N FILE\n";
+    let absent = "statement file cannot be read\n";
+    let all = plain(AB, three, 0);
+    let cases = [
+        (Setup { words: &[], ..all }, Status::Usage, "", usage),
+        (
+            Setup {
+                words: &["run", "-x"],
+                ..plain(AB, three, 0)
+            },
+            Status::Usage,
+            "",
+            usage,
+        ),
+        (
+            Setup {
+                words: &["check", "f"],
+                ..plain(AB, three, 0)
+            },
+            Status::Usage,
+            "",
+            usage,
+        ),
+        (
+            Setup {
+                words: &["run", "g"],
+                ..plain(AB, three, 0)
+            },
+            Status::ShelfFault,
+            "",
+            absent,
+        ),
+        (
+            Setup {
+                shelf_fails: &[1],
+                ..plain(AB, three, 0)
+            },
+            Status::ShelfFault,
+            "",
+            absent,
+        ),
+        (
+            plain(b"SELECT 1;", three, 0),
+            Status::Refused(1, FileKind::Syntax),
+            "",
+            "statement 1: syntax error\n",
+        ),
+        (
+            plain(
+                b"SELECT JSON_EXISTS(doc, 'lax $'); SELECT JSON_EXISTS(doc, '$[');",
+                three,
+                0,
+            ),
+            Status::Refused(2, FileKind::PathSyntax),
+            "",
+            "statement 2: path: syntax error\n",
+        ),
+        (
+            Setup {
+                input_fails: &[1],
+                ..plain(AB, half, 26)
+            },
+            Status::ReadFault,
+            "1\t1\tR\tTRUE\n",
+            "input failed\n",
+        ),
+        (
+            Setup {
+                room: 32,
+                ..plain(AB, three, 0)
+            },
+            Status::WriteFault,
+            "1\t1\tR\tTRUE\n2\t1\tR\tTRUE\n3\t1\tR\tTRUE",
+            "output failed\n",
+        ),
+    ];
+    for (setup, status, out, note) in cases {
+        let ran = run_on(alloc, &setup)?;
+        assert_eq!(rt; ran.status, status);
+        assert_eq!(rt; ran.out.as_slice(), out.as_bytes());
+        assert_eq!(rt; ran.notes.as_slice(), note.as_bytes());
+    }
+    Ok(())
+}
+
+/// So many bytes, all the same, between two others where these are given.
+fn long(alloc: Global, byte: u8, count: usize, around: &[u8]) -> Result<Vec<u8>, Fail> {
+    let mut text = Vec::new(alloc);
+    text.extend_from_slice(around)?;
+    text.extend_from_slice(vec![in alloc; byte; count]?.as_slice())?;
+    text.extend_from_slice(around)?;
+    Ok(text)
+}
+
+// Lines and files at their limits and one byte past them.
+#[test]
+fn limits(rt: HostRuntime) -> Result<(), Fail> {
+    let alloc = rt.alloc();
+    let fits = run_on(
+        alloc,
+        &plain(ROOT, &long(alloc, b'a', 16_777_214, b"\"")?, 0),
+    )?;
+    assert_eq!(rt; fits.out.as_slice(), b"1\t1\tR\tTRUE\n".as_slice());
+    let longer = run_on(
+        alloc,
+        &plain(ROOT, &long(alloc, b'a', 16_777_215, b"\"")?, 0),
+    )?;
+    assert_eq!(rt; longer.out.as_slice(), b"1\t1\tR\tFALSE\n".as_slice());
+    let mut blanks = long(alloc, b' ', 16_777_216, b"")?;
+    blanks.push(b'\n')?;
+    blanks.extend_from_slice(long(alloc, b' ', 16_777_217, b"")?.as_slice())?;
+    let second = run_on(alloc, &plain(ROOT, &blanks, 0))?;
+    assert_eq!(rt; second.out.as_slice(), b"2\t1\tR\tFALSE\n".as_slice());
+    let blank_file = run_on(
+        alloc,
+        &plain(&long(alloc, b' ', 1_048_576, b"")?, b"null", 0),
+    )?;
+    assert_eq!(rt; blank_file.status, Status::Done);
+    assert_eq!(rt; blank_file.out.as_slice(), b"".as_slice());
+    let long_file = run_on(
+        alloc,
+        &plain(&long(alloc, b' ', 1_048_577, b"")?, b"null", 0),
+    )?;
+    assert_eq!(rt; long_file.status, Status::FileTooLong);
+    assert_eq!(rt; long_file.status.number(), 8);
+    Ok(())
+}
