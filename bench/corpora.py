@@ -1,0 +1,84 @@
+"""Makes the inputs of the benchmark: JSON texts, one a line, each an object.
+
+Every corpus is the same at every call: the values come from a fixed seed. Without numbers the values are strings
+without escapes, true, false and null.
+"""
+import random
+
+SEED = 20161215
+ELEMENTS = 1_000_000
+WIDTH = 30
+NAMES = ["Ann", "Bo", "Chloé", "Dmitri", "Eun-ji", "Fatima", "Gábor", "Hana"]
+CITIES = ["Oslo", "Kraków", "Lima", "Nairobi", "Osaka", "Turin"]
+
+
+class Values:
+    """Gives values of JSON as texts, numbers among them where they are wanted."""
+
+    def __init__(self, with_numbers):
+        self.chance = random.Random(SEED)
+        self.with_numbers = with_numbers
+
+    def happens(self):
+        return self.chance.random() < 0.5
+
+    def one_of(self, texts):
+        return texts[int(self.chance.random() * len(texts))]
+
+    def scalar(self):
+        kind = self.chance.random()
+        if kind < 0.15:
+            return self.one_of(["true", "false", "null"])
+        return self.amount() if kind < 0.55 else f'"{self.one_of(NAMES)}"'
+
+    def amount(self):
+        """A number where numbers are wanted, else a string of the same digits."""
+        kind, whole = self.chance.random(), int(self.chance.random() * 1_000_000)
+        digits = f"{whole}" if kind < 0.6 else f"-{whole}.{whole % 97:02}" if kind < 0.95 else f"{whole % 10}.{whole}e-3"
+        return digits if self.with_numbers else f'"{digits}"'
+
+    def element(self):
+        """A short value: a million of them fit into a line."""
+        digits = f"{int(self.chance.random() * 100_000)}"
+        kind = self.chance.random()
+        if kind < 0.2:
+            return "true" if kind < 0.1 else "null"
+        return digits if self.with_numbers else f'"{digits}"'
+
+
+def record(values, number):
+    """A small record of about 130 bytes. Half of them have the member `a`, in the middle."""
+    found = f'"a":{values.amount()},' if values.happens() else ""
+    active = "true" if values.happens() else "false"
+    return (
+        f'{{"id":"r{number:07}","name":"{values.one_of(NAMES)}",{found}'
+        f'"address":{{"city":"{values.one_of(CITIES)}","zip":{values.amount()}}},"active":{active},"tags":["x","y"]}}'
+    )
+
+
+def wide_object(values, number):
+    """An object of thirty members. Half of them have the member `a` as their last."""
+    members = [f'"column_{k}":{values.scalar()}' for k in range(WIDTH - 1)]
+    members.append(f'"{"a" if values.happens() else "b"}":"{number}"')
+    return "{" + ",".join(members) + "}"
+
+
+def long_array(values, number):
+    """An object with an array of a million elements. Half of them have the member `a` behind it."""
+    elements = ",".join(values.element() for _ in range(ELEMENTS))
+    return f'{{"number":"{number}","elements":[{elements}],"{"a" if number % 2 else "b"}":null}}'
+
+
+KINDS = {"records": record, "wide": wide_object, "array": long_array}
+
+
+def write_corpus(kind, path, size, with_numbers):
+    """Writes whole lines of this kind until there are at least `size` bytes, and returns the number of bytes."""
+    values, number, written = Values(with_numbers), 0, 0
+    with open(path, "wb") as file:
+        while written < size:
+            number += 1
+            line = KINDS[kind](values, number).encode() + b"\n"
+            file.write(line)
+            written += len(line)
+    return written

@@ -1,0 +1,48 @@
+"""Runs the repository's own checks, and ends with the line `N passed, M failed`.
+
+usage, at the top of the repository: python3 -m checks [--gate STATUS LOG] [PROGRAM]
+
+With --gate the counts of `rt ci`, which ended with STATUS and wrote LOG, are added. PROGRAM is the program to run; with
+none it is the one that `rt ci` or the script `sqljson` built. The exit status is 0 where nothing failed.
+"""
+import argparse
+import sys
+from pathlib import Path
+
+from checks.command import check_command
+from checks.edges import check_edges
+from checks.examples import check_examples
+from checks.guide import check_guide
+from checks.program import Program
+from checks.tally import Tally
+from checks.texts import check_texts
+
+TOP = Path(__file__).resolve().parent.parent
+BUILT = TOP / "crates" / "sqljson" / "out" / "sqljson"
+
+
+def main():
+    words = argparse.ArgumentParser(prog="checks", description="Runs the repository's own checks.")
+    words.add_argument("--gate", nargs=2, metavar=("STATUS", "LOG"), help="add the counts of rt ci")
+    words.add_argument("program", nargs="?", help="the program to run")
+    given = words.parse_args()
+    tally = Tally()
+    if given.gate:
+        status, log = given.gate
+        tally.add_gate(int(status), Path(log).read_text(encoding="utf-8", errors="replace"))
+    program = Program(given.program or BUILT)
+    check_texts(tally, TOP)
+    if program.exists():
+        check_examples(tally, program, TOP / "examples")
+        check_guide(tally, program, TOP / "docs" / "GUIDE.md")
+        check_edges(tally, program)
+        if not given.program:
+            check_command(tally, TOP)
+    else:
+        tally.check("the program", "it was not built")
+    print(f"{tally.passed} passed, {tally.failed} failed")
+    return 1 if tally.failed else 0
+
+
+if __name__ == "__main__":
+    sys.exit(main())

@@ -1,0 +1,58 @@
+"""Checks of the repository's own texts."""
+import os
+import re
+from pathlib import Path
+
+HANDLES = "Handles allowed: none.\n"
+# Folders of one machine, written apart so that this file doesn't name one.
+PLACE = re.compile(r"(?<![\w./-])/(?:" + "|".join(["home", "root", "tmp", "opt", "mnt", "srv", "work", "farm", "Users"]) + r")/\w")
+LINK = re.compile(r"\]\(([^)#\s]+)[^)\s]*\)")
+KEPT_OUT = {".git", "out", "__pycache__"}
+TOLD_IN = ["README.md", "docs/ARCHITECTURE.md", "docs/PROOFS.md"]
+
+
+def check_texts(tally, top):
+    """Looks at HANDLES, at every text, and at what the documents link to and tell of."""
+    handles = text_of(top / "HANDLES")
+    tally.check("HANDLES", None if handles == HANDLES else f"it is {handles!r}, and not {HANDLES!r}")
+    read = {path: text_of(path) for path in texts(top)}
+    documents = {path: text for path, text in read.items() if path.suffix == ".md" and text is not None}
+    tally.check("places on one machine are named", listed(top, read, places))
+    tally.check("links to what isn't there", listed(top, documents, lost_links))
+    for name in TOLD_IN:
+        untold = [crate for crate in crates(top) if not re.search(rf"\b{crate}\b", documents.get(top / name, ""))]
+        tally.check(name, untold and f"it says nothing of {', '.join(untold)}")
+
+
+def listed(top, texts, look):
+    """Says what the search found in each text, or nothing where it found nothing."""
+    found = [f"{path.relative_to(top)} ({', '.join(look(path, text))})" for path, text in texts.items() if text and look(path, text)]
+    return "; ".join(found)
+
+
+def places(path, text):
+    return [f"line {number}" for number, line in enumerate(text.split("\n"), 1) if PLACE.search(line)]
+
+
+def lost_links(path, text):
+    return [link for link in LINK.findall(text) if "://" not in link and not (path.parent / link).exists()]
+
+
+def texts(top):
+    """Yields each file of the repository, but for what git and the builds keep there."""
+    for folder, folders, names in os.walk(top):
+        folders[:] = sorted(name for name in folders if name not in KEPT_OUT)
+        yield from (Path(folder, name) for name in sorted(names))
+
+
+def text_of(path):
+    """Reads a text, or nothing where the file is absent or no UTF-8."""
+    try:
+        return path.read_bytes().decode("utf-8")
+    except (FileNotFoundError, UnicodeDecodeError):
+        return None
+
+
+def crates(top):
+    lines = (top / "crates.txt").read_text(encoding="utf-8").split("\n")
+    return [line.partition("#")[0].partition(":")[0].split()[0] for line in lines if line.partition("#")[0].strip()]

@@ -1,0 +1,3 @@
+SELECT JSON_EXISTS(doc, 'lax $.a.b');
+SELECT JSON_EXISTS(doc, 'lax $.a');
+SELECT JSON_EXISTS(doc, 'lax $');

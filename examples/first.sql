@@ -1,0 +1,1 @@
+SELECT JSON_EXISTS(doc, 'lax $.a.b');

@@ -1,0 +1,2 @@
+SELECT JSON_EXISTS(doc, 'lax $.id');
+SELECT JSON_EXISTS(doc, 'lax $._private.lax');

@@ -1,0 +1,7 @@
+SELECT JSON_EXISTS(doc, 'lax $.customer');
+select json_exists(doc, 'lax $.customer.email');
+
+Select
+  Json_Exists(
+    doc, 'lax $.order.lines.sku'
+  );
