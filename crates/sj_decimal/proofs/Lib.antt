@@ -1,0 +1,14 @@
+pub mod Comparisons
+pub mod Digits
+pub mod Divisions
+pub mod Laws
+pub mod NormalForm
+pub mod NumberBytes
+pub mod Operations
+pub mod Powers
+pub mod Readings
+pub mod Reduced
+pub mod Roundings
+pub mod Shifts
+pub mod Significands
+pub mod Texts

@@ -1,0 +1,32 @@
+-- Powers of ten, and a test before a product.
+use Rattle.std.proofs.Common.{ℕ, ◌-◌, ◌*◌, ◌/◌, ◌^◌, ◌<◌, ◌≤◌, arith, lt_of_le_of_lt, lit<, mul-le-mul, div-lt_iff_lt-mul, le-div_iff_mul-le, le_refl}
+use Rattle.std.proofs.Math.Nat.{pow-le-pow_right, one-le-pow}
+
+pub power_pos : (k : ℕ) → 0 < 10 ^ k
+power_pos k = one-le-pow k 10 (lit< tt)
+
+pub power_le : (j k : ℕ) → j ≤ k → 10 ^ j ≤ 10 ^ k
+power_le j k h = pow-le-pow_right {n = 10} (lit< tt) h
+
+pub power_small : (k : ℕ) → k ≤ 38 → 10 ^ k ≤ 10 ^ 38
+power_small k h = power_le k 38 h
+
+pub power_fits : (k : ℕ) → k ≤ 38 → 10 ^ k < 2 ^ 128
+power_fits k h = lt_of_le_of_lt (power_small k h) (lit< tt)
+
+-- a number other than 0 has more than 38 digits with more than 38 zeros after it
+pub scaled_too_far : (m k : ℕ) → 0 < m → 38 ≤ k → 10 ^ 38 ≤ m * 10 ^ k
+scaled_too_far m k h far =
+    let big : 10 ^ 38 ≤ 10 ^ k = power_le 38 k far in
+    let grown : 1 * 10 ^ k ≤ m * 10 ^ k = mul-le-mul h (le_refl (10 ^ k)) in
+    omega (arith, big, grown)
+
+pub within_quotient : (m l p : ℕ) → 0 < p → 0 < l → m ≤ (l - 1) / p → m * p < l
+within_quotient m l p hp hl h =
+    let k : m * p ≤ l - 1 = (le-div_iff_mul-le {k = p} {x = m} {y = l - 1} hp).0 h in
+    omega arith
+
+pub past_quotient : (m l p : ℕ) → 0 < p → (l - 1) / p < m → l ≤ m * p
+past_quotient m l p hp h =
+    let k : l - 1 < m * p = (div-lt_iff_lt-mul {k = p} {x = l - 1} {y = m} hp).0 h in
+    omega arith

@@ -1,0 +1,12 @@
+pub mod Arithmetic
+pub mod Compare
+pub mod Magnitudes
+pub mod Normal
+pub mod Number
+pub mod Parses
+pub mod Parts
+pub mod Reading
+pub mod Rounding
+pub mod Signed
+pub mod Significant
+pub mod Text

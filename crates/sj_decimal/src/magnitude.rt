@@ -1,0 +1,53 @@
+//! Whole numbers without a sign.
+ghost use Rattle.std.specs.Prelude.{◌≡◌, ◌*◌, ◌^◌, ◌<◌, ◌≤◌};
+ghost use Rattle.std.specs.Option.{SomeIff};
+ghost use Rattle.sj_decimal.specs.Normal.{reduced};
+
+/// No coefficient reaches this number: it has at most 38 digits.
+pub(crate) const LIMIT: u128 = 100_000_000_000_000_000_000_000_000_000_000_000_000;
+
+/// The most decimals that an exact number has.
+pub(crate) const MAX_SCALE: u32 = 38;
+
+/// `magnitude / 10^scale` in normal form.
+pub(crate) fn reduce(magnitude: u128, scale: u32) -> (u128, u32)
+    ensures { result ≡ reduced magnitude scale }
+{
+    if magnitude == 0 {
+        return (0, 0);
+    }
+    let mut left = magnitude;
+    let mut places = scale;
+    while places > 0 && left % 10 == 0 {
+        left /= 10;
+        places -= 1;
+    }
+    (left, places)
+}
+
+/// `10^places`.
+pub(crate) fn power_of_ten(places: u32) -> u128
+    requires { places ≤ 38 }
+    ensures value { result ≡ 10 ^ places }
+    ensures positive { 0 < result }
+    ensures bound { result ≤ 10 ^ 38 }
+{
+    10u128.pow(places)
+}
+
+/// `magnitude * 10^places`, where that is below the limit.
+pub(crate) fn scaled(magnitude: u128, places: u32) -> Option<u128>
+    ensures { SomeIff result (magnitude * 10 ^ places < 10 ^ 38) (magnitude * 10 ^ places) }
+{
+    if magnitude == 0 {
+        return Some(0);
+    }
+    if places > MAX_SCALE {
+        return None;
+    }
+    let power = power_of_ten(places);
+    if magnitude > (LIMIT - 1) / power {
+        return None;
+    }
+    Some(magnitude * power)
+}

@@ -1,0 +1,110 @@
+//! Whole numbers near a decimal, and rounding.
+ghost use Rattle.std.specs.Prelude.{◌≡◌, ◌<◌, ◌≤◌, ◌^◌, ◌+◌, ◌*◌, ◌/◌, IfOk};
+ghost use Rattle.std.specs.Option.{SomeIff};
+ghost use Rattle.sj_decimal.specs.Signed.{signed};
+ghost use Rattle.sj_decimal.specs.Normal.{IsDecimal};
+ghost use Rattle.sj_decimal.specs.Rounding.{floor_of, ceiling_of, whole_of, rounded_within};
+ghost use Rattle.sj_decimal.specs.Magnitudes.{quotient_toward};
+
+use crate::arithmetic::NumFault;
+use crate::decimal::Decimal;
+use crate::magnitude::{power_of_ten, scaled};
+
+impl Decimal {
+    /// The greatest whole number that is not above this one (ISO/IEC 9075-2, 6.30, numeric value function).
+    pub fn floor(self) -> Decimal
+        ensures value { result ≡ (floor_of self, 0) }
+        ensures decimal { IsDecimal result }
+    {
+        Decimal::whole(
+            self.negative,
+            whole_magnitude(self.magnitude, self.scale, self.negative),
+        )
+    }
+
+    /// The least whole number that is not below this one (ISO/IEC 9075-2, 6.30, numeric value function).
+    pub fn ceiling(self) -> Decimal
+        ensures value { result ≡ (ceiling_of self, 0) }
+        ensures decimal { IsDecimal result }
+    {
+        Decimal::whole(
+            self.negative,
+            whole_magnitude(self.magnitude, self.scale, !self.negative),
+        )
+    }
+
+    fn whole(negative: bool, magnitude: u128) -> Decimal
+        requires { magnitude < 10 ^ 38 }
+        ensures value { result ≡ (signed negative magnitude, 0) }
+        ensures decimal { IsDecimal result }
+    {
+        Decimal::exact(negative, magnitude, 0)
+    }
+
+    /// The whole number that is left where the decimals are cut off.
+    pub fn to_whole(self) -> i128
+        ensures { result ≡ whole_of self }
+    {
+        let magnitude = (self.magnitude / power_of_ten(self.scale)) as i128;
+        if self.negative { -magnitude } else { magnitude }
+    }
+
+    /// This number rounded to `s` decimals, half away from zero, where that has at most `p` digits: the value of a cast to
+    /// NUMERIC(p, s) (ISO/IEC 9075-2, 6.13, cast specification).
+    ///
+    /// # Errors
+    /// `Range` exactly where the rounded number times 10^s reaches 10^p in magnitude.
+    pub fn round_to(self, p: u32, s: u32) -> Result<Decimal, NumFault>
+        requires some_digits { 1 ≤ p }
+        requires digits { p ≤ 38 }
+        requires decimals { s ≤ p }
+        ensures value { result ≡ rounded_within p s self }
+        ensures decimal { IfOk result IsDecimal }
+    {
+        let Some(magnitude) = rounded_magnitude(self.magnitude, self.scale, s) else {
+            return Err(NumFault::Range);
+        };
+        if magnitude >= power_of_ten(p) {
+            return Err(NumFault::Range);
+        }
+        match Decimal::normalized(self.negative, magnitude, s) {
+            Some(number) => Ok(number),
+            None => Err(NumFault::Range),
+        }
+    }
+}
+
+/// `magnitude / 10^scale` with its decimals cut off, or with the next whole number in place of any decimals.
+fn whole_magnitude(magnitude: u128, scale: u32, away: bool) -> u128
+    requires magnitude { magnitude < 10 ^ 38 }
+    requires scale { scale ≤ 38 }
+    ensures value { result ≡ quotient_toward away magnitude (10 ^ scale) }
+    ensures bound { result ≤ magnitude }
+{
+    let power = power_of_ten(scale);
+    let whole = magnitude / power;
+    if away && magnitude % power != 0 {
+        whole + 1
+    } else {
+        whole
+    }
+}
+
+/// `magnitude / 10^scale * 10^places` rounded half up, where that is below the limit.
+fn rounded_magnitude(magnitude: u128, scale: u32, places: u32) -> Option<u128>
+    requires magnitude { magnitude < 10 ^ 38 }
+    requires scale { scale ≤ 38 }
+    ensures { SomeIff result ((2 * (magnitude * 10 ^ places) + 10 ^ scale) / (2 * 10 ^ scale) < 10 ^ 38) ((2 * (magnitude * 10 ^ places) + 10 ^ scale) / (2 * 10 ^ scale)) }
+{
+    if places >= scale {
+        return scaled(magnitude, places - scale);
+    }
+    let power = power_of_ten(scale - places);
+    let whole = magnitude / power;
+    let rest = magnitude % power;
+    Some(if rest >= power - rest {
+        whole + 1
+    } else {
+        whole
+    })
+}

@@ -1,0 +1,89 @@
+//! The text of a decimal.
+ghost use Rattle.std.specs.Prelude.{◌≡◌, ◌+◌, ◌*◌, ◌/◌, ◌^◌, ◌<◌, ◌≤◌, ◌++◌, length, decimal, unsigned_abs, Some};
+ghost use Rattle.std.specs.Fmt.{sign_text};
+ghost use Rattle.sj_decimal.specs.Signed.{signed};
+ghost use Rattle.sj_decimal.specs.Normal.{IsBelowLimit};
+ghost use Rattle.sj_decimal.specs.Number.{SpellsExact};
+ghost use Rattle.sj_decimal.specs.Text.{decimal_text, decimals_text, with_places, FitsPlaces};
+ghost use Rattle.arrayvec.specs.ArrayString.{array_string_len};
+
+use crate::decimal::Decimal;
+use crate::magnitude::power_of_ten;
+use arrayvec::ArrayString;
+use itoa::Buffer;
+use std::fmt;
+
+impl Decimal {
+    /// The text: a minus sign where the number is negative, the whole part, and where there are decimals a point and the
+    /// decimals. It is a number of RFC 8259, section 6, that spells this decimal.
+    pub fn text(self) -> ArrayString<48>
+        ensures value { result.bytes ≡ decimal_text self }
+        ensures spells { SpellsExact result.bytes self }
+    {
+        written(self.negative, self.magnitude, self.scale)
+    }
+
+    /// The text with exactly this many decimals. The number times 10^places has to be whole, and below 10^38 in magnitude.
+    pub fn text_places(self, places: u32) -> ArrayString<48>
+        requires places { places ≤ 38 }
+        requires fits { FitsPlaces places self }
+        ensures { result.bytes ≡ decimal_text (with_places places self) }
+    {
+        let magnitude = self.magnitude * power_of_ten(places - self.scale);
+        written(self.negative, magnitude, places)
+    }
+}
+
+impl fmt::Display for Decimal {
+    ghost output = { λ d. Some (decimal_text d) };
+
+    fn fmt<W: fmt::Write>(&self, f: &mut fmt::Formatter<W>) -> fmt::Result {
+        f.write_str(self.text().as_str())
+    }
+}
+
+impl fmt::Debug for Decimal {
+    fn fmt<W: fmt::Write>(&self, f: &mut fmt::Formatter<W>) -> fmt::Result {
+        f.write_str(self.text().as_str())
+    }
+}
+
+/// A minus sign where the number is negative.
+fn sign(negative: bool) -> ArrayString<48>
+    ensures { result.bytes ≡ sign_text negative }
+{
+    let mut text = ArrayString::new();
+    if negative {
+        text.push('-');
+    }
+    text
+}
+
+/// The text of `magnitude / 10^scale` with this sign.
+fn written(negative: bool, magnitude: u128, scale: u32) -> ArrayString<48>
+    requires magnitude { magnitude < 10 ^ 38 }
+    requires scale { scale ≤ 38 }
+    ensures { result.bytes ≡ sign_text negative ++ (decimal (magnitude / 10 ^ scale) ++ decimals_text scale magnitude) }
+{
+    let mut text = sign(negative);
+    text.push_str(Buffer::new().format(magnitude / power_of_ten(scale)));
+    push_decimals(&mut text, magnitude, scale);
+    text
+}
+
+/// Appends a point and the last `scale` digits of `magnitude`, where `scale` is not 0.
+fn push_decimals(text: &mut ArrayString<48>, magnitude: u128, scale: u32)
+    requires scale { scale ≤ 38 }
+    requires room { array_string_len text.old + length (decimals_text scale magnitude) ≤ 48 }
+    ensures { text.new.bytes ≡ text.old.bytes ++ decimals_text scale magnitude }
+{
+    if scale == 0 {
+        return;
+    }
+    text.push('.');
+    // A one before the decimals keeps their zeros.
+    let power = power_of_ten(scale);
+    let mut buffer = Buffer::new();
+    let digits = buffer.format(power + magnitude % power);
+    text.push_str(&digits[1..]);
+}
