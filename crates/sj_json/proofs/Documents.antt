@@ -1,9 +1,9 @@
 -- The document of a text is the tree that it spells.
-use Rattle.std.proofs.Common.{◌≡◌, ◌⊎◌, inl, inr, ℕ, ◌≤◌, List, length, Bool, true, false, cond, ◌&&◌, nat_le, Option, Some, None, IsUtf8, refl, sym, ◌∙◌, ap, subst, arith}
+use Rattle.std.proofs.Common.{◌≡◌, ℕ, ◌≤◌, List, length, Bool, true, false, cond, ◌&&◌, nat_le, Option, Some, None, refl, ◌∙◌, ap, arith}
 use Rattle.std.proofs.lemmas.Bool.Decides.{nat_tests}
 use Rattle.std.proofs.lemmas.Str.{IsUtf8-from_is_utf8, is_utf8-from_IsUtf8}
 use Rattle.std.specs.Str.{is_utf8}
-use Rattle.sj_json.specs.Tree.{Tree, depth}
+use Rattle.sj_json.specs.Tree.{Tree}
 use Rattle.sj_json.specs.Spelling.{SpellsText, IsJson, max_length, max_depth}
 use Rattle.sj_json.specs.Machine.{reading}
 use Rattle.sj_json.specs.Document.{document}

@@ -1,6 +1,8 @@
 pub mod Places
 pub mod Buildings
 pub mod Links
+pub mod Numbers
+pub mod Escapes
 pub mod Complete
 pub mod Sound
 pub mod Printed

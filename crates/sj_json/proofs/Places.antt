@@ -2,7 +2,7 @@
 use Rattle.std.proofs.Common.{◌≡◌, ℕ, suc, zero, ◌+◌, ◌-◌, ◌<◌, ◌≤◌, List, [], ◌++◌, length, drop, get_or, Option, Some, None, refl, sym, ap, ◌∙◌, subst, append_assoc, length-append, arith, inl, inr}
 use Rattle.std.proofs.lemmas.List.{append-nil, drop_at, drop-append-le, drop-drop, get_or_append_left, get_or-append_right}
 use Rattle.std.proofs.lemmas.Bool.{cases_lt}
-use Rattle.sj_json.specs.Tree.{Tree, null, truth, string, array, object, Items, no_items, item, Members, no_members, member, below, items_size, members_size, subtrees, items_subtrees, members_subtrees}
+use Rattle.sj_json.specs.Tree.{Tree, null, truth, string, number, array, object, Items, no_items, item, Members, no_members, member, below, items_size, members_size, subtrees, items_subtrees, members_subtrees}
 use Rattle.sj_json.specs.Cells.{Entry, layout, layout_items, layout_members}
 
 -- ---- sizes
@@ -12,6 +12,7 @@ mutual
   length-layout k null = refl
   length-layout k (truth b) = refl
   length-layout k (string s) = refl
+  length-layout k (number v) = refl
   length-layout k (array ts) = omega (arith, length-layout_items ts)
   length-layout k (object ms) = omega (arith, length-layout_members ms)
 
@@ -28,6 +29,7 @@ mutual
   length-subtrees null = refl
   length-subtrees (truth b) = refl
   length-subtrees (string s) = refl
+  length-subtrees (number v) = refl
   length-subtrees (array ts) = omega (arith, length-items_subtrees ts)
   length-subtrees (object ms) = omega (arith, length-members_subtrees ms)
 
@@ -76,7 +78,9 @@ mutual
   lies_at k (truth b) zero h = alone k (truth b)
   lies_at k (truth b) (suc i) h = absurd (omega arith)
   lies_at k (string s) zero h = alone k (string s)
+  lies_at k (number v) zero h = alone k (number v)
   lies_at k (string s) (suc i) h = absurd (omega arith)
+  lies_at k (number v) (suc i) h = absurd (omega arith)
   lies_at k (array ts) zero h = alone k (array ts)
   lies_at k (array ts) (suc i) h = lies_at_items ts i (omega arith)
   lies_at k (object ms) zero h = alone k (object ms)

@@ -1,12 +1,18 @@
 -- What the reader of bytes gives is spelled so by the text.
-use Rattle.std.proofs.Common.{◌≡◌, ℕ, ◌+◌, ◌<◌, ◌≤◌, max, List, [], ◌∷◌, ◌++◌, length, Bool, true, false, cond, ◌==◌, nat_lt, Option, Some, None, IfSome, option_and_then, codes, refl, sym, ap, ◌∙◌, subst, append_assoc, arith}
+use Rattle.std.proofs.Common.{◌≡◌, ℕ, ◌+◌, ◌<◌, ◌≤◌, max, List, [], ◌∷◌, ◌++◌, length, Bool, true, false, cond, ◌==◌, nat_lt, Option, Some, None, IfSome, option_map, option_and_then, codes, refl, sym, ap, ◌∙◌, subst, append_assoc, arith}
 use Rattle.std.specs.List.{AllByRecursion}
+use Rattle.std.specs.Char.{encode_utf8}
 use Rattle.std.proofs.lemmas.List.{append-nil}
 use Rattle.std.proofs.lemmas.Bool.{eqb-true, ltb-true}
-use Rattle.sj_json.specs.Tree.{Tree, null, truth, string, array, object, Items, no_items, item, Members, no_members, member, depth, items_depth, members_depth}
-use Rattle.sj_json.specs.Building.{Part, top, elements, pairs, State, items_push, members_push, put, put_key, empty, fresh}
-use Rattle.sj_json.specs.Spelling.{is_blank, IsBlank, Blank, Spaced, Sign, is_plain, IsPlain, Quoted, Spells, SpellsItems, SpellsMoreItems, SpellsMembers, SpellsMoreMembers, SpellsText}
-use Rattle.sj_json.specs.Machine.{Mode, value, value_or_close, key, key_or_close, colon, after_value, letters, quoted, Turn, open_turn, close_turn, start, separate, turn, ending, run, reading}
+use Rattle.sj_json.specs.Tree.{Number, Tree, null, truth, string, number, array, object, Items, no_items, item, Members, no_members, member, depth, items_depth, members_depth}
+use Rattle.sj_json.specs.Building.{Part, top, elements, pairs, State, items_push, members_push, put, put_key, with_value, empty, fresh}
+use Rattle.sj_json.specs.Strings.{is_plain, Piece, plain, IsPiece, piece_bytes, piece_text, Writes, Quoted}
+use Rattle.sj_json.proofs.Escapes.{Pending, Leads, escape_leads, writes_none, writes_push}
+use Rattle.sj_json.specs.Spelling.{is_blank, IsBlank, Blank, Spaced, Sign, Spells, SpellsItems, SpellsMoreItems, SpellsMembers, SpellsMoreMembers, SpellsText}
+use Rattle.sj_decimal.specs.Number.{is_number_byte, begins_number}
+use Rattle.sj_json.specs.Numbers.{number_of}
+use Rattle.sj_json.proofs.Numbers.{number_sound}
+use Rattle.sj_json.specs.Machine.{Mode, value, value_or_close, key, key_or_close, colon, after_value, letters, quoted, escaped, Escape, begun, Step, wait, char, escape_step, after_step, end_quote, digits, end_number, root, unless_blank, Turn, open_turn, close_turn, start, separate, turn, ending, run, reading}
 
 push_all : {X : Type 0} (P : X → Type 0) (xs : List X) (x : X) → AllByRecursion P xs → P x → AllByRecursion P (xs ++ x ∷ [])
 push_all P [] x h p = (p, tt)
@@ -72,6 +78,15 @@ FreshMembers (pairs (member k t ms) None) y = ⊥
 abbrev Trail : (List ℕ → Type 0) → List ℕ → Type 0
 Trail P x = (y : List ℕ) × (w : List ℕ) × P y × Blank w × (x ≡ y ++ w)
 
+-- before a string: a key, or else a value
+abbrev Before : Bool → Part → List ℕ → Type 0
+Before false p y = Slot p y
+Before true p y = KeySlot p y
+
+-- in a string that has the text a so far, and then the bytes r of an escape
+abbrev InString : Bool → List ℕ → Part → List ℕ → List ℕ → Type 0
+InString k a p r x = (y : List ℕ) × (w : List ℕ) × (m : List ℕ) × Before k p y × Blank w × Writes a m × (x ≡ y ++ (w ++ (34 ∷ m ++ r)))
+
 abbrev At : Mode → Part → List ℕ → Type 0
 At value p x = Trail (Slot p) x
 At value_or_close p x = Trail (FreshItems p) x
@@ -80,8 +95,9 @@ At key_or_close p x = Trail (FreshMembers p) x
 At colon p x = Trail (ColonSlot p) x
 At after_value p x = Trail (Done p) x
 At (letters r t) p x = (y : List ℕ) × (w : List ℕ) × (l : List ℕ) × Slot p y × Blank w × Spells t (l ++ r) × (depth t ≡ 0) × (x ≡ y ++ (w ++ l))
-At (quoted false a) p x = (y : List ℕ) × (w : List ℕ) × Slot p y × Blank w × AllByRecursion IsPlain a × (x ≡ y ++ (w ++ 34 ∷ a))
-At (quoted true a) p x = (y : List ℕ) × (w : List ℕ) × KeySlot p y × Blank w × AllByRecursion IsPlain a × (x ≡ y ++ (w ++ 34 ∷ a))
+At (quoted k a) p x = InString k a p [] x
+At (escaped k a e) p x = (r : List ℕ) × Pending e r × InString k a p (92 ∷ r) x
+At (digits a) p x = (y : List ℕ) × (w : List ℕ) × Slot p y × Blank w × (x ≡ y ++ (w ++ a))
 
 abbrev IsTop : Part → Type 0
 IsTop (top o) = Unit {0}
@@ -271,10 +287,27 @@ module _ (limit : ℕ) where
   same_part m n s c b h f = (h.0, h.1 ++ b ∷ [], h.2, f h.1 h.3, h.4, ap (λ (z : List ℕ). z ++ b ∷ []) h.5 ∙ append_assoc h.0 h.1 (b ∷ []))
 
   -- a value ends with this byte
+  value_comes : (p : Part) (qs : List Part) (t : Tree) (c o y z : List ℕ) → Outside p qs o → Slot p y → Spaced (Spells t) z → Shallow limit p qs → depth t + length qs ≤ limit → c ≡ o ++ (y ++ z)
+      → Consumed limit after_value (put t p, qs) c
+  value_comes p qs t c o y z out slot sp sh d e =
+      (o, y ++ z, outside_put p qs t o out, ended (Done (put t p)) (y ++ z) (put_done t p y z slot sp), shallow_put limit p qs t sh d, e)
+
   value_ends : (p : Part) (qs : List Part) (t : Tree) (c o y z : List ℕ) (b : ℕ) → Outside p qs o → Slot p y → Spaced (Spells t) z → Shallow limit p qs → depth t + length qs ≤ limit → c ++ b ∷ [] ≡ o ++ (y ++ z)
       → Consumed limit after_value (put t p, qs) (c ++ b ∷ [])
-  value_ends p qs t c o y z b out slot sp sh d e =
-      (o, y ++ z, outside_put p qs t o out, ended (Done (put t p)) (y ++ z) (put_done t p y z slot sp), shallow_put limit p qs t sh d, e)
+  value_ends p qs t c o y z b out slot sp sh d e = value_comes p qs t (c ++ b ∷ []) o y z out slot sp sh d e
+
+  -- a number ends, before this byte
+  number_comes : (a : List ℕ) (s : State) (c : List ℕ) (o : Option Number) → number_of a ≡ o → Consumed limit (digits a) s c
+      → IfSome (option_map (λ (v : Number). with_value (number v) s) o) (λ (t : State). Consumed limit after_value t c)
+  number_comes a s c None e h = tt
+  number_comes a s c (Some v) e h =
+      let at = h.3 in
+      value_comes s.0 s.1 (number v) c h.0 at.0 (at.1 ++ a) h.2 at.2 (at.1, a, at.3, number_sound a v e, refl) h.4 (omega (arith, shallow_length limit s.0 s.1 h.4))
+      (h.5 ∙ ap (λ (x : List ℕ). h.0 ++ x) at.4)
+
+  goes_on : {X : Type 0} (P : X → Type 0) (K : X → Turn) (G : Mode × State → Type 0) (o : Option X) → IfSome o P → ((x : X) → P x → IfSome (K x) G) → IfSome (option_and_then K o) G
+  goes_on P K G None h f = tt
+  goes_on P K G (Some x) h f = f x h
 
   open_keeps : (kind : Bool) (p : Part) (qs : List Part) (c o y w : List ℕ) (b : ℕ) → Outside p qs o → Slot p y → Blank w → Shallow limit p qs → c ≡ o ++ (y ++ w) → b ≡ bracket (empty kind)
       → IfSome (open_turn limit kind (p, qs)) (Keeps limit c b)
@@ -315,14 +348,16 @@ module _ (limit : ℕ) where
       let w = trail.1 in
       let e : c ≡ o ++ (y ++ w) = h.5 ∙ ap (λ (x : List ℕ). o ++ x) trail.4 in
       let G = Keeps limit c b in
-      split (b == 34) _ _ G
-      (λ is. (o, y ++ (w ++ 34 ∷ []), h.2, (y, w, trail.2, trail.3, tt, refl), h.4, ap (λ (z : List ℕ). z ++ b ∷ []) e ∙ ap (λ (x : ℕ). (o ++ (y ++ w)) ++ x ∷ []) (eqb-true b 34 is) ∙ simp append_assoc))
+      split (begins_number b) _ _ G
+      (λ _. (o, y ++ (w ++ b ∷ []), h.2, (y, w, trail.2, trail.3, refl), h.4, ap (λ (z : List ℕ). z ++ b ∷ []) e ∙ simp append_assoc))
+      (λ _. split (b == 34) _ _ G
+      (λ is. (o, y ++ (w ++ 34 ∷ []), h.2, (y, w, [], trail.2, trail.3, writes_none, refl), h.4, ap (λ (z : List ℕ). z ++ b ∷ []) e ∙ ap (λ (x : ℕ). (o ++ (y ++ w)) ++ x ∷ []) (eqb-true b 34 is) ∙ simp append_assoc))
       (λ _. split (b == 91) _ _ G (λ is. open_keeps false p qs c o y w b h.2 trail.2 trail.3 h.4 e (eqb-true b 91 is))
       (λ _. split (b == 123) _ _ G (λ is. open_keeps true p qs c o y w b h.2 trail.2 trail.3 h.4 e (eqb-true b 123 is))
       (λ _. split (b == 110) _ _ G (λ is. word_begins p qs c o y w (codes "ull") null b h.2 trail.2 trail.3 h.4 e (ap (λ (x : ℕ). x ∷ codes "ull") (eqb-true b 110 is)) refl)
       (λ _. split (b == 116) _ _ G (λ is. word_begins p qs c o y w (codes "rue") (truth true) b h.2 trail.2 trail.3 h.4 e (ap (λ (x : ℕ). x ∷ codes "rue") (eqb-true b 116 is)) refl)
       (λ _. split (b == 102) _ _ G (λ is. word_begins p qs c o y w (codes "alse") (truth false) b h.2 trail.2 trail.3 h.4 e (ap (λ (x : ℕ). x ∷ codes "alse") (eqb-true b 102 is)) refl)
-      (λ _. tt))))))
+      (λ _. tt)))))))
 
   close_keeps : (p : Part) (qs : List Part) (c o y w : List ℕ) (b : ℕ) → Outside p qs o → Inside p y → Blank w → b ≡ closer p → Shallow limit p qs → c ≡ o ++ (y ++ w) → IfSome (close_turn (p, qs)) (Keeps limit c b)
   close_keeps (top u) qs c o y w b out inside blank is sh e = absurd inside
@@ -345,7 +380,7 @@ module _ (limit : ℕ) where
   -- a key's quotation mark
   quote_keeps : (p : Part) (qs : List Part) (c o y w : List ℕ) (b : ℕ) → Outside p qs o → KeySlot p y → Blank w → Shallow limit p qs → c ≡ o ++ (y ++ w) → b ≡ 34 → Keeps limit c b (quoted true [], (p, qs))
   quote_keeps p qs c o y w b out slot blank sh e is =
-      (o, y ++ (w ++ 34 ∷ []), out, (y, w, slot, blank, tt, refl), sh, ap (λ (z : List ℕ). z ++ b ∷ []) e ∙ ap (λ (x : ℕ). (o ++ (y ++ w)) ++ x ∷ []) is ∙ simp append_assoc)
+      (o, y ++ (w ++ 34 ∷ []), out, (y, w, [], slot, blank, writes_none, refl), sh, ap (λ (z : List ℕ). z ++ b ∷ []) e ∙ ap (λ (x : ℕ). (o ++ (y ++ w)) ++ x ∷ []) is ∙ simp append_assoc)
 
   separate_keeps : (p : Part) (qs : List Part) (c o y w : List ℕ) (b : ℕ) → Outside p qs o → Done p y → Blank w → Shallow limit p qs → c ≡ o ++ (y ++ w) → IfSome (separate (p, qs) b) (Keeps limit c b)
   separate_keeps (top u) qs c o y w b out done blank sh e = tt
@@ -395,6 +430,84 @@ module _ (limit : ℕ) where
   close_fresh_members (pairs no_members None) qs c o y w b out inside blank is sh e = close_keeps (pairs no_members None) qs c o y w b out inside blank is sh e
   close_fresh_members (pairs (member k t ms) None) qs c o y w b out inside blank is sh e = absurd inside
 
+  after_keeps : (s : State) (c : List ℕ) (b : ℕ) → Consumed limit after_value s c → IfSome (turn limit after_value s b) (Keeps limit c b)
+  after_keeps s c b h =
+      let trail = h.3 in
+      let e : c ≡ h.0 ++ (trail.0 ++ trail.1) = h.5 ∙ ap (λ (x : List ℕ). h.0 ++ x) trail.4 in
+      split (is_blank b) _ _ (Keeps limit c b) (λ k. same_part after_value after_value s c b h (λ x a. trail_blank (Done s.0) x b a k))
+      (λ _. separate_keeps s.0 s.1 c h.0 trail.0 trail.1 b h.2 trail.2 trail.3 h.4 e)
+
+  -- the string grows by a piece
+  piece_comes : (k : Bool) (a : List ℕ) (p : Part) (r : List ℕ) (x : List ℕ) (b : ℕ) (q : Piece) (t : List ℕ) → InString k a p r x → IsPiece q → piece_text q ≡ t → piece_bytes q ≡ r ++ b ∷ [] → InString k (a ++ t) p [] (x ++ b ∷ [])
+  piece_comes k a p r x b q t h good text bytes = (
+    h.0,
+    h.1,
+    h.2 ++ (r ++ b ∷ []),
+    h.3,
+    h.4,
+    writes_push a h.2 q t (r ++ b ∷ []) h.5 good text bytes,
+    ap (λ (z : List ℕ). z ++ b ∷ []) h.6 ∙ longer h.0 h.1 h.2 r b,
+  )
+    where
+      longer : (y w m r : List ℕ) (b : ℕ) → (y ++ (w ++ (34 ∷ m ++ r))) ++ b ∷ [] ≡ y ++ (w ++ (34 ∷ (m ++ (r ++ b ∷ [])) ++ []))
+      longer y w m r b =
+          append_assoc y (w ++ (34 ∷ m ++ r)) (b ∷ [])
+          ∙ ap (λ (z : List ℕ). y ++ z) (append_assoc w (34 ∷ m ++ r) (b ∷ []) ∙ ap (λ (z : List ℕ). w ++ (34 ∷ z)) (append_assoc m r (b ∷ []) ∙ sym (append-nil (m ++ (r ++ b ∷ [])))))
+
+  -- the escape goes on
+  escape_grows : (k : Bool) (a : List ℕ) (p : Part) (r : List ℕ) (x : List ℕ) (b : ℕ) → InString k a p r x → InString k a p (r ++ b ∷ []) (x ++ b ∷ [])
+  escape_grows k a p r x b h = (
+    h.0,
+    h.1,
+    h.2,
+    h.3,
+    h.4,
+    h.5,
+    ap (λ (z : List ℕ). z ++ b ∷ []) h.6 ∙ append_assoc h.0 (h.1 ++ (34 ∷ h.2 ++ r)) (b ∷ [])
+        ∙ ap (λ (z : List ℕ). h.0 ++ z) (append_assoc h.1 (34 ∷ h.2 ++ r) (b ∷ []) ∙ ap (λ (z : List ℕ). h.1 ++ (34 ∷ z)) (append_assoc h.2 r (b ∷ []))),
+  )
+
+  mapped : {X : Type 0} (P : X → Type 0) (f : X → Mode × State) (G : Mode × State → Type 0) (o : Option X) → IfSome o P → ((x : X) → P x → G (f x)) → IfSome (option_map f o) G
+  mapped P f G None h g = tt
+  mapped P f G (Some x) h g = g x h
+
+  escape_keeps : (k : Bool) (q : List ℕ) (e : Escape) (s : State) (c : List ℕ) (b : ℕ) → Consumed limit (escaped k q e) s c → IfSome (turn limit (escaped k q e) s b) (Keeps limit c b)
+  escape_keeps k q e s c b h =
+      let a = h.3 in
+      mapped (Leads (a.0 ++ b ∷ [])) (after_step k q s) (Keeps limit c b) (escape_step e b) (escape_leads e a.0 b a.1)
+      (λ st leads. stepped k q a.0 s c b h.0 h.1 h.2 a.2 h.4 h.5 st leads)
+    where
+      stepped : (k : Bool) (q r : List ℕ) (s : State) (c : List ℕ) (b : ℕ) (o x : List ℕ) → Outside s.0 s.1 o → InString k q s.0 (92 ∷ r) x → Shallow limit s.0 s.1 → c ≡ o ++ x
+          → (st : Step) → Leads (r ++ b ∷ []) st → Keeps limit c b (after_step k q s st)
+      stepped k q r s c b o x out a sh e (wait n) leads =
+          (o, x ++ b ∷ [], out, (r ++ b ∷ [], leads, escape_grows k q s.0 (92 ∷ r) x b a), sh, ap (λ (z : List ℕ). z ++ b ∷ []) e ∙ append_assoc o x (b ∷ []))
+      stepped k q r s c b o x out a sh e (char v) leads =
+          (o, x ++ b ∷ [], out, piece_comes k q s.0 (92 ∷ r) x b leads.0 (encode_utf8 v) a leads.1 leads.3 leads.2, sh, ap (λ (z : List ℕ). z ++ b ∷ []) e ∙ append_assoc o x (b ∷ []))
+
+  -- the text of a string with its quotation marks
+  closed_text : (y w m : List ℕ) (x : List ℕ) (b : ℕ) → x ≡ y ++ (w ++ (34 ∷ m ++ [])) → b ≡ 34 → x ++ b ∷ [] ≡ y ++ (w ++ (34 ∷ m ++ 34 ∷ []))
+  closed_text y w m x b e is =
+      ap (λ (z : List ℕ). z ++ b ∷ []) (e ∙ ap (λ (z : List ℕ). y ++ (w ++ (34 ∷ z))) (append-nil m)) ∙ ap (λ (z : ℕ). (y ++ (w ++ 34 ∷ m)) ++ z ∷ []) is
+      ∙ append_assoc y (w ++ 34 ∷ m) (34 ∷ []) ∙ ap (λ (z : List ℕ). y ++ z) (append_assoc w (34 ∷ m) (34 ∷ []))
+
+  quote_ends : (k : Bool) (q : List ℕ) (s : State) (c : List ℕ) (b : ℕ) → Consumed limit (quoted k q) s c → b ≡ 34 → Keeps limit c b (end_quote k q s)
+  quote_ends false q s c b h is =
+      let a = h.3 in
+      value_ends s.0 s.1 (string q) c h.0 a.0 (a.1 ++ (34 ∷ a.2 ++ 34 ∷ [])) b h.2 a.3 (a.1, 34 ∷ a.2 ++ 34 ∷ [], a.4, (a.2, a.5, refl), refl) h.4 (omega (arith, shallow_length limit s.0 s.1 h.4))
+      (ap (λ (z : List ℕ). z ++ b ∷ []) h.5 ∙ append_assoc h.0 h.1 (b ∷ []) ∙ ap (λ (z : List ℕ). h.0 ++ z) (closed_text a.0 a.1 a.2 h.1 b a.6 is))
+  quote_ends true q s c b h is =
+      let a = h.3 in
+      key_ends s.0 s.1 q c h.0 a.0 (a.1 ++ (34 ∷ a.2 ++ 34 ∷ [])) b h.2 a.3 (a.1, 34 ∷ a.2 ++ 34 ∷ [], a.4, (a.2, a.5, refl), refl) h.4
+      (ap (λ (z : List ℕ). z ++ b ∷ []) h.5 ∙ append_assoc h.0 h.1 (b ∷ []) ∙ ap (λ (z : List ℕ). h.0 ++ z) (closed_text a.0 a.1 a.2 h.1 b a.6 is))
+
+  string_keeps : (k : Bool) (q : List ℕ) (s : State) (c : List ℕ) (b : ℕ) → Consumed limit (quoted k q) s c → IfSome (turn limit (quoted k q) s b) (Keeps limit c b)
+  string_keeps k q s c b h =
+      split (b == 34) _ _ (Keeps limit c b) (λ is. quote_ends k q s c b h (eqb-true b 34 is))
+      (λ _. split (is_plain b) _ _ (Keeps limit c b) (λ good. same_part (quoted k q) (quoted k (q ++ b ∷ [])) s c b h (λ x a. piece_comes k q s.0 [] x b (plain b) (b ∷ []) a good refl refl))
+      (λ _. split (b == 92) _ _ (Keeps limit c b)
+      (λ is. same_part (quoted k q) (escaped k q begun) s c b h (λ x a. ([], refl, subst (λ (z : ℕ). InString k q s.0 (z ∷ []) (x ++ b ∷ [])) (eqb-true b 92 is) (escape_grows k q s.0 [] x b a))))
+      (λ _. tt)))
+
   turn_keeps : (m : Mode) (s : State) (c : List ℕ) (b : ℕ) → Consumed limit m s c → IfSome (turn limit m s b) (Keeps limit c b)
   turn_keeps value s c b h =
       split (is_blank b) (Some (value, s)) (start limit s b) (Keeps limit c b) (λ k. same_part value value s c b h (λ x a. trail_blank (Slot s.0) x b a k)) (λ _. start_keeps s.0 s.1 c b h)
@@ -418,11 +531,13 @@ module _ (limit : ℕ) where
   turn_keeps colon s c b h =
       split (is_blank b) _ _ (Keeps limit c b) (λ k. same_part colon colon s c b h (λ x a. trail_blank (ColonSlot s.0) x b a k))
       (λ _. split (b == 58) _ _ (Keeps limit c b) (λ is. same_part colon value s c b h (λ x a. colon_keeps s.0 x b a (eqb-true b 58 is))) (λ _. tt))
-  turn_keeps after_value s c b h =
-      let trail = h.3 in
-      let e : c ≡ h.0 ++ (trail.0 ++ trail.1) = h.5 ∙ ap (λ (x : List ℕ). h.0 ++ x) trail.4 in
-      split (is_blank b) _ _ (Keeps limit c b) (λ k. same_part after_value after_value s c b h (λ x a. trail_blank (Done s.0) x b a k))
-      (λ _. separate_keeps s.0 s.1 c h.0 trail.0 trail.1 b h.2 trail.2 trail.3 h.4 e)
+  turn_keeps after_value s c b h = after_keeps s c b h
+  turn_keeps (digits q) s c b h =
+      let a = h.3 in
+      let e : c ≡ h.0 ++ (a.0 ++ (a.1 ++ q)) = h.5 ∙ ap (λ (x : List ℕ). h.0 ++ x) a.4 in
+      split (is_number_byte b) _ _ (Keeps limit c b)
+      (λ _. (h.0, a.0 ++ (a.1 ++ (q ++ b ∷ [])), h.2, (a.0, a.1, a.2, a.3, refl), h.4, ap (λ (z : List ℕ). z ++ b ∷ []) e ∙ simp append_assoc))
+      (λ _. goes_on (λ (t : State). Consumed limit after_value t c) (λ (t : State). unless_blank b after_value t (separate t b)) (Keeps limit c b) (end_number q s) (number_comes q s c (number_of q) refl h) (λ t k. after_keeps t c b k))
   turn_keeps (letters [] t) s c b h = tt
   turn_keeps (letters (x ∷ []) t) s c b h =
       let a = h.3 in
@@ -444,24 +559,8 @@ module _ (limit : ℕ) where
         ap (λ (z : List ℕ). z ++ b ∷ []) e ∙ simp append_assoc,
       ))
       (λ _. tt)
-  turn_keeps (quoted false q) s c b h =
-      let a = h.3 in
-      let e : c ≡ h.0 ++ (a.0 ++ (a.1 ++ 34 ∷ q)) = h.5 ∙ ap (λ (x : List ℕ). h.0 ++ x) a.5 in
-      split (b == 34) _ _ (Keeps limit c b)
-      (λ is. value_ends s.0 s.1 (string q) c h.0 a.0 (a.1 ++ 34 ∷ q ++ b ∷ []) b h.2 a.2 (a.1, 34 ∷ q ++ b ∷ [], a.3, (a.4, ap (λ (z : ℕ). 34 ∷ q ++ z ∷ []) (eqb-true b 34 is)), append_assoc a.1 (34 ∷ q) (b ∷ [])) h.4
-      (omega (arith, shallow_length limit s.0 s.1 h.4)) (ap (λ (z : List ℕ). z ++ b ∷ []) e ∙ simp append_assoc))
-      (λ _. split (is_plain b) _ _ (Keeps limit c b)
-      (λ k. (h.0, a.0 ++ (a.1 ++ 34 ∷ (q ++ b ∷ [])), h.2, (a.0, a.1, a.2, a.3, push_all IsPlain q b a.4 k, refl), h.4, ap (λ (z : List ℕ). z ++ b ∷ []) e ∙ simp append_assoc))
-      (λ _. tt))
-  turn_keeps (quoted true q) s c b h =
-      let a = h.3 in
-      let e : c ≡ h.0 ++ (a.0 ++ (a.1 ++ 34 ∷ q)) = h.5 ∙ ap (λ (x : List ℕ). h.0 ++ x) a.5 in
-      split (b == 34) _ _ (Keeps limit c b)
-      (λ is. key_ends s.0 s.1 q c h.0 a.0 (a.1 ++ 34 ∷ q ++ b ∷ []) b h.2 a.2 (a.1, 34 ∷ q ++ b ∷ [], a.3, (a.4, ap (λ (z : ℕ). 34 ∷ q ++ z ∷ []) (eqb-true b 34 is)), append_assoc a.1 (34 ∷ q) (b ∷ [])) h.4
-      (ap (λ (z : List ℕ). z ++ b ∷ []) e ∙ simp append_assoc))
-      (λ _. split (is_plain b) _ _ (Keeps limit c b)
-      (λ k. (h.0, a.0 ++ (a.1 ++ 34 ∷ (q ++ b ∷ [])), h.2, (a.0, a.1, a.2, a.3, push_all IsPlain q b a.4 k, refl), h.4, ap (λ (z : List ℕ). z ++ b ∷ []) e ∙ simp append_assoc))
-      (λ _. tt))
+  turn_keeps (quoted k q) s c b h = string_keeps k q s c b h
+  turn_keeps (escaped k q e) s c b h = escape_keeps k q e s c b h
 
   -- ---- whole texts
 
@@ -469,8 +568,23 @@ module _ (limit : ℕ) where
   go_on G None K t h e = cc
   go_on G (Some p) K t h e = (p, h, e)
 
+  then_root : (P : State → Type 0) (o : Option State) (t : Tree) → IfSome o P → option_and_then root o ≡ Some t → (s : State) × P s × (root s ≡ Some t)
+  then_root P None t h e = cc
+  then_root P (Some s) t h e = (s, h, e)
+
   same_some : {t u : Tree} → Some t ≡ Some u → t ≡ u
   same_some e = cc
+
+  ends_after : (s : State) (c : List ℕ) (t : Tree) → Consumed limit after_value s c → root s ≡ Some t → SpellsText t c × (depth t ≤ limit)
+  ends_after (top None, []) c t h e = cc
+  ends_after (top (Some u), []) c t h e =
+      let a = h.3 in
+      let same : u ≡ t = same_some e in
+      let f : c ≡ a.0 ++ a.1 = h.5 ∙ ap (λ (o : List ℕ). o ++ h.1) h.2.1 ∙ a.4 in
+      subst (λ (v : Tree). SpellsText v c × (depth v ≤ limit)) same ((a.0, a.1, a.2, a.3, f), h.4)
+  ends_after (top o, q ∷ qs) c t h e = cc
+  ends_after (elements ts, qs) c t h e = cc
+  ends_after (pairs ms k, qs) c t h e = cc
 
   ends : (m : Mode) (s : State) (c : List ℕ) (t : Tree) → Consumed limit m s c → ending m s ≡ Some t → SpellsText t c × (depth t ≤ limit)
   ends value s c t h e = cc
@@ -480,15 +594,11 @@ module _ (limit : ℕ) where
   ends colon s c t h e = cc
   ends (letters r u) s c t h e = cc
   ends (quoted k q) s c t h e = cc
-  ends after_value (top None, []) c t h e = cc
-  ends after_value (top (Some u), []) c t h e =
-      let a = h.3 in
-      let same : u ≡ t = same_some e in
-      let f : c ≡ a.0 ++ a.1 = h.5 ∙ ap (λ (o : List ℕ). o ++ h.1) h.2.1 ∙ a.4 in
-      subst (λ (v : Tree). SpellsText v c × (depth v ≤ limit)) same ((a.0, a.1, a.2, a.3, f), h.4)
-  ends after_value (top o, q ∷ qs) c t h e = cc
-  ends after_value (elements ts, qs) c t h e = cc
-  ends after_value (pairs ms k, qs) c t h e = cc
+  ends (escaped k q n) s c t h e = cc
+  ends after_value s c t h e = ends_after s c t h e
+  ends (digits a) s c t h e =
+      let k = then_root (λ (u : State). Consumed limit after_value u c) (end_number a s) t (number_comes a s c (number_of a) refl h) e in
+      ends_after k.0 c t k.1 k.2
 
   run_sound : (bs : List ℕ) (m : Mode) (s : State) (c : List ℕ) (t : Tree) → Consumed limit m s c → run limit m s bs ≡ Some t → SpellsText t (c ++ bs) × (depth t ≤ limit)
   unfolding run

@@ -1,6 +1,6 @@
 -- A tree as the list of its nodes in preorder, and back. This is also how the logic stores a tree.
 use Rattle.std.specs.Prelude.{ℕ, List, [], ◌∷◌, ◌++◌, length, take, drop, Bool, true, false, Option, Some, None}
-use Rattle.sj_json.specs.Tree.{Tree, null, truth, string, array, object, Items, no_items, item, Members, no_members, member, Child, item_list, member_list, below}
+use Rattle.sj_json.specs.Tree.{Number, Tree, null, truth, string, number, array, object, Items, no_items, item, Members, no_members, member, Child, item_list, member_list, below}
 
 -- A node without the nodes below it. An array and an object have the number of their children, and of
 -- all nodes below them. While it is being built, an open one has the number of its parent and of the
@@ -9,6 +9,7 @@ pub data Cell : Type 0 where
   null_cell : Cell
   truth_cell : Bool → Cell
   string_cell : List ℕ → Cell
+  number_cell : Number → Cell
   closed : Bool → ℕ → ℕ → Cell
   opened : Bool → ℕ → ℕ → Cell
 
@@ -21,6 +22,7 @@ abbrev mutual
   layout k null = (k, null_cell) ∷ []
   layout k (truth b) = (k, truth_cell b) ∷ []
   layout k (string s) = (k, string_cell s) ∷ []
+  layout k (number v) = (k, number_cell v) ∷ []
   layout k (array ts) = (k, closed false (length (item_list ts)) (below (array ts))) ∷ layout_items ts
   layout k (object ms) = (k, closed true (length (member_list ms)) (below (object ms))) ∷ layout_members ms
 
@@ -70,6 +72,7 @@ abbrev pub add_cell : Entry → Spine → Spine
 add_cell (k, null_cell) s = prepend ((k, null) ∷ []) s
 add_cell (k, truth_cell b) s = prepend ((k, truth b) ∷ []) s
 add_cell (k, string_cell t) s = prepend ((k, string t) ∷ []) s
+add_cell (k, number_cell v) s = prepend ((k, number v) ∷ []) s
 add_cell (k, closed kind n size) s = gather k kind n s
 add_cell (k, opened kind parent n) s = into [] k kind s
 

@@ -1,10 +1,11 @@
 -- How the logic stores a tree: as its layout, cell by cell.
-use Rattle.std.specs.Prelude.{◌≡◌, ℕ, List, [], Bool, false, cond, ◌==◌, Option, None, refl}
+use Rattle.std.specs.Prelude.{◌≡◌, ℕ, ℤ, unsigned_abs, List, [], Bool, false, cond, ◌==◌, Option, None, refl}
 use Rattle.std.specs.Coded.{Coded, code_by, coded×, coded_ℕ, coded_list, coded_option, coded_bool}
 use Rattle.std.proofs.Common.{ap}
-use Rattle.sj_json.specs.Tree.{Tree, Child, item_list, member_list}
+use Rattle.sj_decimal.specs.Signed.{signed, is_negative, signed_parts}
+use Rattle.sj_json.specs.Tree.{exact, wide, Tree, Child, item_list, member_list}
 use Rattle.sj_json.specs.Building.{Part, top, elements, pairs, State}
-use Rattle.sj_json.specs.Cells.{Cell, null_cell, truth_cell, string_cell, closed, opened, Entry, layout, tree_of, items_of, members_of}
+use Rattle.sj_json.specs.Cells.{Cell, null_cell, truth_cell, string_cell, number_cell, closed, opened, Entry, layout, tree_of, items_of, members_of}
 use Rattle.sj_json.specs.Layouts.{tree_of-layout, items_of-item_list, members_of-member_list}
 
 abbrev pub Stored : Type 0
@@ -16,10 +17,13 @@ cell_to (truth_cell b) = (1, [], b, 0, 0)
 cell_to (string_cell s) = (2, s, false, 0, 0)
 cell_to (closed k n m) = (3, [], k, n, m)
 cell_to (opened k n m) = (4, [], k, n, m)
+cell_to (number_cell (exact d)) = (5, [], is_negative d.0, unsigned_abs d.0, d.1)
+cell_to (number_cell (wide s)) = (6, s, false, 0, 0)
 
 abbrev pub cell_from : Stored → Cell
 cell_from p =
-    cond (p.0 == 0) null_cell (cond (p.0 == 1) (truth_cell p.2) (cond (p.0 == 2) (string_cell p.1) (cond (p.0 == 3) (closed p.2 p.3 p.4) (opened p.2 p.3 p.4))))
+    cond (p.0 == 0) null_cell (cond (p.0 == 1) (truth_cell p.2) (cond (p.0 == 2) (string_cell p.1) (cond (p.0 == 3) (closed p.2 p.3 p.4)
+    (cond (p.0 == 4) (opened p.2 p.3 p.4) (cond (p.0 == 5) (number_cell (exact (signed p.2 p.3, p.4))) (number_cell (wide p.1)))))))
 
 pub cell_from-cell_to : (c : Cell) → cell_from (cell_to c) ≡ c
 cell_from-cell_to null_cell = refl
@@ -27,6 +31,8 @@ cell_from-cell_to (truth_cell b) = refl
 cell_from-cell_to (string_cell s) = refl
 cell_from-cell_to (closed k n m) = refl
 cell_from-cell_to (opened k n m) = refl
+cell_from-cell_to (number_cell (exact d)) = ap (λ (c : ℤ). number_cell (exact (c, d.1))) (signed_parts d.0)
+cell_from-cell_to (number_cell (wide s)) = refl
 
 abbrev pub stored_code : Coded Stored
 stored_code = code_by (ℕ × (List ℕ × (Bool × (ℕ × ℕ)))) (coded× coded_ℕ (coded× (coded_list coded_ℕ) (coded× coded_bool (coded× coded_ℕ coded_ℕ)))) (λ p. (p.0, (p.1, (p.2, (p.3, p.4))))) (λ p. (p.0, p.1.0, p.1.1.0, p.1.1.1.0, p.1.1.1.1)) (λ _. refl)

@@ -1,6 +1,6 @@
 -- Keys that an object has more than once.
 use Rattle.std.specs.Prelude.{◌≢◌, ℕ, ◌<◌, List, [], ◌∷◌, AllPairs}
-use Rattle.sj_json.specs.Tree.{Tree, null, truth, string, array, object, Members, no_members, member, subtree, node_count}
+use Rattle.sj_json.specs.Tree.{Tree, null, truth, string, number, array, object, Members, no_members, member, subtree, node_count}
 
 -- no two are equal
 abbrev pub AreDistinct : List (List ℕ) → Type 0
@@ -15,6 +15,7 @@ abbrev pub keys : Tree → List (List ℕ)
 keys null = []
 keys (truth b) = []
 keys (string s) = []
+keys (number v) = []
 keys (array ts) = []
 keys (object ms) = member_keys ms
 

@@ -1,7 +1,7 @@
 -- A layout is read back as its tree.
 use Rattle.std.proofs.Common.{◌≡◌, ℕ, List, [], ◌∷◌, ◌++◌, length, drop, Bool, true, false, Option, Some, None, refl, sym, ap, ◌∙◌, append_assoc}
 use Rattle.std.proofs.lemmas.List.{take_at, drop_at}
-use Rattle.sj_json.specs.Tree.{Tree, null, truth, string, array, object, Items, no_items, item, Members, no_members, member, Child, item_list, member_list}
+use Rattle.sj_json.specs.Tree.{Tree, null, truth, string, number, array, object, Items, no_items, item, Members, no_members, member, Child, item_list, member_list}
 use Rattle.sj_json.specs.Cells.{Entry, layout, layout_items, layout_members, items_of, members_of, container, Spine, last, into, prepend, gather, add_cell, spine, root_of, tree_of}
 
 pub items_of-item_list : (ts : Items) → items_of (item_list ts) ≡ ts
@@ -37,6 +37,7 @@ mutual
   spine-layout k null s = refl
   spine-layout k (truth b) s = refl
   spine-layout k (string x) s = refl
+  spine-layout k (number v) s = refl
   spine-layout k (array ts) s =
       ap (gather k false (length (item_list ts))) (spine-items ts s)
       ∙ gather-prepend k false (item_list ts) s

@@ -1,5 +1,6 @@
 pub mod Tree
 pub mod Keys
+pub mod Strings
 pub mod Spelling
 pub mod Printing
 pub mod Cells
@@ -7,5 +8,6 @@ pub mod Layouts
 pub mod Building
 pub mod Links
 pub mod Coding
+pub mod Numbers
 pub mod Machine
 pub mod Document

@@ -1,6 +1,6 @@
 -- How far each node, in preorder, lies behind its parent. The root lies behind none.
 use Rattle.std.specs.Prelude.{ℕ, ◌+◌, ◌-◌, List, [], ◌∷◌, ◌++◌, length, Some, None}
-use Rattle.sj_json.specs.Tree.{Tree, null, truth, string, array, object, Items, no_items, item, Members, no_members, member, below}
+use Rattle.sj_json.specs.Tree.{Tree, null, truth, string, number, array, object, Items, no_items, item, Members, no_members, member, below}
 use Rattle.sj_json.specs.Building.{Part, top, elements, pairs, laid, place}
 
 abbrev mutual
@@ -9,6 +9,7 @@ abbrev mutual
   ups n null = n ∷ []
   ups n (truth b) = n ∷ []
   ups n (string s) = n ∷ []
+  ups n (number v) = n ∷ []
   ups n (array ts) = n ∷ item_ups 1 ts
   ups n (object ms) = n ∷ member_ups 1 ms
 

@@ -1,11 +1,25 @@
 -- The text of a tree without white space.
-use Rattle.std.specs.Prelude.{ℕ, List, [], ◌∷◌, ◌++◌, true, false, codes, ⊤}
-use Rattle.std.specs.List.{AllByRecursion}
-use Rattle.sj_json.specs.Tree.{Tree, null, truth, string, array, object, Items, no_items, item, Members, no_members, member}
-use Rattle.sj_json.specs.Spelling.{IsPlain}
+use Rattle.std.specs.Prelude.{ℕ, ◌/◌, ◌%◌, ◌==◌, nat_lt, cond, List, [], ◌∷◌, ◌++◌, true, false, codes, ⊤}
+use Rattle.std.specs.List.{AllByRecursion, flat_map}
+use Rattle.std.specs.Char.{digit_char}
+use Rattle.sj_decimal.specs.Normal.{IsDecimal}
+use Rattle.sj_decimal.specs.Number.{SpellsWide}
+use Rattle.sj_decimal.specs.Text.{decimal_text}
+use Rattle.sj_json.specs.Tree.{Number, exact, wide, Tree, null, truth, string, number, array, object, Items, no_items, item, Members, no_members, member, subtrees}
+
+abbrev pub printed_number : Number → List ℕ
+printed_number (exact d) = decimal_text d
+printed_number (wide s) = s
+
+-- A backslash stands before a quotation mark and a backslash. A control character is an escape, by its letter
+-- where it has one, else "\u00" and two lower-case digits. All else stands for itself.
+abbrev pub printed_byte : ℕ → List ℕ
+printed_byte b =
+    cond (b == 34) (codes "\\\"") (cond (b == 92) (codes "\\\\") (cond (b == 8) (codes "\\b") (cond (b == 9) (codes "\\t") (cond (b == 10) (codes "\\n") (cond (b == 12) (codes "\\f")
+    (cond (b == 13) (codes "\\r") (cond (nat_lt b 32) (codes "\\u00" ++ digit_char (b / 16) ∷ digit_char (b % 16) ∷ []) (b ∷ []))))))))
 
 abbrev pub printed_string : List ℕ → List ℕ
-printed_string s = 34 ∷ s ++ 34 ∷ []
+printed_string s = 34 ∷ flat_map printed_byte s ++ 34 ∷ []
 
 abbrev mutual
   pub printed : Tree → List ℕ
@@ -13,6 +27,7 @@ abbrev mutual
   printed (truth true) = codes "true"
   printed (truth false) = codes "false"
   printed (string s) = printed_string s
+  printed (number v) = printed_number v
   printed (array ts) = 91 ∷ printed_items ts ++ 93 ∷ []
   printed (object ms) = 123 ∷ printed_members ms ++ 125 ∷ []
 
@@ -32,19 +47,20 @@ abbrev mutual
   printed_more_members no_members = []
   printed_more_members (member k t ms) = 44 ∷ printed_string k ++ (58 ∷ printed t ++ printed_more_members ms)
 
--- Every string and key of the tree is written without an escape. The others have no spelling yet.
-abbrev mutual
-  pub IsPlainTree : Tree → Type 0
-  IsPlainTree null = ⊤
-  IsPlainTree (truth b) = ⊤
-  IsPlainTree (string s) = AllByRecursion IsPlain s
-  IsPlainTree (array ts) = ArePlainItems ts
-  IsPlainTree (object ms) = ArePlainMembers ms
+-- an exact number in normal form and within the limits, or the spelling of a number that is not exact
+abbrev pub IsWellMade : Number → Type 0
+IsWellMade (exact d) = IsDecimal d
+IsWellMade (wide s) = SpellsWide s
 
-  pub ArePlainItems : Items → Type 0
-  ArePlainItems no_items = ⊤
-  ArePlainItems (item t ts) = IsPlainTree t × ArePlainItems ts
+-- a node of a tree, without those below it
+abbrev pub IsNode : Tree → Type 0
+IsNode null = ⊤
+IsNode (truth b) = ⊤
+IsNode (string s) = ⊤
+IsNode (number v) = IsWellMade v
+IsNode (array ts) = ⊤
+IsNode (object ms) = ⊤
 
-  pub ArePlainMembers : Members → Type 0
-  ArePlainMembers no_members = ⊤
-  ArePlainMembers (member k t ms) = AllByRecursion IsPlain k × IsPlainTree t × ArePlainMembers ms
+-- Each number of the tree is well made. Every document is such a tree.
+abbrev pub IsTree : Tree → Type 0
+IsTree t = AllByRecursion IsNode (subtrees t)

@@ -1,8 +1,10 @@
 -- How a JSON text spells a tree (RFC 8259). Each rule splits the whole text. White space may stand
--- before each token, and at the end. Numbers and escapes have no spelling yet.
-use Rattle.std.specs.Prelude.{◌≡◌, ℕ, ◌≤◌, List, [], ◌∷◌, ◌++◌, length, Bool, true, false, not, ◌||◌, ◌==◌, nat_lt, codes, IsUtf8}
+-- before each token, and at the end.
+use Rattle.std.specs.Prelude.{◌≡◌, ℕ, ◌≤◌, List, [], ◌∷◌, ◌++◌, length, Bool, true, false, ◌||◌, ◌==◌, codes, IsUtf8}
 use Rattle.std.specs.List.{AllByRecursion}
-use Rattle.sj_json.specs.Tree.{Tree, null, truth, string, array, object, Items, no_items, item, Members, no_members, member, depth}
+use Rattle.sj_decimal.specs.Number.{SpellsExact, SpellsWide}
+use Rattle.sj_json.specs.Strings.{Quoted}
+use Rattle.sj_json.specs.Tree.{Number, exact, wide, Tree, null, truth, string, number, array, object, Items, no_items, item, Members, no_members, member, depth}
 
 -- a space, a tab, a line feed or a carriage return
 abbrev pub is_blank : ℕ → Bool
@@ -21,16 +23,10 @@ Spaced P b = (w : List ℕ) × (v : List ℕ) × Blank w × P v × (b ≡ w ++ v
 abbrev pub Sign : ℕ → List ℕ → Type 0
 Sign c b = b ≡ c ∷ []
 
--- a byte that stands for itself in a string
-abbrev pub is_plain : ℕ → Bool
-is_plain b = not ((b == 34) || (b == 92) || nat_lt b 32)
-
-abbrev pub IsPlain : ℕ → Type 0
-IsPlain b = is_plain b ≡ true
-
--- a string between its quotation marks
-abbrev pub Quoted : List ℕ → List ℕ → Type 0
-Quoted s b = AllByRecursion IsPlain s × (b ≡ 34 ∷ s ++ 34 ∷ [])
+-- a number: in the tree it has its value, or where that is not exact its spelling
+abbrev pub SpellsNumber : Number → List ℕ → Type 0
+SpellsNumber (exact d) b = SpellsExact b d
+SpellsNumber (wide s) b = SpellsWide b × (b ≡ s)
 
 abbrev mutual
   pub Spells : Tree → List ℕ → Type 0
@@ -38,6 +34,7 @@ abbrev mutual
   Spells (truth true) b = b ≡ codes "true"
   Spells (truth false) b = b ≡ codes "false"
   Spells (string s) b = Quoted s b
+  Spells (number v) b = SpellsNumber v b
   Spells (array ts) b = (x : List ℕ) × (y : List ℕ) × SpellsItems ts x × Spaced (Sign 93) y × (b ≡ 91 ∷ x ++ y)
   Spells (object ms) b = (x : List ℕ) × (y : List ℕ) × SpellsMembers ms x × Spaced (Sign 125) y × (b ≡ 123 ∷ x ++ y)
 

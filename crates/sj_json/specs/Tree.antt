@@ -1,11 +1,18 @@
 -- A JSON tree. An object keeps its members in their order, and keeps a key that comes twice.
-use Rattle.std.specs.Prelude.{ℕ, ◌+◌, max, List, [], ◌∷◌, ◌++◌, get_or, Bool, Option, Some, None}
+use Rattle.std.specs.Prelude.{ℕ, ◌+◌, max, List, [], ◌∷◌, ◌++◌, get_or, Bool, Option, Some, None, ℤ}
+
+-- A number: exact, as a coefficient and a number of decimals in normal form (`Normal` of `sj_decimal`), or
+-- wide, as it is spelled.
+pub data Number : Type 0 where
+  exact : ℤ × ℕ → Number
+  wide : List ℕ → Number
 
 mutual
   pub data Tree : Type 0 where
     null : Tree
     truth : Bool → Tree
     string : List ℕ → Tree
+    number : Number → Tree
     array : Items → Tree
     object : Members → Tree
 
@@ -35,6 +42,7 @@ abbrev pub children : Tree → List Child
 children null = []
 children (truth b) = []
 children (string s) = []
+children (number v) = []
 children (array ts) = item_list ts
 children (object ms) = member_list ms
 
@@ -44,6 +52,7 @@ abbrev mutual
   below null = 0
   below (truth b) = 0
   below (string s) = 0
+  below (number v) = 0
   below (array ts) = items_size ts
   below (object ms) = members_size ms
 
@@ -61,6 +70,7 @@ abbrev mutual
   depth null = 0
   depth (truth b) = 0
   depth (string s) = 0
+  depth (number v) = 0
   depth (array ts) = items_depth ts + 1
   depth (object ms) = members_depth ms + 1
 
@@ -78,6 +88,7 @@ abbrev mutual
   subtrees null = null ∷ []
   subtrees (truth b) = truth b ∷ []
   subtrees (string s) = string s ∷ []
+  subtrees (number v) = number v ∷ []
   subtrees (array ts) = array ts ∷ items_subtrees ts
   subtrees (object ms) = object ms ∷ members_subtrees ms
 

@@ -4,30 +4,34 @@
 //! does nothing. The crates that hold, read and print documents cite the definitions.
 //!
 //! - `Tree`: the JSON tree, its nodes numbered in preorder (`numbered`, `subtree`, `below`, `node_count`).
-//! - `Spelling`: which texts spell a tree, and `IsJson`, with the limits of length and depth.
-//! - `Printing`: the printed text of a tree.
+//! - `Strings`: which texts spell a string, with its escapes.
+//! - `Spelling`: which texts spell a tree, and `IsJson`, with the limits of length and depth. Which texts spell
+//!   a number is said by `Number` of `sj_decimal`.
+//! - `Printing`: the printed text of a tree, and `IsTree`: its numbers are well made.
 //! - `Keys`: the keys of an object, and whether a tree repeats one.
 //! - `Cells`, `Layouts`, `Links`, `Building`, `Coding`: a tree as the list of its nodes, whole or while it
 //!   is being built. A vector of nodes is seen as a tree by these.
 //! - `Document`: the tree of a text, as a function.
-//! - `Machine`: a reader of one byte at a time. It defines nothing: it is proved to accept what
-//!   `Spelling` spells, and a reader is proved against it.
+//! - `Machine`, with `Numbers`: a reader of one byte at a time. It defines nothing: it is proved to accept
+//!   what `Spelling` spells, and a reader is proved against it.
 #![tactic(auto)]
 
 ghost use Rattle.std.specs.Prelude.{◌≡◌, ℕ, List, Some, None};
 ghost use Rattle.sj_json.specs.Tree.{Tree};
 ghost use Rattle.sj_json.specs.Spelling.{SpellsText, IsJson};
 ghost use Rattle.sj_json.specs.Document.{document};
-ghost use Rattle.sj_json.specs.Printing.{printed, IsPlainTree};
+ghost use Rattle.sj_json.specs.Printing.{printed, IsTree};
 
 /// A text spells at most one tree.
 pub fn one_tree()
     ensures { (t u : Tree) (b : List ℕ) → SpellsText t b → SpellsText u b → t ≡ u }
 {}
 
-/// The printed text of a tree spells it, where no string or key needs an escape.
+/// The printed text of a tree spells it, and what a text spells is a tree in that sense: its exact numbers are
+/// in normal form and within the limits, and its wide numbers have spellings of numbers that are not exact.
 pub fn printed_text()
-    ensures { (t : Tree) → IsPlainTree t → SpellsText t (printed t) }
+    ensures spells { (t : Tree) → IsTree t → SpellsText t (printed t) }
+    ensures made { (t : Tree) (b : List ℕ) → SpellsText t b → IsTree t }
 {}
 
 /// `document` gives the tree that a text spells, exactly where the text is JSON.
