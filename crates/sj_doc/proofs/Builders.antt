@@ -1,11 +1,13 @@
 -- What the calls of a builder keep.
-use Rattle.std.proofs.Common.{◌≡◌, ℕ, suc, zero, ◌+◌, ◌-◌, ◌<◌, ◌≤◌, ◌^◌, List, [], ◌∷◌, ◌++◌, length, take, drop, get_or, set, Bool, true, false, Option, Some, None, option_map, IfSome, refl, sym, ap, ◌∙◌, subst, length-append, arith}
+use Rattle.std.proofs.Common.{◌≡◌, ℕ, suc, zero, ◌+◌, ◌-◌, ◌<◌, ◌≤◌, ◌^◌, List, [], ◌∷◌, ◌++◌, length, take, drop, get_or, set, ℤ, pos, Bool, true, false, Option, Some, None, option_map, IfSome, refl, sym, ap, ◌∙◌, subst, length-append, arith}
 use Rattle.std.specs.List.{AllByRecursion}
 use Rattle.std.specs.Str.{IsUtf8}
 use Rattle.std.proofs.Math.ListN.{get_or-map}
-use Rattle.std.proofs.lemmas.List.{append-nil, length-map, map-append, map-set, set_at, get_or_at, take-append-le, drop-append-le, take_at, drop_at, length-set, length-drop}
-use Rattle.sj_json.specs.Tree.{Tree}
-use Rattle.sj_json.specs.Cells.{Cell, string_cell, closed, opened, Entry, layout, tree_of}
+use Rattle.std.proofs.lemmas.List.{append-nil, get_or_append_left, length-map, map-append, map-set, set_at, get_or_at, take-append-le, drop-append-le, take_at, drop_at, length-set, length-drop}
+use Rattle.sj_decimal.specs.Normal.{IsDecimal}
+use Rattle.sj_decimal.specs.Number.{SpellsWide}
+use Rattle.sj_json.specs.Tree.{exact, wide, Tree}
+use Rattle.sj_json.specs.Cells.{Cell, string_cell, number_cell, closed, opened, Entry, layout, tree_of}
 use Rattle.sj_json.specs.Building.{Part, top, elements, pairs, State, TakesValue, TakesKey, TakesClose, put, put_key, empty, with_value, with_key, with_open, put_option, with_close, fresh, IsComplete, part_entries, part_kids, part_key, is_object, laid, place, IsState, state_of}
 use Rattle.sj_json.specs.Layouts.{tree_of-layout}
 use Rattle.sj_json.proofs.Buildings.{seen, outer_state, kids-put, key-put, laid-put, place-put, state-put, closes, kids_le, outer_le, state-put_key, laid-put_key, key-put_key, place-put_key, kids-put_key, laid-empty, state-empty, key-empty, kids-empty}
@@ -13,12 +15,12 @@ use Rattle.sj_doc.specs.Kinds.{opens_object, want_of}
 use Rattle.sj_doc.specs.declared.node.Want.{Want}
 use Rattle.sj_doc.specs.declared.node.Want.TheVariants as wants
 use Rattle.sj_doc.specs.declared.node.Body.{Body}
-use Rattle.sj_doc.specs.declared.node.Body.TheVariants.{Null, Truth, Text, Closed, Opened}
+use Rattle.sj_doc.specs.declared.node.Body.TheVariants.{Null, Truth, Text, Exact, Wide, Closed, Opened}
 use Rattle.sj_doc.specs.declared.node.Node.{Node}
 use Rattle.sj_doc.specs.declared.node.Span.{Span}
 use Rattle.sj_json.specs.Links.{ups, laid_ups}
 use Rattle.sj_json.proofs.Links.{ups-put, ups-empty, ups-put_key, ups-close}
-use Rattle.sj_doc.specs.Nodes.{text_in, cell_of, entry_of, entries, links, IsSpan, IsBody, IsNode, IsDoc}
+use Rattle.sj_doc.specs.Nodes.{Held, decimal_in, text_in, cell_of, entry_of, entries, links, IsSpan, IsBody, IsNode, IsDoc}
 use Rattle.sj_doc.specs.Builders.{built, node_total, IsBuilder}
 
 pub all_push : {X : Type 0} (P : X → Type 0) (xs : List X) (x : X) → AllByRecursion P xs → P x → AllByRecursion P (xs ++ x ∷ [])
@@ -29,21 +31,21 @@ take_all : (x : List ℕ) → take (length x) x ≡ x
 take_all x = ap (take (length x)) (sym (append-nil x)) ∙ take_at x [] (length x) refl
 
 -- a node whose children, if it may have any, stand elsewhere
-abbrev pub IsAlone : List ℕ → Tree → Body → Type 0
+abbrev pub IsAlone : Held → Tree → Body → Type 0
 IsAlone a t body = (k : Option (List ℕ)) → layout k t ≡ (k, cell_of a body) ∷ []
 
 -- it has no children
 abbrev pub IsLeaf : Tree → Type 0
 IsLeaf t = (n : ℕ) → ups n t ≡ n ∷ []
 
-module _ (a : List ℕ) (ns : List Node) (key : Option Span) (inner count depth : ℕ) (b : IsBuilder a ns key inner count depth) where
+module _ (a : Held) (ns : List Node) (key : Option Span) (inner count depth : ℕ) (b : IsBuilder a ns key inner count depth) where
   pub now_seen : built a ns key ≡ (b.part, b.outer)
   now_seen = ap (λ k. state_of k (entries a ns)) b.keyed ∙ ap (state_of (part_key b.part)) b.laid_out ∙ seen b.part b.outer b.shape
 
   pub total : length ns ≡ node_total (b.part, b.outer)
   total = sym (length-map ns (entry_of a)) ∙ ap length b.laid_out
 
-module _ (a : List ℕ) (ns : List Node) (key : Option Span) (inner count depth : ℕ) (b : IsBuilder a ns key inner count depth) (s : State) (view : built a ns key ≡ s) where
+module _ (a : Held) (ns : List Node) (key : Option Span) (inner count depth : ℕ) (b : IsBuilder a ns key inner count depth) (s : State) (view : built a ns key ≡ s) where
   pub state_is : (b.part, b.outer) ≡ s
   state_is = sym (now_seen a ns key inner count depth b) ∙ view
 
@@ -82,29 +84,31 @@ module _ (a : List ℕ) (ns : List Node) (key : Option Span) (inner count depth 
         key_fits = tt;
         small = omega (arith, ap length e, length-append ns (node ∷ []));
         narrow = b.narrow;
+        few = b.few;
       } in
       (after, now_seen a new None inner (count + 1) depth after ∙ ap (with_value t) state_is)
 
   -- a key comes
-  pub key_comes : (k : Span) → TakesKey s.0 → IsSpan a k → IsBuilder a ns (Some k) inner count depth × (built a ns (Some k) ≡ with_key (text_in a k) s)
+  pub key_comes : (k : Span) → TakesKey s.0 → IsSpan a.0 k → IsBuilder a ns (Some k) inner count depth × (built a ns (Some k) ≡ with_key (text_in a.0 k) s)
   key_comes k wanted good =
       let wants : TakesKey b.part = subst (λ (x : State). TakesKey x.0) (sym state_is) wanted in
       let after : IsBuilder a ns (Some k) inner count depth = record {
-        part = put_key (text_in a k) b.part;
+        part = put_key (text_in a.0 k) b.part;
         outer = b.outer;
-        shape = state-put_key (text_in a k) b.part b.outer b.shape;
-        laid_out = b.laid_out ∙ laid-put_key (text_in a k) b.part b.outer;
-        linked = b.linked ∙ ups-put_key (text_in a k) b.part b.outer;
-        keyed = sym (key-put_key (text_in a k) b.part wants);
-        inner_is = b.inner_is ∙ place-put_key (text_in a k) b.part b.outer;
-        count_is = b.count_is ∙ ap length (kids-put_key (text_in a k) b.part);
+        shape = state-put_key (text_in a.0 k) b.part b.outer b.shape;
+        laid_out = b.laid_out ∙ laid-put_key (text_in a.0 k) b.part b.outer;
+        linked = b.linked ∙ ups-put_key (text_in a.0 k) b.part b.outer;
+        keyed = sym (key-put_key (text_in a.0 k) b.part wants);
+        inner_is = b.inner_is ∙ place-put_key (text_in a.0 k) b.part b.outer;
+        count_is = b.count_is ∙ ap length (kids-put_key (text_in a.0 k) b.part);
         depth_is = b.depth_is;
         fits = b.fits;
         key_fits = good;
         small = b.small;
         narrow = b.narrow;
+        few = b.few;
       } in
-      (after, now_seen a ns (Some k) inner count depth after ∙ ap (with_key (text_in a k)) state_is)
+      (after, now_seen a ns (Some k) inner count depth after ∙ ap (with_key (text_in a.0 k)) state_is)
 
   -- a container opens
   pub opens : (kind : Bool) → TakesValue s.0 → node_total s < 2 ^ 25 → (up : ℕ) → up ≡ length ns - inner → (new : List Node) → new ≡ ns ++ record { key = key; up = up; body = Opened kind inner count } ∷ []
@@ -134,10 +138,11 @@ module _ (a : List ℕ) (ns : List Node) (key : Option Span) (inner count depth 
         key_fits = tt;
         small = omega (arith, ap length e, length-append ns (node ∷ []));
         narrow = b.narrow;
+        few = b.few;
       } in
       (after, now_seen a new None (length ns) 0 (depth + 1) after ∙ ap (with_open kind) state_is)
 
--- ---- the text grows
+-- ---- the text and the numbers grow
 
 text-grown : (a x : List ℕ) (s : Span) → IsSpan a s → text_in (a ++ x) s ≡ text_in a s
 text-grown a x s h =
@@ -145,63 +150,106 @@ text-grown a x s h =
     let enough : s.len ≤ length (drop s.start a) = omega (arith, length-drop s.start a) in
     ap (take s.len) (drop-append-le s.start a x within) ∙ take-append-le s.len (drop s.start a) x enough
 
-pub span-grown : (a x : List ℕ) (s : Span) → IsSpan a s → IsSpan (a ++ x) s
+span-grown : (a x : List ℕ) (s : Span) → IsSpan a s → IsSpan (a ++ x) s
 span-grown a x s h = (omega (arith, length-append a x), subst IsUtf8 (sym (text-grown a x s h)) h.1)
 
-key-grown : (a x : List ℕ) (k : Option Span) → IfSome k (IsSpan a) → option_map (text_in (a ++ x)) k ≡ option_map (text_in a) k
-key-grown a x None h = refl
-key-grown a x (Some s) h = ap Some (text-grown a x s h)
+-- what stood in a stands in b as well
+pub record Grows (a : Held) (b : Held) : Type 0 where
+  pub spans : (s : Span) → IsSpan a.0 s → IsSpan b.0 s
+  pub texts : (s : Span) → IsSpan a.0 s → text_in b.0 s ≡ text_in a.0 s
+  pub places : (i : ℕ) → i < length a.1 → i < length b.1
+  pub decimals : (i : ℕ) → i < length a.1 → decimal_in b.1 i ≡ decimal_in a.1 i
 
-key_fits-grown : (a x : List ℕ) (k : Option Span) → IfSome k (IsSpan a) → IfSome k (IsSpan (a ++ x))
-key_fits-grown a x None h = tt
-key_fits-grown a x (Some s) h = span-grown a x s h
+text_grows : (a : Held) (x : List ℕ) → Grows a (a.0 ++ x, a.1)
+text_grows a x = record { spans = λ s h. span-grown a.0 x s h; texts = λ s h. text-grown a.0 x s h; places = λ i h. h; decimals = λ i h. refl }
 
-cell-grown : (a x : List ℕ) (b : Body) → IsBody a b → cell_of (a ++ x) b ≡ cell_of a b
-cell-grown a x Null h = refl
-cell-grown a x (Truth b) h = refl
-cell-grown a x (Text s) h = ap string_cell (text-grown a x s h)
-cell-grown a x (Closed k n m) h = refl
-cell-grown a x (Opened k n m) h = refl
+numbers_grow : (a : Held) (d : ℤ × ℕ) → Grows a (a.0, a.1 ++ d ∷ [])
+numbers_grow a d = record {
+  spans = λ s h. h;
+  texts = λ s h. refl;
+  places = λ i h. omega (arith, length-append a.1 (d ∷ []));
+  decimals = λ i h. get_or_append_left a.1 (d ∷ []) (pos 0, 0) i h;
+}
 
-body-grown : (a x : List ℕ) (b : Body) → IsBody a b → IsBody (a ++ x) b
-body-grown a x Null h = tt
-body-grown a x (Truth b) h = tt
-body-grown a x (Text s) h = span-grown a x s h
-body-grown a x (Closed k n m) h = tt
-body-grown a x (Opened k n m) h = tt
+module _ (a b : Held) (g : Grows a b) where
+  key-grown : (k : Option Span) → IfSome k (IsSpan a.0) → option_map (text_in b.0) k ≡ option_map (text_in a.0) k
+  key-grown None h = refl
+  key-grown (Some s) h = ap Some (g.texts s h)
 
-entry-grown : (a x : List ℕ) (n : Node) → IsNode a n → entry_of (a ++ x) n ≡ entry_of a n
-entry-grown a x n h = ap (λ (k : Option (List ℕ)). (k, cell_of (a ++ x) n.body)) (key-grown a x n.key h.0) ∙ ap (λ (c : Cell). (option_map (text_in a) n.key, c)) (cell-grown a x n.body h.1)
+  key_fits-grown : (k : Option Span) → IfSome k (IsSpan a.0) → IfSome k (IsSpan b.0)
+  key_fits-grown None h = tt
+  key_fits-grown (Some s) h = g.spans s h
 
-entries-grown : (a x : List ℕ) (ns : List Node) → AllByRecursion (IsNode a) ns → entries (a ++ x) ns ≡ entries a ns
-entries-grown a x [] h = refl
-entries-grown a x (n ∷ ns) h = ap (λ (e : Entry). e ∷ entries (a ++ x) ns) (entry-grown a x n h.0) ∙ ap (λ (es : List Entry). entry_of a n ∷ es) (entries-grown a x ns h.1)
+  cell-grown : (c : Body) → IsBody a c → cell_of b c ≡ cell_of a c
+  cell-grown Null h = refl
+  cell-grown (Truth x) h = refl
+  cell-grown (Text s) h = ap string_cell (g.texts s h)
+  cell-grown (Exact i) h = ap (λ (d : ℤ × ℕ). number_cell (exact d)) (g.decimals i h.0)
+  cell-grown (Wide s) h = ap (λ (x : List ℕ). number_cell (wide x)) (g.texts s h.0)
+  cell-grown (Closed k n m) h = refl
+  cell-grown (Opened k n m) h = refl
 
-all-grown : (a x : List ℕ) (ns : List Node) → AllByRecursion (IsNode a) ns → AllByRecursion (IsNode (a ++ x)) ns
-all-grown a x [] h = tt
-all-grown a x (n ∷ ns) h = ((key_fits-grown a x n.key h.0.0, body-grown a x n.body h.0.1), all-grown a x ns h.1)
+  body-grown : (c : Body) → IsBody a c → IsBody b c
+  body-grown Null h = tt
+  body-grown (Truth x) h = tt
+  body-grown (Text s) h = g.spans s h
+  body-grown (Exact i) h = (g.places i h.0, subst IsDecimal (sym (g.decimals i h.0)) h.1)
+  body-grown (Wide s) h = (g.spans s h.0, subst SpellsWide (sym (g.texts s h.0)) h.1)
+  body-grown (Closed k n m) h = tt
+  body-grown (Opened k n m) h = tt
 
-pub text_comes : (a : List ℕ) (ns : List Node) (key : Option Span) (inner count depth : ℕ) → IsBuilder a ns key inner count depth
-    → (x new : List ℕ) → new ≡ a ++ x → length new < 2 ^ 32
-    → IsBuilder new ns key inner count depth × (built new ns key ≡ built a ns key)
+  entry-grown : (n : Node) → IsNode a n → entry_of b n ≡ entry_of a n
+  entry-grown n h = ap (λ (k : Option (List ℕ)). (k, cell_of b n.body)) (key-grown n.key h.0) ∙ ap (λ (c : Cell). (option_map (text_in a.0) n.key, c)) (cell-grown n.body h.1)
+
+  entries-grown : (ns : List Node) → AllByRecursion (IsNode a) ns → entries b ns ≡ entries a ns
+  entries-grown [] h = refl
+  entries-grown (n ∷ ns) h = ap (λ (e : Entry). e ∷ entries b ns) (entry-grown n h.0) ∙ ap (λ (es : List Entry). entry_of a n ∷ es) (entries-grown ns h.1)
+
+  all-grown : (ns : List Node) → AllByRecursion (IsNode a) ns → AllByRecursion (IsNode b) ns
+  all-grown [] h = tt
+  all-grown (n ∷ ns) h = ((key_fits-grown n.key h.0.0, body-grown n.body h.0.1), all-grown ns h.1)
+
+  grown_comes : (ns : List Node) (key : Option Span) (inner count depth : ℕ) → IsBuilder a ns key inner count depth → length b.0 < 2 ^ 32 → length b.1 < 2 ^ 32
+      → IsBuilder b ns key inner count depth × (built b ns key ≡ built a ns key)
+  grown_comes ns key inner count depth m narrow few =
+      let grown : IsBuilder b ns key inner count depth = record {
+        part = m.part;
+        outer = m.outer;
+        shape = m.shape;
+        laid_out = entries-grown ns m.fits ∙ m.laid_out;
+        linked = m.linked;
+        keyed = key-grown key m.key_fits ∙ m.keyed;
+        inner_is = m.inner_is;
+        count_is = m.count_is;
+        depth_is = m.depth_is;
+        fits = all-grown ns m.fits;
+        key_fits = key_fits-grown key m.key_fits;
+        small = m.small;
+        narrow = narrow;
+        few = few;
+      } in
+      (grown, ap (λ k. state_of k (entries b ns)) (key-grown key m.key_fits) ∙ ap (state_of (option_map (text_in a.0) key)) (entries-grown ns m.fits))
+
+-- the text grows
+pub text_comes : (a : Held) (ns : List Node) (key : Option Span) (inner count depth : ℕ) → IsBuilder a ns key inner count depth
+    → (x new : List ℕ) → new ≡ a.0 ++ x → length new < 2 ^ 32
+    → IsBuilder (new, a.1) ns key inner count depth × (built (new, a.1) ns key ≡ built a ns key)
 text_comes a ns key inner count depth b x new e small =
-    let grown : IsBuilder (a ++ x) ns key inner count depth = record {
-      part = b.part;
-      outer = b.outer;
-      shape = b.shape;
-      laid_out = entries-grown a x ns b.fits ∙ b.laid_out;
-      linked = b.linked;
-      keyed = key-grown a x key b.key_fits ∙ b.keyed;
-      inner_is = b.inner_is;
-      count_is = b.count_is;
-      depth_is = b.depth_is;
-      fits = all-grown a x ns b.fits;
-      key_fits = key_fits-grown a x key b.key_fits;
-      small = b.small;
-      narrow = subst (λ (l : List ℕ). length l < 2 ^ 32) e small;
-    } in
-    let P : List ℕ → Type 0 = λ l. IsBuilder l ns key inner count depth × (built l ns key ≡ built a ns key) in
-    subst P (sym e) (grown, ap (λ k. state_of k (entries (a ++ x) ns)) (key-grown a x key b.key_fits) ∙ ap (state_of (option_map (text_in a) key)) (entries-grown a x ns b.fits))
+    let P : List ℕ → Type 0 = λ l. IsBuilder (l, a.1) ns key inner count depth × (built (l, a.1) ns key ≡ built a ns key) in
+    subst P (sym e) (grown_comes a (a.0 ++ x, a.1) (text_grows a x) ns key inner count depth b (subst (λ (l : List ℕ). length l < 2 ^ 32) e small) b.few)
+
+-- a number is put to the others
+pub number_comes : (a : Held) (ns : List Node) (key : Option Span) (inner count depth : ℕ) → IsBuilder a ns key inner count depth
+    → (d : ℤ × ℕ) (new : List (ℤ × ℕ)) → new ≡ a.1 ++ d ∷ [] → length new < 2 ^ 32
+    → IsBuilder (a.0, new) ns key inner count depth × (built (a.0, new) ns key ≡ built a ns key)
+number_comes a ns key inner count depth b d new e small =
+    let P : List (ℤ × ℕ) → Type 0 = λ l. IsBuilder (a.0, l) ns key inner count depth × (built (a.0, l) ns key ≡ built a ns key) in
+    subst P (sym e) (grown_comes a (a.0, a.1 ++ d ∷ []) (numbers_grow a d) ns key inner count depth b b.narrow (subst (λ (l : List (ℤ × ℕ)). length l < 2 ^ 32) e small))
+
+-- the number that was put at the end
+pub last_decimal : (old new : List (ℤ × ℕ)) (d : ℤ × ℕ) (at : ℕ) → new ≡ old ++ d ∷ [] → at ≡ length old → (at < length new) × (decimal_in new at ≡ d)
+last_decimal old new d at e here =
+    (omega (arith, ap length e, length-append old (d ∷ [])), ap (λ (l : List (ℤ × ℕ)). decimal_in l at) e ∙ ap (decimal_in (old ++ d ∷ [])) here ∙ get_or_at old d [] (pos 0, 0) (length old) refl)
 
 -- the text that was put at the end
 pub last_span : (a x new : List ℕ) (s : Span) → new ≡ a ++ x → IsUtf8 x → s.start ≡ length a → s.len ≡ length x → IsSpan new s × (text_in new s ≡ x)
@@ -212,9 +260,9 @@ last_span a x new s e good at long =
 
 -- ---- a new builder
 
-pub starts : (a : List ℕ) (ns : List Node) → a ≡ [] → ns ≡ [] → IsBuilder a ns None 0 0 0 × (built a ns None ≡ fresh)
-starts a ns e f =
-    let none : IsBuilder [] [] None 0 0 0 = record {
+pub starts : (a : List ℕ) (ds : List (ℤ × ℕ)) (ns : List Node) → a ≡ [] → ds ≡ [] → ns ≡ [] → IsBuilder (a, ds) ns None 0 0 0 × (built (a, ds) ns None ≡ fresh)
+starts a ds ns e g f =
+    let none : IsBuilder ([], []) [] None 0 0 0 = record {
       part = top None;
       outer = [];
       shape = tt;
@@ -228,10 +276,12 @@ starts a ns e f =
       key_fits = tt;
       small = omega arith;
       narrow = omega arith;
+      few = omega arith;
     } in
-    let P : List ℕ → Type 0 = λ l. IsBuilder l ns None 0 0 0 × (built l ns None ≡ fresh) in
-    let Q : List Node → Type 0 = λ l. IsBuilder [] l None 0 0 0 × (built [] l None ≡ fresh) in
-    subst P (sym e) (subst Q (sym f) (none, refl))
+    let P : List ℕ → Type 0 = λ l. IsBuilder (l, ds) ns None 0 0 0 × (built (l, ds) ns None ≡ fresh) in
+    let Q : List (ℤ × ℕ) → Type 0 = λ l. IsBuilder ([], l) ns None 0 0 0 × (built ([], l) ns None ≡ fresh) in
+    let R : List Node → Type 0 = λ l. IsBuilder ([], []) l None 0 0 0 × (built ([], []) l None ≡ fresh) in
+    subst P (sym e) (subst Q (sym g) (subst R (sym f) (none, refl)))
 
 -- ---- a container closes
 
@@ -276,7 +326,7 @@ inner_entry : (p : Part) (qs : List Part) (d : Entry) → HasOuter qs → open_a
 inner_entry p [] d h = absurd h
 inner_entry p (q ∷ qs) d h = get_or_at (laid q qs) (part_key q, opened (is_object p) (place q qs) (length (part_kids q))) (part_entries p) d (length (laid q qs)) refl
 
-module _ (a : List ℕ) (ns : List Node) (key : Option Span) (inner count depth : ℕ) (b : IsBuilder a ns key inner count depth) where
+module _ (a : Held) (ns : List Node) (key : Option Span) (inner count depth : ℕ) (b : IsBuilder a ns key inner count depth) where
   pub inner_small : HasOuter b.outer → inner < length ns
   inner_small h = omega (arith, b.inner_is, inner_within b.part b.outer h, total a ns key inner count depth b)
 
@@ -290,7 +340,7 @@ module _ (a : List ℕ) (ns : List Node) (key : Option Span) (inner count depth 
 same_opened : {k l : Bool} {i j m n : ℕ} → opened k i m ≡ opened l j n → (k ≡ l) × (i ≡ j) × (m ≡ n)
 same_opened e = (cc, cc, cc)
 
-abbrev pub Closed_up : List ℕ → List Node → Option Span → ℕ → ℕ → ℕ → State → Type 0
+abbrev pub Closed_up : Held → List Node → Option Span → ℕ → ℕ → ℕ → State → Type 0
 Closed_up a new key inner count depth s = IsBuilder a new key inner count depth × (built a new key ≡ with_close s)
 
 -- a node that is overwritten keeps its link
@@ -305,16 +355,16 @@ no_key (elements ts) h = refl
 no_key (pairs ms None) h = refl
 no_key (pairs ms (Some k)) h = absurd h
 
-module _ (a : List ℕ) (ns : List Node) (key : Option Span) (n : Node) (inner count depth : ℕ) (kind : Bool) (parent before below : ℕ) (new : List Node) where
+module _ (a : Held) (ns : List Node) (key : Option Span) (n : Node) (inner count depth : ℕ) (kind : Bool) (parent before below : ℕ) (new : List Node) where
   closing : (p : Part) (qs : List Part) → IsState p qs → TakesClose p → entries a ns ≡ laid p qs
-      → option_map (text_in a) key ≡ part_key p → inner ≡ place p qs → count ≡ length (part_kids p) → depth ≡ length qs
-      → AllByRecursion (IsNode a) ns → IfSome key (IsSpan a) → length ns ≤ 2 ^ 25 → length a < 2 ^ 32
+      → option_map (text_in a.0) key ≡ part_key p → inner ≡ place p qs → count ≡ length (part_kids p) → depth ≡ length qs
+      → AllByRecursion (IsNode a) ns → IfSome key (IsSpan a.0) → length ns ≤ 2 ^ 25 → length a.0 < 2 ^ 32 → length a.1 < 2 ^ 32
       → open_at p qs (entry_of a n) → n.body ≡ Opened kind parent before → IsNode a n
       → links ns ≡ laid_ups p qs → n ≡ get_or ns inner n
       → new ≡ set ns inner (record { key = n.key; up = n.up; body = Closed kind count below }) → below + 1 + inner ≡ length ns
       → Closed_up a new key parent (before + 1) (depth - 1) (p, qs)
-  closing p [] shape wanted out keyed inner_is count_is depth_is fits key_fits small narrow here body good linked read e size = absurd (has_outer p [] shape wanted)
-  closing p (q ∷ qs) shape wanted out keyed inner_is count_is depth_is fits key_fits small narrow here body good linked read e size =
+  closing p [] shape wanted out keyed inner_is count_is depth_is fits key_fits small narrow few here body good linked read e size = absurd (has_outer p [] shape wanted)
+  closing p (q ∷ qs) shape wanted out keyed inner_is count_is depth_is fits key_fits small narrow few here body good linked read e size =
       let t = closes p wanted in
       let outside = outer_state p q qs shape in
       let parts = same_opened (ap (cell_of a) (sym body) ∙ ap (λ (x : Entry). x.1) here) in
@@ -347,6 +397,7 @@ module _ (a : List ℕ) (ns : List Node) (key : Option Span) (n : Node) (inner c
         key_fits = key_fits;
         small = omega (arith, ap length e, length-set ns inner node);
         narrow = narrow;
+        few = few;
       } in
       (after, now_seen a new key parent (before + 1) (depth - 1) after ∙ ap (λ (o : Option Tree). (put_option o q, qs)) (sym t.1))
 
@@ -360,12 +411,14 @@ module _ (a : List ℕ) (ns : List Node) (key : Option Span) (n : Node) (inner c
       let outside = has_outer b.part b.outer b.shape wants in
       let good : IsNode a n = all_at (IsNode a) ns inner n b.fits (inner_small a ns key inner count depth b outside) e in
       subst (Closed_up a new key parent (before + 1) (depth - 1)) same
-      (closing b.part b.outer b.shape wants b.laid_out b.keyed b.inner_is b.count_is b.depth_is b.fits b.key_fits b.small b.narrow (entry_open a ns key inner count depth b n outside e) body good b.linked e new_is size)
+      (closing b.part b.outer b.shape wants b.laid_out b.keyed b.inner_is b.count_is b.depth_is b.fits b.key_fits b.small b.narrow b.few (entry_open a ns key inner count depth b n outside e) body good b.linked e new_is size)
 
-is_open : (a : List ℕ) (b : Body) (k : Bool) (i m : ℕ) → cell_of a b ≡ opened k i m → b ≡ Opened k i m
+is_open : (a : Held) (b : Body) (k : Bool) (i m : ℕ) → cell_of a b ≡ opened k i m → b ≡ Opened k i m
 is_open a Null k i m e = cc
 is_open a (Truth x) k i m e = cc
 is_open a (Text s) k i m e = cc
+is_open a (Exact j) k i m e = cc
+is_open a (Wide s) k i m e = cc
 is_open a (Closed l j n) k i m e = cc
 is_open a (Opened l j n) k i m e = cc
 
@@ -373,7 +426,7 @@ is_open a (Opened l j n) k i m e = cc
 abbrev pub IsOpenBody : ℕ → Body → Type 0
 IsOpenBody total b = (k : Bool) × (i : ℕ) × (m : ℕ) × (b ≡ Opened k i m) × (m ≤ total)
 
-open_body : (a : List ℕ) (n : Node) (p : Part) (qs : List Part) → open_at p qs (entry_of a n) → IsOpenBody (length (laid p qs)) n.body
+open_body : (a : Held) (n : Node) (p : Part) (qs : List Part) → open_at p qs (entry_of a n) → IsOpenBody (length (laid p qs)) n.body
 open_body a n p [] h = absurd h
 open_body a n p (q ∷ qs) h = (
   is_object p,
@@ -387,7 +440,7 @@ outer_some : (qs : List Part) → HasOuter qs → 0 < length qs
 outer_some [] h = absurd h
 outer_some (q ∷ qs) h = omega arith
 
-module _ (a : List ℕ) (ns : List Node) (key : Option Span) (inner count depth : ℕ) (b : IsBuilder a ns key inner count depth) (s : State) (view : built a ns key ≡ s) (wanted : TakesClose s.0) where
+module _ (a : Held) (ns : List Node) (key : Option Span) (inner count depth : ℕ) (b : IsBuilder a ns key inner count depth) (s : State) (view : built a ns key ≡ s) (wanted : TakesClose s.0) where
   pub inside : HasOuter b.outer
   inside = has_outer b.part b.outer b.shape (subst (λ (x : State). TakesClose x.0) (sym (state_is a ns key inner count depth b s view)) wanted)
 
@@ -416,7 +469,7 @@ complete (top (Some t)) (q ∷ qs) h g = absurd h
 complete (elements ts) qs h g = absurd g
 complete (pairs ms k) qs h g = absurd g
 
-pub finishes : (a : List ℕ) (ns : List Node) (key : Option Span) (inner count depth : ℕ) → IsBuilder a ns key inner count depth
+pub finishes : (a : Held) (ns : List Node) (key : Option Span) (inner count depth : ℕ) → IsBuilder a ns key inner count depth
     → (s : State) → built a ns key ≡ s → IsComplete s → IsDoc a ns × (s ≡ (top (Some (tree_of (entries a ns))), []))
 finishes a ns key inner count depth b s view wanted =
     let same = state_is a ns key inner count depth b s view in
@@ -461,7 +514,7 @@ want_member (elements ts) k f e = cc
 want_member (pairs ms None) k f e = cc
 want_member (pairs ms (Some l)) k f e = refl
 
-object_opened : (a : List ℕ) (n : Node) (p : Part) (qs : List Part) → open_at p qs (entry_of a n) → opens_object n.body ≡ is_object p
+object_opened : (a : Held) (n : Node) (p : Part) (qs : List Part) → open_at p qs (entry_of a n) → opens_object n.body ≡ is_object p
 object_opened a n p [] h = absurd h
 object_opened a n p (q ∷ qs) h = ap opens_object (is_open a n.body (is_object p) (place q qs) (length (part_kids q)) (ap (λ (x : Entry). x.1) h))
 
@@ -469,7 +522,7 @@ some_outer : (qs : List Part) → 0 < length qs → HasOuter qs
 some_outer [] h = absurd (omega arith)
 some_outer (q ∷ qs) h = tt
 
-module _ (a : List ℕ) (ns : List Node) (key : Option Span) (inner count depth : ℕ) (b : IsBuilder a ns key inner count depth) (s : State) (view : built a ns key ≡ s) where
+module _ (a : Held) (ns : List Node) (key : Option Span) (inner count depth : ℕ) (b : IsBuilder a ns key inner count depth) (s : State) (view : built a ns key ≡ s) where
   part_is : (w : Want) → w ≡ want_of b.part → w ≡ want_of s.0
   part_is w e = e ∙ ap (λ (x : State). want_of x.0) (state_is a ns key inner count depth b s view)
 
@@ -490,10 +543,10 @@ module _ (a : List ℕ) (ns : List Node) (key : Option Span) (inner count depth 
     wants_items f = part_is wants.ValueOrClose (want_items b.part b.outer b.shape (omega (arith, b.depth_is)) (sym object_is ∙ f))
 
     pub wants_key : opens_object n.body ≡ true → key ≡ None → wants.KeyOrClose ≡ want_of s.0
-    wants_key f g = part_is wants.KeyOrClose (want_key b.part (sym object_is ∙ f) (sym b.keyed ∙ ap (option_map (text_in a)) g))
+    wants_key f g = part_is wants.KeyOrClose (want_key b.part (sym object_is ∙ f) (sym b.keyed ∙ ap (option_map (text_in a.0)) g))
 
     pub wants_member : (k : Span) → opens_object n.body ≡ true → key ≡ Some k → wants.Value ≡ want_of s.0
-    wants_member k f g = part_is wants.Value (want_member b.part (text_in a k) (sym object_is ∙ f) (sym b.keyed ∙ ap (option_map (text_in a)) g))
+    wants_member k f g = part_is wants.Value (want_member b.part (text_in a.0 k) (sym object_is ∙ f) (sym b.keyed ∙ ap (option_map (text_in a.0)) g))
 
-pub count_nodes : (a : List ℕ) (ns : List Node) (key : Option Span) (inner count depth : ℕ) → IsBuilder a ns key inner count depth → (s : State) → built a ns key ≡ s → length ns ≡ node_total s
+pub count_nodes : (a : Held) (ns : List Node) (key : Option Span) (inner count depth : ℕ) → IsBuilder a ns key inner count depth → (s : State) → built a ns key ≡ s → length ns ≡ node_total s
 count_nodes a ns key inner count depth b s view = total a ns key inner count depth b ∙ ap node_total (state_is a ns key inner count depth b s view)

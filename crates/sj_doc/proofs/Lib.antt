@@ -1,4 +1,5 @@
 pub mod Docs
+pub mod Made
 pub mod Builders
 pub mod Listing
 pub mod Distinct

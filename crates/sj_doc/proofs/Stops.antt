@@ -3,7 +3,7 @@ use Rattle.std.proofs.Common.{◌≡◌, ℕ, ◌+◌, ◌*◌, ◌<◌, ◌≤�
 use Rattle.std.specs.List.{AllByRecursion}
 use Rattle.std.proofs.lemmas.List.{map-append}
 use Rattle.std.proofs.lemmas.Bool.Decides.{eqb_tells}
-use Rattle.sj_json.specs.Tree.{Tree, null, truth, string, array, object, Items, no_items, item, Members, no_members, member, below, items_size, members_size}
+use Rattle.sj_json.specs.Tree.{Tree, null, truth, string, number, array, object, Items, no_items, item, Members, no_members, member, below, items_size, members_size}
 use Rattle.sj_doc.specs.declared.node.Kind.TheVariants as kinds
 use Rattle.sj_doc.specs.Tours.{Visited, enter, leave, tour, item_tours, member_tours}
 use Rattle.sj_doc.specs.Stops.{Place, Stop, arrive, depart, stops, item_stops, member_stops, visit, begins, ends, Leads, visits_from}
@@ -15,6 +15,7 @@ mutual
   visits_all d p k i null = refl
   visits_all d p k i (truth b) = refl
   visits_all d p k i (string s) = refl
+  visits_all d p k i (number v) = refl
   visits_all d p k i (array ts) =
       let last = depart (i + 1 + items_size ts) d i p kinds.Array in
       ap (λ (x : List Visited). enter (k, i, array ts) ∷ x) (map-append visit (item_stops (d + 1) i (i + 1) ts) (last ∷ []) ∙ ap (λ (x : List Visited). x ++ leave kinds.Array ∷ []) (visits_items (d + 1) i (i + 1) ts))
@@ -51,6 +52,7 @@ mutual
   leads_all d p k i null = (refl, ap (λ (x : ℕ). (x, d, p)) (omega arith))
   leads_all d p k i (truth b) = (refl, ap (λ (x : ℕ). (x, d, p)) (omega arith))
   leads_all d p k i (string s) = (refl, ap (λ (x : ℕ). (x, d, p)) (omega arith))
+  leads_all d p k i (number v) = (refl, ap (λ (x : ℕ). (x, d, p)) (omega arith))
   leads_all d p k i (array ts) =
       let e = i + 1 + items_size ts in
       (refl, leads-append (i + 1, d + 1, i) (e, d + 1, i) (e, d, p) (item_stops (d + 1) i (i + 1) ts) (depart e d i p kinds.Array ∷ []) (leads_items (d + 1) i (i + 1) ts) (refl, refl))
@@ -107,6 +109,7 @@ mutual
   between_all d p k i null = ((omega arith, omega arith), tt)
   between_all d p k i (truth b) = ((omega arith, omega arith), tt)
   between_all d p k i (string s) = ((omega arith, omega arith), tt)
+  between_all d p k i (number v) = ((omega arith, omega arith), tt)
   between_all d p k i (array ts) =
       let e = i + 1 + items_size ts in
       let P = Between i e d in
@@ -145,6 +148,7 @@ mutual
   ordered_all d p k i null = (tt, tt)
   ordered_all d p k i (truth b) = (tt, tt)
   ordered_all d p k i (string s) = (tt, tt)
+  ordered_all d p k i (number v) = (tt, tt)
   ordered_all d p k i (array ts) =
       let e = i + 1 + items_size ts in
       around d i e (arrive i d p k (array ts)) (depart e d i p kinds.Array) (item_stops (d + 1) i (i + 1) ts) refl refl refl refl (omega arith) (between_items (d + 1) i (i + 1) ts) (ordered_items (d + 1) i (i + 1) ts)

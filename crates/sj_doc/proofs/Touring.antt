@@ -4,7 +4,7 @@ use Rattle.std.specs.List.{AllByRecursion}
 use Rattle.std.proofs.lemmas.Bool.Decides.{eqb_tells}
 use Rattle.std.proofs.lemmas.List.{length-drop, drop-drop, drop_at, get_or-drop}
 use borrow.Author.Tests.{le-ltb}
-use Rattle.sj_json.specs.Tree.{Tree, null, truth, string, array, object, Items, no_items, item, Members, no_members, member, Child, below, items_size, members_size, subtree, node_count}
+use Rattle.sj_json.specs.Tree.{Tree, null, truth, string, number, array, object, Items, no_items, item, Members, no_members, member, Child, below, items_size, members_size, subtree, node_count}
 use Rattle.sj_json.specs.Cells.{null_cell, Entry, layout, layout_items, layout_members}
 use Rattle.sj_json.specs.Links.{ups, item_ups, member_ups}
 use Rattle.sj_json.proofs.Places.{length-layout, length-subtrees, lies_at}
@@ -40,6 +40,7 @@ ups-first : (n : ℕ) (u : Tree) (rest : List ℕ) → get_or (ups n u ++ rest) 
 ups-first n null rest = refl
 ups-first n (truth b) rest = refl
 ups-first n (string s) rest = refl
+ups-first n (number v) rest = refl
 ups-first n (array ts) rest = refl
 ups-first n (object ms) rest = refl
 
@@ -90,6 +91,7 @@ module _ (t : Tree) (first : ℕ) where
     good_tree d p k i null l lies links same top inside = ((l, lies, same, top, inside), tt)
     good_tree d p k i (truth b) l lies links same top inside = ((l, lies, same, top, inside), tt)
     good_tree d p k i (string s) l lies links same top inside = ((l, lies, same, top, inside), tt)
+    good_tree d p k i (number v) l lies links same top inside = ((l, lies, same, top, inside), tt)
     good_tree d p k i (array ts) l lies links same top inside =
         let e = i + 1 + items_size ts in
         let far : i + 1 - 1 ≡ i = omega arith in (
@@ -331,7 +333,9 @@ container_arrival l i null k e (inr h) = cc
 container_arrival l i (truth b) k e (inl h) = cc
 container_arrival l i (truth b) k e (inr h) = cc
 container_arrival l i (string s) k e (inl h) = cc
+container_arrival l i (number v) k e (inl h) = cc
 container_arrival l i (string s) k e (inr h) = cc
+container_arrival l i (number v) k e (inr h) = cc
 container_arrival l i (array ts) k e h = refl
 container_arrival l i (object ms) k e h = refl
 
@@ -341,7 +345,9 @@ container_beyond a d p null k e (inr h) = cc
 container_beyond a d p (truth b) k e (inl h) = cc
 container_beyond a d p (truth b) k e (inr h) = cc
 container_beyond a d p (string s) k e (inl h) = cc
+container_beyond a d p (number v) k e (inl h) = cc
 container_beyond a d p (string s) k e (inr h) = cc
+container_beyond a d p (number v) k e (inr h) = cc
 container_beyond a d p (array ts) k e h = refl
 container_beyond a d p (object ms) k e h = refl
 
@@ -349,6 +355,7 @@ pub scalar_arrival : (l : Option (List ℕ)) (i : ℕ) (u : Tree) (k : Kind) →
 scalar_arrival l i null k e h g = refl
 scalar_arrival l i (truth b) k e h g = refl
 scalar_arrival l i (string s) k e h g = refl
+scalar_arrival l i (number v) k e h g = refl
 scalar_arrival l i (array ts) k e h g = absurd (h e)
 scalar_arrival l i (object ms) k e h g = absurd (g e)
 
@@ -356,5 +363,6 @@ pub scalar_beyond : (a d p : ℕ) (u : Tree) (k : Kind) → k ≡ kind_of u → 
 scalar_beyond a d p null k e h g = refl
 scalar_beyond a d p (truth b) k e h g = refl
 scalar_beyond a d p (string s) k e h g = refl
+scalar_beyond a d p (number v) k e h g = refl
 scalar_beyond a d p (array ts) k e h g = absurd (h e)
 scalar_beyond a d p (object ms) k e h g = absurd (g e)

@@ -2,7 +2,7 @@
 use Rattle.std.proofs.Common.{◌≡◌, ℕ, zero, suc, ◌+◌, ◌-◌, ◌<◌, ◌≤◌, List, [], ◌++◌, length, drop, get_or, refl, sym, ap, ◌∙◌, subst, append_assoc, length-append, arith, inl, inr}
 use Rattle.std.proofs.lemmas.List.{append-nil, drop_at, drop-append-le, drop-drop, get_or_append_left, get_or-append_right}
 use Rattle.std.proofs.lemmas.Bool.{cases_lt}
-use Rattle.sj_json.specs.Tree.{Tree, null, truth, string, array, object, Items, no_items, item, Members, no_members, member, below, items_size, members_size, subtrees, items_subtrees, members_subtrees}
+use Rattle.sj_json.specs.Tree.{Tree, null, truth, string, number, array, object, Items, no_items, item, Members, no_members, member, below, items_size, members_size, subtrees, items_subtrees, members_subtrees}
 use Rattle.sj_json.specs.Links.{ups, item_ups, member_ups}
 use Rattle.sj_json.proofs.Places.{length-subtrees}
 
@@ -11,6 +11,7 @@ mutual
   length-ups n null = refl
   length-ups n (truth b) = refl
   length-ups n (string s) = refl
+  length-ups n (number v) = refl
   length-ups n (array ts) = omega (arith, length-item_ups 1 ts)
   length-ups n (object ms) = omega (arith, length-member_ups 1 ms)
 
@@ -57,7 +58,9 @@ mutual
   ups_at n (truth b) zero h = alone n (truth b)
   ups_at n (truth b) (suc i) h = absurd (omega arith)
   ups_at n (string s) zero h = alone n (string s)
+  ups_at n (number v) zero h = alone n (number v)
   ups_at n (string s) (suc i) h = absurd (omega arith)
+  ups_at n (number v) (suc i) h = absurd (omega arith)
   ups_at n (array ts) zero h = alone n (array ts)
   ups_at n (array ts) (suc i) h = ups_at_items 1 ts i (omega arith)
   ups_at n (object ms) zero h = alone n (object ms)
@@ -93,7 +96,9 @@ mutual
   ups_le n (truth b) zero = omega arith
   ups_le n (truth b) (suc i) = omega arith
   ups_le n (string s) zero = omega arith
+  ups_le n (number v) zero = omega arith
   ups_le n (string s) (suc i) = omega arith
+  ups_le n (number v) (suc i) = omega arith
   ups_le n (array ts) zero = omega arith
   ups_le n (array ts) (suc i) = omega (arith, item_ups_le 1 ts i)
   ups_le n (object ms) zero = omega arith

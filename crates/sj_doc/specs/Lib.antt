@@ -3,6 +3,7 @@ pub mod Kinds
 pub mod Builders
 pub mod Children
 pub mod Listed
+pub mod Numbers
 pub mod Slots
 pub mod Keys
 pub mod Tours

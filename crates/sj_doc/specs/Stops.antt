@@ -1,6 +1,6 @@
 -- The visits of a tour, each with the place that it is made from. A `Tour` keeps such a place alone.
 use Rattle.std.specs.Prelude.{◌≡◌, ℕ, ◌+◌, ◌-◌, ◌<◌, List, [], ◌∷◌, ◌++◌, map, get_or, nat_lt, cond, ◌==◌, ◌&&◌, Option, None, Some}
-use Rattle.sj_json.specs.Tree.{Tree, null, truth, string, array, object, Items, no_items, item, Members, no_members, member, below, items_size, members_size, subtree, node_count}
+use Rattle.sj_json.specs.Tree.{Tree, null, truth, string, number, array, object, Items, no_items, item, Members, no_members, member, below, items_size, members_size, subtree, node_count}
 use Rattle.sj_json.specs.Cells.{null_cell, layout}
 use Rattle.sj_json.specs.Links.{ups}
 use Rattle.sj_doc.specs.Tours.{Visited, enter, leave, leaf, Touring}
@@ -23,6 +23,7 @@ abbrev mutual
   stops d p k i null = arrive i d p k null ∷ []
   stops d p k i (truth b) = arrive i d p k (truth b) ∷ []
   stops d p k i (string s) = arrive i d p k (string s) ∷ []
+  stops d p k i (number v) = arrive i d p k (number v) ∷ []
   stops d p k i (array ts) = arrive i d p k (array ts) ∷ (item_stops (d + 1) i (i + 1) ts ++ depart (i + 1 + items_size ts) d i p kinds.Array ∷ [])
   stops d p k i (object ms) = arrive i d p k (object ms) ∷ (member_stops (d + 1) i (i + 1) ms ++ depart (i + 1 + members_size ms) d i p kinds.Object ∷ [])
 
@@ -38,6 +39,7 @@ abbrev pub arrival : Option (List ℕ) → ℕ → Tree → Visited
 arrival k i null = leaf (k, i, null)
 arrival k i (truth b) = leaf (k, i, truth b)
 arrival k i (string s) = leaf (k, i, string s)
+arrival k i (number v) = leaf (k, i, number v)
 arrival k i (array ts) = enter (k, i, array ts)
 arrival k i (object ms) = enter (k, i, object ms)
 
@@ -54,6 +56,7 @@ abbrev pub beyond : ℕ → ℕ → ℕ → Tree → Place
 beyond a d p null = (a + 1, d, p)
 beyond a d p (truth b) = (a + 1, d, p)
 beyond a d p (string s) = (a + 1, d, p)
+beyond a d p (number v) = (a + 1, d, p)
 beyond a d p (array ts) = (a + 1, d + 1, a)
 beyond a d p (object ms) = (a + 1, d + 1, a)
 

@@ -1,7 +1,7 @@
 -- The tour of a tree: all its nodes in order, each container at its start and again at its end.
 use Rattle.std.specs.Prelude.{◌≡◌, ℕ, ◌+◌, List, [], ◌∷◌, ◌++◌, Bool, true, false, cond, ◌==◌, Option, Some, None, refl}
 use Rattle.std.specs.Coded.{Coded, code_by, coded×, coded_ℕ, coded_list, coded_bool}
-use Rattle.sj_json.specs.Tree.{Tree, null, truth, string, array, object, Items, no_items, item, Members, no_members, member, below}
+use Rattle.sj_json.specs.Tree.{Tree, null, truth, string, number, array, object, Items, no_items, item, Members, no_members, member, below}
 use Rattle.sj_json.specs.Coding.{key_code, tree_code}
 use Rattle.sj_doc.specs.declared.node.Kind.{Kind}
 use Rattle.sj_doc.specs.declared.node.Kind.TheVariants as kinds
@@ -24,6 +24,7 @@ abbrev mutual
   tour k i null = leaf (k, i, null) ∷ []
   tour k i (truth b) = leaf (k, i, truth b) ∷ []
   tour k i (string s) = leaf (k, i, string s) ∷ []
+  tour k i (number v) = leaf (k, i, number v) ∷ []
   tour k i (array ts) = enter (k, i, array ts) ∷ (item_tours (i + 1) ts ++ leave kinds.Array ∷ [])
   tour k i (object ms) = enter (k, i, object ms) ∷ (member_tours (i + 1) ms ++ leave kinds.Object ∷ [])
 
@@ -49,9 +50,10 @@ kind_to kinds.Truth = 1
 kind_to kinds.String = 2
 kind_to kinds.Array = 3
 kind_to kinds.Object = 4
+kind_to kinds.Number = 5
 
 abbrev pub kind_from : ℕ → Kind
-kind_from n = cond (n == 0) kinds.Null (cond (n == 1) kinds.Truth (cond (n == 2) kinds.String (cond (n == 3) kinds.Array kinds.Object)))
+kind_from n = cond (n == 0) kinds.Null (cond (n == 1) kinds.Truth (cond (n == 2) kinds.String (cond (n == 3) kinds.Array (cond (n == 4) kinds.Object kinds.Number))))
 
 pub kind_back : (k : Kind) → kind_from (kind_to k) ≡ k
 kind_back kinds.Null = refl
@@ -59,6 +61,7 @@ kind_back kinds.Truth = refl
 kind_back kinds.String = refl
 kind_back kinds.Array = refl
 kind_back kinds.Object = refl
+kind_back kinds.Number = refl
 
 abbrev pub Stored : Type 0
 Stored = ℕ × (ℕ × (Option (List ℕ) × (ℕ × Tree)))
@@ -80,6 +83,7 @@ visited_back (leave kinds.Truth) = refl
 visited_back (leave kinds.String) = refl
 visited_back (leave kinds.Array) = refl
 visited_back (leave kinds.Object) = refl
+visited_back (leave kinds.Number) = refl
 visited_back (leaf n) = refl
 
 abbrev pub visited_code : Coded Visited

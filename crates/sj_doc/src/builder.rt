@@ -1,13 +1,15 @@
 // A document while it is being built.
 ghost use Rattle.std.specs.Prelude.{◌≡◌, ◌+◌, ◌-◌, ◌^◌, ◌<◌, ◌≤◌, length, [], IfOk, OnOk, OnErr, Some, true, false};
-ghost use Rattle.sj_json.specs.Tree.{null, truth, string};
+ghost use Rattle.sj_decimal.specs.Number.{SpellsWide};
+ghost use Rattle.sj_json.specs.Tree.{null, truth, string, number, exact, wide};
 ghost use Rattle.sj_json.specs.Building.{fresh, TakesValue, TakesKey, TakesClose, with_value, with_key, with_open, with_close, IsComplete, top};
-ghost use Rattle.sj_doc.specs.Builders.{node_total, Stores};
+ghost use Rattle.sj_doc.specs.Builders.{node_total, Stores, StoresNumber};
 ghost use Rattle.sj_doc.specs.Kinds.{want_of};
 
 use crate::doc::Doc;
 use crate::node::{Body, Node, Span, Want};
 use sj_base::Memory;
+use sj_decimal::Decimal;
 use std::alloc::Global;
 use std::marker::Model;
 
@@ -15,11 +17,12 @@ use std::marker::Model;
 /// open container holds so far, and then the same of those around it, from the inside out.
 ///
 /// A value may come where `wants` is `Value` or `ValueOrClose` and fewer than 2^25 nodes were built. All
-/// strings and keys together may have 2^32 - 1 bytes: a call that would pass this gives `Memory`. A call
-/// that gives `Memory` leaves the builder as it was.
+/// strings, keys and wide numbers together may have 2^32 - 1 bytes: a call that would pass this gives
+/// `Memory`. A call that gives `Memory` leaves the builder as it was.
 #[derive(Drop)]
 pub struct DocBuilder {
     arena: Vec<u8>,
+    numbers: Vec<Decimal>,
     nodes: Vec<Node>,
     // the key whose value comes next
     key: Option<Span>,
@@ -40,9 +43,9 @@ impl Model for DocBuilder {
 
     ghost use Rattle.sj_doc.specs.Builders.{built, IsBuilder};
 
-    ghost view = { λ b. built b.arena.items b.nodes.items b.key };
+    ghost view = { λ b. built (b.arena.items, b.numbers.items) b.nodes.items b.key };
 
-    ghost invariant = { λ b. IsBuilder b.arena.items b.nodes.items b.key b.inner b.count b.depth };
+    ghost invariant = { λ b. IsBuilder (b.arena.items, b.numbers.items) b.nodes.items b.key b.inner b.count b.depth };
 }
 
 // Puts s at the end of the text, which has room for 2^32 - 1 bytes.
@@ -63,22 +66,39 @@ fn store(arena: &mut Vec<u8>, s: &str) -> Result<Span, Memory>
     })
 }
 
+// Puts n at the end of the exact numbers, which has room for 2^32 - 1 of them.
+#[inline(always)]
+fn store_number(numbers: &mut Vec<Decimal>, n: Decimal) -> Result<u32, Memory>
+    requires { length numbers.old.items < 2 ^ 32 }
+    ensures ok { IfOk result (λ at. StoresNumber numbers.old.items numbers.new.items n at) }
+    ensures err { OnErr result (numbers.new.items ≡ numbers.old.items) }
+{
+    let at = numbers.len();
+    if at >= u32::MAX as usize {
+        return Err(Memory);
+    }
+    numbers.push(n)?;
+    Ok(at as u32)
+}
+
 impl DocBuilder {
     /// An empty builder. It takes no memory yet.
     pub fn new(alloc: Global) -> DocBuilder
         ensures { result ≡ fresh }
     {
-        DocBuilder::over(Vec::new(alloc), Vec::new(alloc))
+        DocBuilder::over(Vec::new(alloc), Vec::new(alloc), Vec::new(alloc))
     }
 
     // An empty builder over the memory of these vectors.
-    pub(crate) fn over(arena: Vec<u8>, nodes: Vec<Node>) -> DocBuilder
+    pub(crate) fn over(arena: Vec<u8>, numbers: Vec<Decimal>, nodes: Vec<Node>) -> DocBuilder
         requires no_text { arena.items ≡ [] }
+        requires no_numbers { numbers.items ≡ [] }
         requires no_nodes { nodes.items ≡ [] }
         ensures { result ≡ fresh }
     {
         DocBuilder {
             arena,
+            numbers,
             nodes,
             key: None,
             inner: 0,
@@ -136,6 +156,47 @@ impl DocBuilder {
             key: self.key,
             up: self.nodes.len() as u32 - self.inner,
             body: Body::Text(span),
+        })?;
+        self.key = None;
+        self.count += 1;
+        Ok(())
+    }
+
+    /// An exact number.
+    #[inline]
+    pub fn exact(&mut self, n: Decimal) -> Result<(), Memory>
+        requires wanted { TakesValue self.old.0 }
+        requires room { node_total self.old < 2 ^ 25 }
+        ensures ok { OnOk result (self.new ≡ with_value (number (exact n)) self.old) }
+        ensures err { OnErr result (self.new ≡ self.old) }
+    {
+        // shows the proof that n is in normal form and within the limits
+        let _ = n.parts();
+        let at = store_number(&mut self.numbers, n)?;
+        self.nodes.push(Node {
+            key: self.key,
+            up: self.nodes.len() as u32 - self.inner,
+            body: Body::Exact(at),
+        })?;
+        self.key = None;
+        self.count += 1;
+        Ok(())
+    }
+
+    /// A number whose value is not exact, by its spelling.
+    #[inline]
+    pub fn wide(&mut self, spelling: &str) -> Result<(), Memory>
+        requires wanted { TakesValue self.old.0 }
+        requires room { node_total self.old < 2 ^ 25 }
+        requires wide { SpellsWide spelling.now }
+        ensures ok { OnOk result (self.new ≡ with_value (number (wide spelling.now)) self.old) }
+        ensures err { OnErr result (self.new ≡ self.old) }
+    {
+        let span = store(&mut self.arena, spelling)?;
+        self.nodes.push(Node {
+            key: self.key,
+            up: self.nodes.len() as u32 - self.inner,
+            body: Body::Wide(span),
         })?;
         self.key = None;
         self.count += 1;
@@ -268,6 +329,7 @@ impl DocBuilder {
     {
         Doc {
             arena: self.arena,
+            numbers: self.numbers,
             nodes: self.nodes,
         }
     }

@@ -1,6 +1,7 @@
 // The document and its nodes.
 ghost use Rattle.std.specs.Prelude.{◌≡◌, ◌+◌, ◌^◌, ◌<◌, ◌≤◌, length, false, None, option_map};
-ghost use Rattle.sj_json.specs.Tree.{node_count, subtree, below, children, numbered, string, truth};
+ghost use Rattle.sj_json.specs.Tree.{node_count, subtree, below, children, numbered, string, truth, number};
+ghost use Rattle.sj_json.specs.Printing.{IsTree};
 ghost use Rattle.sj_json.specs.Building.{fresh};
 ghost use Rattle.sj_doc.specs.Kinds.{kind_of};
 ghost use Rattle.sj_doc.specs.Nodes.{text_in, IsSpan};
@@ -11,12 +12,14 @@ use crate::builder::DocBuilder;
 use crate::children::Children;
 use crate::node::{Body, Kind, Node, Span};
 use crate::tour::Tour;
+use sj_decimal::Decimal;
 use std::marker::Model;
 
 /// A JSON document (RFC 8259), which keeps equal keys in their order. Contracts see it as one tree.
 #[derive(Drop)]
 pub struct Doc {
     pub(crate) arena: Vec<u8>,
+    pub(crate) numbers: Vec<Decimal>,
     pub(crate) nodes: Vec<Node>,
 }
 
@@ -31,9 +34,9 @@ impl Model for Doc {
     ghost use Rattle.sj_doc.specs.Nodes.{entries, IsDoc};
     ghost use Rattle.sj_json.specs.Cells.{tree_of};
 
-    ghost view = { λ d. tree_of (entries d.arena.items d.nodes.items) };
+    ghost view = { λ d. tree_of (entries (d.arena.items, d.numbers.items) d.nodes.items) };
 
-    ghost invariant = { λ d. IsDoc d.arena.items d.nodes.items };
+    ghost invariant = { λ d. IsDoc (d.arena.items, d.numbers.items) d.nodes.items };
 }
 
 /// A node of a document. Contracts see its number in preorder, `node_id`, and the tree that begins there,
@@ -53,6 +56,15 @@ pub struct Member<'d> {
     pub node: NodeRef<'d>,
 }
 
+/// A number.
+#[derive(Clone, Copy)]
+pub enum Num<'d> {
+    /// Its value, which has at most 38 digits and at most 38 decimals.
+    Exact(Decimal),
+    /// Its spelling, as RFC 8259, section 6, writes numbers. Its value is not exact.
+    Wide(&'d str),
+}
+
 pub(crate) fn text_at(arena: &[u8], span: Span) -> &str
     requires { IsSpan arena.now span }
     ensures { result.now ≡ text_in arena.now span }
@@ -69,7 +81,10 @@ impl Doc {
     pub fn root(&self) -> NodeRef<'_>
         ensures tree { node_tree result ≡ self.now }
         ensures number { node_id result ≡ 0 }
+        ensures made { IsTree self.now }
     {
+        // shows the proof that the numbers are well made
+        let _ = &self.nodes;
         NodeRef { doc: self, at: 0 }
     }
 
@@ -79,11 +94,13 @@ impl Doc {
     {
         let Doc {
             mut arena,
+            mut numbers,
             mut nodes,
         } = self;
         arena.clear();
+        numbers.clear();
         nodes.clear();
-        DocBuilder::over(arena, nodes)
+        DocBuilder::over(arena, numbers, nodes)
     }
 }
 
@@ -138,6 +155,7 @@ impl Doc {
 
 impl<'d> NodeRef<'d> {
     ghost use Rattle.sj_doc.specs.Listed.{node_id, node_tree};
+    ghost use Rattle.sj_doc.specs.Numbers.{number_in};
 
     /// Its number: the root has 0, and the nodes follow in preorder. It is below 2^25.
     pub fn id(self) -> u64
@@ -163,6 +181,19 @@ impl<'d> NodeRef<'d> {
         let doc: &Doc = self.doc;
         match doc.nodes[self.at as usize].body {
             Body::Text(span) => text_at(&doc.arena, span),
+            _ => unreachable!(),
+        }
+    }
+
+    /// A number.
+    pub fn number(self) -> Num<'d>
+        requires { kind_of (node_tree self) ≡ Kind.Number }
+        ensures { node_tree self.entry ≡ number (number_in result) }
+    {
+        let doc: &Doc = self.doc;
+        match doc.nodes[self.at as usize].body {
+            Body::Exact(at) => Num::Exact(doc.numbers[at as usize]),
+            Body::Wide(span) => Num::Wide(text_at(&doc.arena, span)),
             _ => unreachable!(),
         }
     }

@@ -1,7 +1,8 @@
-//! A JSON document: one vector of nodes in preorder, and one run of bytes for the text of all strings and
-//! keys. No call walks a document by recursion.
+//! A JSON document: one vector of nodes in preorder, one run of bytes for the text of all strings and keys,
+//! and one vector of exact numbers. No call walks a document by recursion.
 //!
-//! It stands on `sj_json` for the definitions and on `sj_base` for the counter of steps.
+//! It stands on `sj_json` for the definitions, on `sj_decimal` for exact numbers and on `sj_base` for the
+//! counter of steps.
 //!
 //! Every contract sees a `Doc` as one tree, a `NodeRef` as its number in preorder and the tree that begins
 //! there, `Children` as the list of the children that are left, a `Tour` as the list of the visits that are
@@ -23,6 +24,6 @@ mod tour;
 
 pub use builder::DocBuilder;
 pub use children::Children;
-pub use doc::{Doc, Member, NodeRef};
+pub use doc::{Doc, Member, NodeRef, Num};
 pub use node::{Kind, Want};
 pub use tour::{Tour, Visit};

@@ -7,6 +7,7 @@ ghost use Rattle.sj_doc.specs.Kinds.{body_kind, body_count, body_below, opens_ob
 pub enum Kind {
     Null,
     Truth,
+    Number,
     String,
     Array,
     Object,
@@ -39,6 +40,10 @@ pub(crate) enum Body {
     Null,
     Truth(bool),
     Text(Span),
+    // its place among the exact numbers
+    Exact(u32),
+    // its spelling
+    Wide(Span),
     Closed {
         is_object: bool,
         count: u32,
@@ -67,6 +72,7 @@ impl Body {
             Body::Null => Kind::Null,
             Body::Truth(_) => Kind::Truth,
             Body::Text(_) => Kind::String,
+            Body::Exact(_) | Body::Wide(_) => Kind::Number,
             Body::Closed {
                 is_object: false,
                 ..

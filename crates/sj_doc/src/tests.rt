@@ -1,6 +1,7 @@
 // A document is built, walked and built anew.
-use crate::{DocBuilder, Kind, Want};
+use crate::{DocBuilder, Kind, Num, Want};
 use sj_base::{Steps, Tally};
+use sj_decimal::Decimal;
 use std::test::Fail;
 
 #[test]
@@ -32,5 +33,26 @@ fn builds_and_walks(rt: HostRuntime) -> Result<(), Fail> {
     assert!(rt; doc.root().tour().next(&mut steps).is_some());
     assert_eq!(rt; steps.ledger().count(), 3);
     assert_eq!(rt; doc.recycle().wants(), Want::Value);
+    Ok(())
+}
+
+#[test]
+fn keeps_numbers(rt: HostRuntime) -> Result<(), Fail> {
+    let mut builder = DocBuilder::new(rt.alloc());
+    builder.open_array()?;
+    builder.exact(Decimal::from_parts(15, 1).ok_or("no decimal")?)?;
+    builder.exact(Decimal::from_parts(-7, 0).ok_or("no decimal")?)?;
+    builder.close();
+    let doc = builder.finish();
+    let mut steps = Steps::new(Tally::new());
+    let mut elements = doc.root().children();
+    for wanted in ["1.5", "-7"] {
+        let element = elements.next(&mut steps).ok_or("no element")?;
+        assert_eq!(rt; element.node.kind(), Kind::Number);
+        match element.node.number() {
+            Num::Exact(n) => assert_eq!(rt; n.text().as_str(), wanted),
+            Num::Wide(spelling) => assert_eq!(rt; spelling, wanted),
+        }
+    }
     Ok(())
 }

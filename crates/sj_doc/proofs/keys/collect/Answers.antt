@@ -1,5 +1,5 @@
 use Rattle.std.proofs.Common.{◌≡◌, ◌+◌, ℕ, List, [], ◌∷◌, ◌++◌, Bor, refl, ap, ◌∙◌}
-use Rattle.sj_json.specs.Tree.{Tree, null, truth, string, array, object, Items, no_items, item, Members, no_members, member, item_list, member_list, below, numbered, children, subtree}
+use Rattle.sj_json.specs.Tree.{Tree, null, truth, string, number, array, object, Items, no_items, item, Members, no_members, member, item_list, member_list, below, numbered, children, subtree}
 use Rattle.sj_json.specs.Keys.{keys, member_keys}
 use Rattle.sj_doc.specs.Slots.{texts}
 use Rattle.sj_doc.specs.Keys.{given}
@@ -17,6 +17,7 @@ given-children : (t : Tree) (i : ℕ) → given (numbered i (children t)) ≡ ke
 given-children null i = refl
 given-children (truth b) i = refl
 given-children (string s) i = refl
+given-children (number v) i = refl
 given-children (array ts) i = given-items ts i
 given-children (object ms) i = given-members ms i
 

@@ -5,16 +5,16 @@ use Rattle.sj_doc.proofs.Builders.{depth_small, opens}
 use Rattle.sj_doc.proofs.builder.DocBuilder.begin.Goals as goal
 use Rattle.sj_doc.proofs.builder.DocBuilder.begin.Goals.{In_ok-push}
 
-both : (c : In_ok-push) → IsBuilder c.self.inside.arena.items c.push.new.self.items None c.len-at.result 0 (c.self.inside.depth + 1) × (built c.self.inside.arena.items c.push.new.self.items None ≡ with_open c.args.is_object c.args.self.now)
+both : (c : In_ok-push) → IsBuilder (c.self.inside.arena.items, c.self.inside.numbers.items) c.push.new.self.items None c.len-at.result 0 (c.self.inside.depth + 1) × (built (c.self.inside.arena.items, c.self.inside.numbers.items) c.push.new.self.items None ≡ with_open c.args.is_object c.args.self.now)
 both c =
     let f = c.self.inside in
-    let r = opens f.arena.items f.nodes.items f.key f.inner f.count f.depth c.self.invariant c.args.self.now c.self.view_is c.args.is_object c.requires.wanted c.requires.room (c.len-at.result - c.self.inside.inner) (omega (arith, c.len-at.ensures, c.self.inside.nodes.ok.0)) c.push.new.self.items c.in_ok-push.ensures.items in
-    (subst (λ (i : ℕ). IsBuilder f.arena.items c.push.new.self.items None i 0 (f.depth + 1)) (sym (c.len-at.ensures ∙ f.nodes.ok.0)) r.0, r.1)
+    let r = opens (f.arena.items, f.numbers.items) f.nodes.items f.key f.inner f.count f.depth c.self.invariant c.args.self.now c.self.view_is c.args.is_object c.requires.wanted c.requires.room (c.len-at.result - c.self.inside.inner) (omega (arith, c.len-at.ensures, c.self.inside.nodes.ok.0)) c.push.new.self.items c.in_ok-push.ensures.items in
+    (subst (λ (i : ℕ). IsBuilder (f.arena.items, f.numbers.items) c.push.new.self.items None i 0 (f.depth + 1)) (sym (c.len-at.ensures ∙ f.nodes.ok.0)) r.0, r.1)
 
 pub overflow_add-self : goal.overflow_add-self
 overflow_add-self c =
     let f = c.self.inside in
-    omega (arith, depth_small f.arena.items f.nodes.items f.key f.inner f.count f.depth c.self.invariant c.args.self.now c.self.view_is, c.self.invariant.small)
+    omega (arith, depth_small (f.arena.items, f.numbers.items) f.nodes.items f.key f.inner f.count f.depth c.self.invariant c.args.self.now c.self.view_is, c.self.invariant.small)
 
 pub invariant_of-self-2 : goal.invariant_of-self-2
 invariant_of-self-2 c = (both (goal.at.invariant_of-self-2 c).In_ok-push).0

@@ -13,35 +13,35 @@ on_err : {T E P : Type 0} (r : Result T E) → P → OnErr r P
 on_err (Ok x) p = tt
 on_err (Err e) p = p
 
-stored : (c : In_ok-span) → IsBuilder c.store.new.arena.items c.self.inside.nodes.items c.self.inside.key c.self.inside.inner c.self.inside.count c.self.inside.depth × (built c.store.new.arena.items c.self.inside.nodes.items c.self.inside.key ≡ c.args.self.now)
+stored : (c : In_ok-span) → IsBuilder (c.store.new.arena.items, c.self.inside.numbers.items) c.self.inside.nodes.items c.self.inside.key c.self.inside.inner c.self.inside.count c.self.inside.depth × (built (c.store.new.arena.items, c.self.inside.numbers.items) c.self.inside.nodes.items c.self.inside.key ≡ c.args.self.now)
 stored c =
     let f = c.self.inside in
     let st = c.in_ok-span.ensures.ok in
-    let g = text_comes f.arena.items f.nodes.items f.key f.inner f.count f.depth c.self.invariant c.args.s.now c.store.new.arena.items st.grown st.narrow in
+    let g = text_comes (f.arena.items, f.numbers.items) f.nodes.items f.key f.inner f.count f.depth c.self.invariant c.args.s.now c.store.new.arena.items st.grown st.narrow in
     (g.0, g.1 ∙ c.self.view_is)
 
-both : (c : In_ok-push) → IsBuilder c.store.new.arena.items c.push.new.self.items None c.self.inside.inner (c.self.inside.count + 1) c.self.inside.depth × (built c.store.new.arena.items c.push.new.self.items None ≡ with_value (string c.args.s.now) c.args.self.now)
+both : (c : In_ok-push) → IsBuilder (c.store.new.arena.items, c.self.inside.numbers.items) c.push.new.self.items None c.self.inside.inner (c.self.inside.count + 1) c.self.inside.depth × (built (c.store.new.arena.items, c.self.inside.numbers.items) c.push.new.self.items None ≡ with_value (string c.args.s.now) c.args.self.now)
 both c =
     let f = c.self.inside in
     let st = c.in_ok-span.ensures.ok in
     let g = stored (goal.at-In_ok-push c).In_ok-span in
-    let alone : IsAlone c.store.new.arena.items (string c.args.s.now) (Text c.in_ok-span.span) = λ k. ap (λ (x : List ℕ). (k, string_cell x) ∷ []) (sym st.same) in
+    let alone : IsAlone (c.store.new.arena.items, c.self.inside.numbers.items) (string c.args.s.now) (Text c.in_ok-span.span) = λ k. ap (λ (x : List ℕ). (k, string_cell x) ∷ []) (sym st.same) in
     value_comes _ _ _ _ _ _ g.0 c.args.self.now g.1 (string c.args.s.now) (Text c.in_ok-span.span) c.requires.wanted c.requires.room alone (λ n. refl) st.fits (c.len.result - c.self.inside.inner) (omega (arith, c.len.ensures, c.self.inside.nodes.ok.0)) c.push.new.self.items c.in_ok-push.ensures.items
 
 pub invariant_of-self-in_err-push : goal.invariant_of-self-in_err-push
 invariant_of-self-in_err-push c =
     let f = c.self.inside in
-    subst (λ (ns : List Node). IsBuilder c.store.new.arena.items ns f.key f.inner f.count f.depth) (sym {A = List Node} c.in_err-push.ensures.items) (stored (goal.at.invariant_of-self-in_err-push c).In_ok-span).0
+    subst (λ (ns : List Node). IsBuilder (c.store.new.arena.items, c.self.inside.numbers.items) ns f.key f.inner f.count f.depth) (sym {A = List Node} c.in_err-push.ensures.items) (stored (goal.at.invariant_of-self-in_err-push c).In_ok-span).0
 
 pub returns-in_err-push-clause-err : goal.returns-in_err-push-clause-err
 returns-in_err-push-clause-err c =
     let f = c.self.inside in
-    on_err c.from_residual-in_err-push.result (ap (λ (ns : List Node). built c.store.new.arena.items ns f.key) c.in_err-push.ensures.items ∙ (stored (goal.at.returns-in_err-push-clause-err c).In_ok-span).1)
+    on_err c.from_residual-in_err-push.result (ap (λ (ns : List Node). built (c.store.new.arena.items, c.self.inside.numbers.items) ns f.key) c.in_err-push.ensures.items ∙ (stored (goal.at.returns-in_err-push-clause-err c).In_ok-span).1)
 
 pub overflow_add-self : goal.overflow_add-self
 overflow_add-self c =
     let f = c.self.inside in
-    omega (arith, count_small f.arena.items f.nodes.items f.key f.inner f.count f.depth c.self.invariant c.args.self.now c.self.view_is, c.self.invariant.small)
+    omega (arith, count_small (f.arena.items, f.numbers.items) f.nodes.items f.key f.inner f.count f.depth c.self.invariant c.args.self.now c.self.view_is, c.self.invariant.small)
 
 pub invariant_of-self-2 : goal.invariant_of-self-2
 invariant_of-self-2 c = (both (goal.at.invariant_of-self-2 c).In_ok-push).0

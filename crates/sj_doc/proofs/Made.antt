@@ -1,0 +1,52 @@
+-- The numbers of a document are well made.
+use Rattle.std.proofs.Common.{◌≡◌, ℕ, suc, ◌<◌, List, [], ◌∷◌, length, get_or, None, subst, arith}
+use Rattle.std.specs.List.{AllByRecursion}
+use Rattle.std.proofs.lemmas.List.{get_or_default}
+use Rattle.sj_json.specs.Tree.{Number, Tree, null, truth, string, number, array, object, subtrees, subtree}
+use Rattle.sj_json.specs.Cells.{number_cell, tree_of}
+use Rattle.sj_json.specs.Printing as printing
+use Rattle.sj_json.specs.Printing.{IsWellMade, IsTree}
+use Rattle.sj_json.proofs.Places.{length-subtrees}
+use Rattle.sj_doc.specs.declared.node.Body.{Body}
+use Rattle.sj_doc.specs.declared.node.Body.TheVariants.{Null, Truth, Text, Exact, Wide, Closed, Opened}
+use Rattle.sj_doc.specs.declared.node.Node.{Node}
+use Rattle.sj_doc.specs.Nodes.{Held, cell_of, entries, IsBody, IsNode, IsDoc}
+use Rattle.sj_doc.proofs.Docs.{count, cell_at, head_cell, all_at}
+
+same_number : {v w : Number} → number_cell v ≡ number_cell w → v ≡ w
+same_number e = cc
+
+number_made : (held : Held) (b : Body) (v : Number) → IsBody held b → cell_of held b ≡ number_cell v → IsWellMade v
+number_made held Null v h e = cc
+number_made held (Truth x) v h e = cc
+number_made held (Text s) v h e = cc
+number_made held (Exact i) v h e = subst IsWellMade (same_number e) h.1
+number_made held (Wide s) v h e = subst IsWellMade (same_number e) h.1
+number_made held (Closed k n m) v h e = cc
+number_made held (Opened k n m) v h e = cc
+
+node_made : (held : Held) (b : Body) (t : Tree) → IsBody held b → cell_of held b ≡ head_cell t → printing.IsNode t
+node_made held b null h e = tt
+node_made held b (truth x) h e = tt
+node_made held b (string s) h e = tt
+node_made held b (number v) h e = number_made held b v h e
+node_made held b (array ts) h e = tt
+node_made held b (object ms) h e = tt
+
+all_from : {X : Type 0} (P : X → Type 0) (d : X) (xs : List X) → ((i : ℕ) → i < length xs → P (get_or xs i d)) → AllByRecursion P xs
+all_from P d [] h = tt
+all_from P d (x ∷ xs) h = (h 0 (omega arith), all_from P d xs (λ i l. h (suc i) (omega (arith, l))))
+
+nothing : Node
+nothing = record { key = None; up = 0; body = Null }
+
+module _ (held : Held) (nodes : List Node) (t : Tree) (doc : IsDoc held nodes) (view : tree_of (entries held nodes) ≡ t) where
+  made_at : (i : ℕ) → i < length (subtrees t) → printing.IsNode (get_or (subtrees t) i null)
+  made_at i l =
+      let n = get_or nodes i nothing in
+      let within : i < length nodes = omega (arith, count held nodes t doc view, length-subtrees t, l) in
+      let here : n ≡ get_or nodes i n = get_or_default nodes i nothing n within in
+      node_made held n.body (subtree t i) (all_at (IsNode held) nodes i n doc.fits within here).1 (cell_at held nodes t doc view i n (omega (arith, length-subtrees t, l)) here)
+
+  pub doc_made : IsTree t
+  doc_made = all_from printing.IsNode null (subtrees t) made_at
