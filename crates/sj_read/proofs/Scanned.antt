@@ -1,9 +1,9 @@
 -- The plain text that a run passes over, and the byte where it stops.
-use Rattle.std.proofs.Common.{◌≡◌, ◌≢◌, ℕ, suc, ◌+◌, ◌-◌, ◌<◌, ◌≤◌, List, [], ◌∷◌, length, take, drop, get_or, Bool, true, false, cond, refl, sym, ap, ◌∙◌, subst, arith, inl, inr}
+use Rattle.std.proofs.Common.{◌≡◌, ℕ, suc, ◌+◌, ◌-◌, ◌<◌, ◌≤◌, List, [], ◌∷◌, length, take, drop, get_or, Bool, true, false, cond, refl, sym, ap, ◌∙◌, subst, arith}
 use Rattle.std.specs.List.{AllByRecursion, prefix_len}
 use Rattle.std.proofs.lemmas.List.{get_or-drop, length-drop}
-use Rattle.sj_json.specs.Spelling.{is_plain, IsPlain}
-use Rattle.sj_read.specs.Scans.{EndsPlain, StopsPlain}
+use Rattle.sj_json.specs.Strings.{is_plain, IsPlain}
+use Rattle.sj_read.specs.Scans.{EndsPlain}
 
 plain_front : (xs : List ℕ) → AllByRecursion IsPlain (take (prefix_len is_plain xs) xs)
 plain_front [] = tt
@@ -29,7 +29,7 @@ next_no_plain (x ∷ xs) h = by (is_plain x) refl (next_no_plain xs) h
     by false e rest l = e
 
 module _ (xs : List ℕ) (from end : ℕ) (within : from ≤ length xs) (run : end ≡ from + prefix_len is_plain (drop from xs)) where
-  plain_run : AllByRecursion IsPlain (take (end - from) (drop from xs))
+  pub plain_run : AllByRecursion IsPlain (take (end - from) (drop from xs))
   plain_run =
       let same : prefix_len is_plain (drop from xs) ≡ end - from = omega (arith, run) in
       ap_to same (plain_front (drop from xs))
@@ -37,16 +37,10 @@ module _ (xs : List ℕ) (from end : ℕ) (within : from ≤ length xs) (run : e
       ap_to : {n m : ℕ} → n ≡ m → AllByRecursion IsPlain (take n (drop from xs)) → AllByRecursion IsPlain (take m (drop from xs))
       ap_to e h = subst (λ (n : ℕ). AllByRecursion IsPlain (take n (drop from xs))) e h
 
-  no_plain : end < length xs → is_plain (get_or xs end 0) ≡ false
+  pub no_plain : end < length xs → is_plain (get_or xs end 0) ≡ false
   no_plain h =
       let stop = next_no_plain (drop from xs) (omega (arith, run, length-drop from xs)) in
       ap (λ (i : ℕ). is_plain (get_or xs i 0)) run ∙ ap is_plain (sym (get_or-drop from xs (prefix_len is_plain (drop from xs)) 0)) ∙ stop
 
   pub ends_there : end < length xs → get_or xs end 0 ≡ 34 → EndsPlain xs from end
   ends_there h quote = record { later = omega (arith, run); within = h; plain = plain_run; quote = quote }
-
-  pub stops_there : end < length xs → get_or xs end 0 ≢ 34 → StopsPlain xs from
-  stops_there h other = record { at = end; later = omega (arith, run); plain = plain_run; stop = inr (h, no_plain h, other) }
-
-  pub stops_at_end : length xs ≤ end → StopsPlain xs from
-  stops_at_end h = record { at = end; later = omega (arith, run); plain = plain_run; stop = inl h }

@@ -1,14 +1,14 @@
 -- Steps of the reader of bytes, as the code takes them.
 use Rattle.std.proofs.Common.{◌≡◌, ◌≢◌, ℕ, ◌+◌, ◌-◌, ◌<◌, ◌≤◌, List, [], ◌∷◌, ◌++◌, length, take, drop, get_or, Bool, true, false, cond, ◌==◌, nat_lt, Option, Some, None, Result, Ok, Err, option_and_then, MatchResult, OnOk, codes, refl, sym, ap, ◌∙◌, subst, arith, inl, inr}
-use Rattle.std.specs.List.{AllByRecursion}
-use Rattle.std.proofs.lemmas.List.{drop_more, drop-drop, take-append-drop, length-drop, length-append, drop_all}
+use Rattle.std.proofs.lemmas.List.{drop_more, drop-drop, take-append-drop, length-drop, length-append}
 use Rattle.std.proofs.lemmas.Bool.Decides.{eqb_tells}
 use borrow.Author.Tests.{lt-ltb, le-ltb}
+use Rattle.sj_decimal.specs.Number.{begins_number}
 use Rattle.sj_json.specs.Tree.{Tree, null, truth, string, below}
 use Rattle.sj_json.specs.Building.{Part, top, elements, pairs, State, TakesValue, TakesKey, TakesClose, put, put_key, with_value, with_key, with_open, with_close}
-use Rattle.sj_json.specs.Spelling.{is_blank, is_plain, IsPlain}
+use Rattle.sj_json.specs.Spelling.{is_blank}
 use Rattle.sj_json.specs.Machine.{Mode, value, value_or_close, key, key_or_close, colon, after_value, letters, quoted, open_turn, close_turn, start, separate, end_quote, turn, run}
-use Rattle.sj_json.proofs.Complete.{run_step, run_plain, plain_no_quote}
+use Rattle.sj_json.proofs.Complete.{run_step, run_plain}
 use Rattle.sj_json.proofs.Buildings.{total-put, total-open, total-key}
 use Rattle.sj_doc.specs.Builders.{node_total}
 use Rattle.sj_doc.specs.Kinds.{want_of}
@@ -17,20 +17,21 @@ use Rattle.sj_read.specs.declared.reader.Mode as coded
 use Rattle.sj_read.specs.declared.reader.Mode.TheVariants as modes
 use Rattle.sj_read.specs.declared.reader.ReadRefusal.{ReadRefusal}
 use Rattle.sj_read.specs.declared.reader.ReadRefusal.TheVariants.{NotJson, Memory}
-use Rattle.sj_read.specs.Scans.{EndsPlain, StopsPlain}
+use Rattle.sj_read.specs.Scans.{EndsPlain}
+use Rattle.sj_read.specs.Strings.{FindsString, NoString}
 use Rattle.sj_read.specs.Turns.{mode_of, HasValue, FirstElement, Ready, Went, Turns}
 
-cond_no : {A : Type 0} (b : Bool) (x y : A) → b ≡ false → cond b x y ≡ y
+pub cond_no : {A : Type 0} (b : Bool) (x y : A) → b ≡ false → cond b x y ≡ y
 cond_no b x y e = ap (λ (c : Bool). cond c x y) e
 
 pub ne_false : (a b : ℕ) → a ≢ b → (a == b) ≡ false
 ne_false a b h = elim (eqb_tells a b) as (λ _. (a == b) ≡ false) [ inl p ↦ absurd (h p.1) | inr p ↦ p.0 ]
 
 module _ (limit : ℕ) (m : Mode) (s : State) (text : List ℕ) (at c : ℕ) (h : at < length text) (e : get_or text at 0 ≡ c) where
-  here : drop at text ≡ c ∷ drop (at + 1) text
+  pub here : drop at text ≡ c ∷ drop (at + 1) text
   here = drop_more text at 0 h ∙ ap (λ (x : ℕ). x ∷ drop (at + 1) text) e
 
-  goes : (p : Mode × State) → turn limit m s c ≡ Some p → run limit m s (drop at text) ≡ run limit p.0 p.1 (drop (at + 1) text)
+  pub goes : (p : Mode × State) → turn limit m s c ≡ Some p → run limit m s (drop at text) ≡ run limit p.0 p.1 (drop (at + 1) text)
   goes p t = ap (run limit m s) here ∙ run_step limit m s c (drop (at + 1) text) p t
 
   pub stops : turn limit m s c ≡ None → run limit m s (drop at text) ≡ None
@@ -150,43 +151,20 @@ no_word limit x (y ∷ r) t s (b ∷ bs) h =
 
 -- ---- strings
 
-plain_not_quote : (b : ℕ) → IsPlain b → (b == 34) ≡ false
-plain_not_quote b h = plain_no_quote (b == 34) (b == 92) (nat_lt b 32) h
-
-plain_turn : (limit : ℕ) (k : Bool) (acc : List ℕ) (s : State) (b : ℕ) → IsPlain b → turn limit (quoted k acc) s b ≡ Some (quoted k (acc ++ b ∷ []), s)
-plain_turn limit k acc s b h =
-    cond_no (b == 34) (Some (end_quote k acc s)) (cond (is_plain b) (Some (quoted k (acc ++ b ∷ []), s)) None) (plain_not_quote b h)
-    ∙ ap (λ (y : Bool). cond y (Some (quoted k (acc ++ b ∷ []), s)) None) h
-
-no_string : (limit : ℕ) (k : Bool) (acc x rest : List ℕ) (s : State) → AllByRecursion IsPlain x → ((a : List ℕ) → run limit (quoted k a) s rest ≡ None) → run limit (quoted k acc) s (x ++ rest) ≡ None
-no_string limit k acc [] rest s h e = e acc
-no_string limit k acc (b ∷ x) rest s h e =
-    run_step limit (quoted k acc) s b (x ++ rest) (quoted k (acc ++ b ∷ []), s) (plain_turn limit k acc s b h.0) ∙ no_string limit k (acc ++ b ∷ []) x rest s h.1 e
-
-cut : (text : List ℕ) (from at : ℕ) → from ≤ at → drop from text ≡ take (at - from) (drop from text) ++ drop at text
+pub cut : (text : List ℕ) (from at : ℕ) → from ≤ at → drop from text ≡ take (at - from) (drop from text) ++ drop at text
 cut text from at h =
     let same : from + (at - from) ≡ at = omega arith in
     sym (take-append-drop (at - from) (drop from text)) ∙ ap (λ (z : List ℕ). take (at - from) (drop from text) ++ z) (drop-drop (at - from) from text ∙ ap (λ (i : ℕ). drop i text) same)
-
-stop_byte : (limit : ℕ) (k : Bool) (acc : List ℕ) (s : State) (b : ℕ) → is_plain b ≡ false → b ≢ 34 → turn limit (quoted k acc) s b ≡ None
-stop_byte limit k acc s b h e =
-    cond_no (b == 34) (Some (end_quote k acc s)) (cond (is_plain b) (Some (quoted k (acc ++ b ∷ []), s)) None) (ne_false b 34 e) ∙ cond_no (is_plain b) (Some (quoted k (acc ++ b ∷ []), s)) None h
-
-pub string_stops : (limit : ℕ) (k : Bool) (s : State) (text : List ℕ) (from : ℕ) → StopsPlain text from → run limit (quoted k []) s (drop from text) ≡ None
-unfolding run
-string_stops limit k s text from h =
-    let end : (a : List ℕ) → run limit (quoted k a) s (drop h.at text) ≡ None = λ a.
-    elim h.stop as (λ _. run limit (quoted k a) s (drop h.at text) ≡ None) [
-      | inl l ↦ ap (run limit (quoted k a) s) (drop_all h.at text l)
-      | inr l ↦ stops limit (quoted k a) s text h.at (get_or text h.at 0) l.0 refl (stop_byte limit k a s (get_or text h.at 0) l.1 l.2)
-    ] in
-    ap (run limit (quoted k []) s) (cut text from h.at h.later) ∙ no_string limit k [] (take (h.at - from) (drop from text)) (drop h.at text) s h.plain end
 
 pub string_goes : (limit : ℕ) (k : Bool) (s : State) (text : List ℕ) (from end : ℕ) → EndsPlain text from end
     → run limit (quoted k []) s (drop from text) ≡ run limit (end_quote k (take (end - from) (drop from text)) s).0 (end_quote k (take (end - from) (drop from text)) s).1 (drop (end + 1) text)
 string_goes limit k s text from end h =
     ap (run limit (quoted k []) s) (cut text from end h.later ∙ ap (λ (z : List ℕ). take (end - from) (drop from text) ++ z) (drop_more text end 0 h.within ∙ ap (λ (b : ℕ). b ∷ drop (end + 1) text) h.quote))
     ∙ run_plain limit k [] (take (end - from) (drop from text)) (drop (end + 1) text) s h.plain
+
+-- a string without an escape
+pub plain_string : (text : List ℕ) (from end : ℕ) → EndsPlain text from end → FindsString text from end (take (end - from) (drop from text))
+plain_string text from end h = record { reads = λ limit k s. string_goes limit k s text from end h; later = h.later; within = h.within }
 
 -- ---- calls of the builder
 
@@ -197,39 +175,37 @@ after_call limit (Err x) r n to m s text at new t h e w = subst (λ z. Turns lim
 
 -- what a value or a key that begins at the place leads to
 module _ (limit : ℕ) (s : State) (text : List ℕ) (at c : ℕ) (h : at < length text) (e : get_or text at 0 ≡ c) (room : node_total s ≤ at) where
-  pub string_value : TakesValue s.0 → c ≡ 34 → (end : ℕ) → EndsPlain text (at + 1) end → Went limit value s text at modes.AfterValue (end + 1) (with_value (string (take (end - (at + 1)) (drop (at + 1) text))) s)
-  string_value ready is end ends =
-      let x = take (end - (at + 1)) (drop (at + 1) text) in
+  pub string_value : TakesValue s.0 → c ≡ 34 → (end : ℕ) (x : List ℕ) → FindsString text (at + 1) end x → Went limit value s text at modes.AfterValue (end + 1) (with_value (string x) s)
+  string_value ready is end x found =
       let first : turn limit value s c ≡ Some (quoted false [], s) = subst (λ (z : ℕ). turn limit value s z ≡ Some (quoted false [], s)) (sym is) refl in
       record {
-        same = goes limit value s text at c h e (quoted false [], s) first ∙ string_goes limit false s text (at + 1) end ends;
-        later = omega (arith, ends.later);
-        within = omega (arith, ends.within);
+        same = goes limit value s text at c h e (quoted false [], s) first ∙ found.reads limit false s;
+        later = omega (arith, found.later);
+        within = omega (arith, found.within);
         ready = put_value (string x) s.0 ready;
-        room = omega (arith, total-put (string x) s.0 s.1 ready, ends.later);
+        room = omega (arith, total-put (string x) s.0 s.1 ready, found.later);
       }
 
-  pub no_string_value : c ≡ 34 → StopsPlain text (at + 1) → run limit value s (drop at text) ≡ None
-  no_string_value is stop =
+  pub no_string_value : c ≡ 34 → NoString text (at + 1) → run limit value s (drop at text) ≡ None
+  no_string_value is missing =
       let first : turn limit value s c ≡ Some (quoted false [], s) = subst (λ (z : ℕ). turn limit value s z ≡ Some (quoted false [], s)) (sym is) refl in
-      goes limit value s text at c h e (quoted false [], s) first ∙ string_stops limit false s text (at + 1) stop
+      goes limit value s text at c h e (quoted false [], s) first ∙ missing limit false s
 
-  pub key_value : TakesKey s.0 → c ≡ 34 → (end : ℕ) → EndsPlain text (at + 1) end → Went limit key s text at modes.Colon (end + 1) (with_key (take (end - (at + 1)) (drop (at + 1) text)) s)
-  key_value ready is end ends =
-      let x = take (end - (at + 1)) (drop (at + 1) text) in
+  pub key_value : TakesKey s.0 → c ≡ 34 → (end : ℕ) (x : List ℕ) → FindsString text (at + 1) end x → Went limit key s text at modes.Colon (end + 1) (with_key x s)
+  key_value ready is end x found =
       let first : turn limit key s c ≡ Some (quoted true [], s) = subst (λ (z : ℕ). turn limit key s z ≡ Some (quoted true [], s)) (sym is) refl in
       record {
-        same = goes limit key s text at c h e (quoted true [], s) first ∙ string_goes limit true s text (at + 1) end ends;
-        later = omega (arith, ends.later);
-        within = omega (arith, ends.within);
+        same = goes limit key s text at c h e (quoted true [], s) first ∙ found.reads limit true s;
+        later = omega (arith, found.later);
+        within = omega (arith, found.within);
         ready = put_key_ready x s.0 ready;
-        room = omega (arith, total-key x s.0 s.1, ends.later);
+        room = omega (arith, total-key x s.0 s.1, found.later);
       }
 
-  pub no_key_value : c ≡ 34 → StopsPlain text (at + 1) → run limit key s (drop at text) ≡ None
-  no_key_value is stop =
+  pub no_key_value : c ≡ 34 → NoString text (at + 1) → run limit key s (drop at text) ≡ None
+  no_key_value is missing =
       let first : turn limit key s c ≡ Some (quoted true [], s) = subst (λ (z : ℕ). turn limit key s z ≡ Some (quoted true [], s)) (sym is) refl in
-      goes limit key s text at c h e (quoted true [], s) first ∙ string_stops limit true s text (at + 1) stop
+      goes limit key s text at c h e (quoted true [], s) first ∙ missing limit true s
 
   pub no_key : is_blank c ≡ false → c ≢ 34 → run limit key s (drop at text) ≡ None
   no_key b is = stops limit key s text at c h e (cond_no (is_blank c) (Some (key, s)) (cond (c == 34) (Some (quoted true [], s)) None) b ∙ cond_no (c == 34) (Some (quoted true [], s)) None (ne_false c 34 is))
@@ -276,9 +252,9 @@ module _ (limit : ℕ) (s : State) (text : List ℕ) (at c : ℕ) (h : at < leng
     pub no_word_value : ((rest : List ℕ) → drop (at + 1) text ≡ (y ∷ r) ++ rest → ⊥) → run limit value s (drop at text) ≡ None
     no_word_value missing = goes limit value s text at c h e (letters (y ∷ r) t, s) begun ∙ no_word limit y r t s (drop (at + 1) text) missing
 
-  pub no_value : is_blank c ≡ false → c ≢ 34 → c ≢ 91 → c ≢ 123 → c ≢ 110 → c ≢ 116 → c ≢ 102 → run limit value s (drop at text) ≡ None
-  no_value b p q r x y z =
-      stops limit value s text at c h e (cond_no (is_blank c) (Some (value, s)) (start limit s c) b ∙ cond_no (c == 34) _ _ (ne_false c 34 p) ∙ cond_no (c == 91) _ _ (ne_false c 91 q) ∙ cond_no (c == 123) _ _ (ne_false c 123 r)
+  pub no_value : is_blank c ≡ false → begins_number c ≡ false → c ≢ 34 → c ≢ 91 → c ≢ 123 → c ≢ 110 → c ≢ 116 → c ≢ 102 → run limit value s (drop at text) ≡ None
+  no_value b d p q r x y z =
+      stops limit value s text at c h e (cond_no (is_blank c) (Some (value, s)) (start limit s c) b ∙ cond_no (begins_number c) _ _ d ∙ cond_no (c == 34) _ _ (ne_false c 34 p) ∙ cond_no (c == 91) _ _ (ne_false c 91 q) ∙ cond_no (c == 123) _ _ (ne_false c 123 r)
       ∙ cond_no (c == 110) _ _ (ne_false c 110 x) ∙ cond_no (c == 116) _ _ (ne_false c 116 y) ∙ cond_no (c == 102) _ _ (ne_false c 102 z))
 
 pub null_read : (limit : ℕ) (s : State) (rest : List ℕ) → run limit (letters (codes "ull") null) s (codes "ull" ++ rest) ≡ run limit after_value (with_value null s) rest

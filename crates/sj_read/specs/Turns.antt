@@ -40,6 +40,8 @@ Ready machine.colon s = TakesValue s.0
 Ready machine.after_value s = HasValue s.0
 Ready (machine.letters r t) s = ⊥
 Ready (machine.quoted k x) s = ⊥
+Ready (machine.escaped k x e) s = ⊥
+Ready (machine.digits a) s = ⊥
 
 abbrev pub TakesOneKey : State → Type 0
 TakesOneKey s = TakesKey s.0

@@ -1,14 +1,16 @@
 //! Reads a JSON text into a document, and accepts exactly what `IsJson` of `sj_json` says: UTF-8 of a
 //! limited length and depth that spells a tree (RFC 8259).
 //!
-//! `read` is one loop over the tokens. It needs no recursion, and no memory but that of the document.
-//! Numbers and escapes are not read yet: a line that has one is not JSON, here and in the definition.
+//! `read` is one loop over the tokens. It needs no recursion, and no memory but that of the document and of
+//! the longest text with an escape. A text without one is copied once.
 #![tactic(auto)]
 
+mod escape;
 mod plain;
 mod reader;
 mod scan;
 #[cfg(test)]
 mod tests;
+mod unescape;
 
 pub use reader::{MAX_DEPTH, MAX_LENGTH, ReadRefusal, read, read_into};

@@ -1,15 +1,18 @@
 // The reader: a loop over the tokens that drives a `DocBuilder`.
-ghost use Rattle.std.specs.Prelude.{◌≡◌, ℕ, List, ◌+◌, ◌-◌, ◌<◌, ◌≤◌, length, take, drop, get_or, slice_index, false, MatchOption, MatchResult, IfOk, Ok, Err};
+ghost use Rattle.std.specs.Prelude.{◌≡◌, ℕ, List, ◌+◌, ◌-◌, ◌<◌, ◌≤◌, length, take, drop, get_or, slice_index, true, false, IfSome, MatchResult, IfOk, Ok, Err};
+ghost use Rattle.sj_decimal.specs.Number.{begins_number as beginning_byte};
 ghost use Rattle.sj_json.specs.Tree.{Tree};
 ghost use Rattle.sj_json.specs.Building.{State, fresh};
 ghost use Rattle.sj_json.specs.Spelling.{is_blank as blank_byte, SpellsText, IsJson};
 ghost use Rattle.sj_json.specs.Machine.{value as value_mode, key as key_mode, after_value as after_mode};
 ghost use Rattle.sj_doc.specs.Builders.{node_total};
-ghost use Rattle.sj_read.specs.Scans.{EndsPlain, StopsPlain};
+ghost use Rattle.sj_read.specs.Scans.{EndsPlain};
 ghost use Rattle.sj_read.specs.Turns.{mode_of, Ready, TakesOneKey, Turns};
 
-use crate::scan::{follows, is_blank, string_end};
+use crate::scan::{begins_number, follows, is_blank, number_end, string_end};
+use crate::unescape::unescape;
 use sj_base::Memory;
+use sj_decimal::{Decimal, Parsed};
 use sj_doc::{Doc, DocBuilder, Want};
 use std::alloc::Global;
 use thiserror::Error;
@@ -55,13 +58,12 @@ fn after(done: Result<(), Memory>, mode: Mode, to: usize) -> Turn
     }
 }
 
-// The text of a string that begins at `from`, behind its quotation mark, and where it ends.
+// The text of a string that begins at `from`, behind its quotation mark, and where it ends, if it has no escape.
 #[inline(always)]
 fn string_text(text: &str, from: usize) -> Option<(&str, usize)>
     requires within { (0 < from) × (from ≤ length text.now) }
     requires quote { slice_index text.now (from - 1) ≡ 34 }
-    ensures { MatchOption result (StopsPlain text.now from)
-        (λ r. EndsPlain text.now from r.1 × (r.0.now ≡ take (r.1 - from) (drop from text.now))) }
+    ensures { IfSome result (λ r. EndsPlain text.now from r.1 × (r.0.now ≡ take (r.1 - from) (drop from text.now))) }
 {
     match string_end(text.as_bytes(), from) {
         Some(end) => Some((&text[from..end], end)),
@@ -69,9 +71,67 @@ fn string_text(text: &str, from: usize) -> Option<(&str, usize)>
     }
 }
 
+// The string that begins with the byte c at the place, where it may have escapes.
+#[inline(never)]
+fn escaped_value(
+    builder: &mut DocBuilder,
+    buffer: &mut String,
+    text: &str,
+    at: usize,
+    c: u8,
+) -> Turn
+    requires within { (at < length text.now) × (length text.now ≤ MAX_LENGTH) }
+    requires here { slice_index text.now at ≡ c }
+    requires quote { c ≡ 34 }
+    requires ready { Ready value_mode builder.old }
+    requires room { node_total builder.old ≤ at }
+    ensures { Turns MAX_DEPTH result value_mode builder.old text.now at builder.new }
+{
+    match unescape(text, at + 1, buffer) {
+        Ok(Some(end)) => after(builder.text(buffer.as_str()), Mode::AfterValue, end + 1),
+        Ok(None) => Err(ReadRefusal::NotJson),
+        Err(_) => Err(ReadRefusal::Memory),
+    }
+}
+
+// The same of a key.
+#[inline(never)]
+fn escaped_key(builder: &mut DocBuilder, buffer: &mut String, text: &str, at: usize, c: u8) -> Turn
+    requires within { (at < length text.now) × (length text.now ≤ MAX_LENGTH) }
+    requires here { slice_index text.now at ≡ c }
+    requires quote { c ≡ 34 }
+    requires ready { Ready key_mode builder.old }
+    requires room { node_total builder.old ≤ at }
+    ensures { Turns MAX_DEPTH result key_mode builder.old text.now at builder.new }
+{
+    match unescape(text, at + 1, buffer) {
+        Ok(Some(end)) => after(builder.key(buffer.as_str()), Mode::Colon, end + 1),
+        Ok(None) => Err(ReadRefusal::NotJson),
+        Err(_) => Err(ReadRefusal::Memory),
+    }
+}
+
+// The number that begins with the byte c at the place.
+fn number(builder: &mut DocBuilder, text: &str, at: usize, c: u8) -> Turn
+    requires within { (at < length text.now) × (length text.now ≤ MAX_LENGTH) }
+    requires here { slice_index text.now at ≡ c }
+    requires begins { beginning_byte c ≡ true }
+    requires ready { Ready value_mode builder.old }
+    requires room { node_total builder.old ≤ at }
+    ensures { Turns MAX_DEPTH result value_mode builder.old text.now at builder.new }
+{
+    let end = number_end(text.as_bytes(), at + 1);
+    let spelling = &text[at..end];
+    match Decimal::parse(spelling.as_bytes()) {
+        Parsed::Exact(n) => after(builder.exact(n), Mode::AfterValue, end),
+        Parsed::Wide => after(builder.wide(spelling), Mode::AfterValue, end),
+        Parsed::NotNumber => Err(ReadRefusal::NotJson),
+    }
+}
+
 // The value that begins with the byte c at the place.
 #[inline(always)]
-fn value(builder: &mut DocBuilder, text: &str, at: usize, c: u8) -> Turn
+fn value(builder: &mut DocBuilder, buffer: &mut String, text: &str, at: usize, c: u8) -> Turn
     requires within { (at < length text.now) × (length text.now ≤ MAX_LENGTH) }
     requires here { slice_index text.now at ≡ c }
     requires not_blank { blank_byte c ≡ false }
@@ -82,7 +142,7 @@ fn value(builder: &mut DocBuilder, text: &str, at: usize, c: u8) -> Turn
     match c {
         b'"' => match string_text(text, at + 1) {
             Some((s, end)) => after(builder.text(s), Mode::AfterValue, end + 1),
-            None => Err(ReadRefusal::NotJson),
+            None => escaped_value(builder, buffer, text, at, c),
         },
         b'[' => {
             if builder.depth() >= MAX_DEPTH {
@@ -114,13 +174,18 @@ fn value(builder: &mut DocBuilder, text: &str, at: usize, c: u8) -> Turn
             }
             after(builder.truth(false), Mode::AfterValue, at + 5)
         }
-        _ => Err(ReadRefusal::NotJson),
+        _ => {
+            if !begins_number(c) {
+                return Err(ReadRefusal::NotJson);
+            }
+            number(builder, text, at, c)
+        }
     }
 }
 
 // The key that begins with the byte c at the place.
 #[inline(always)]
-fn key(builder: &mut DocBuilder, text: &str, at: usize, c: u8) -> Turn
+fn key(builder: &mut DocBuilder, buffer: &mut String, text: &str, at: usize, c: u8) -> Turn
     requires within { (at < length text.now) × (length text.now ≤ MAX_LENGTH) }
     requires here { slice_index text.now at ≡ c }
     requires not_blank { blank_byte c ≡ false }
@@ -133,7 +198,7 @@ fn key(builder: &mut DocBuilder, text: &str, at: usize, c: u8) -> Turn
     }
     match string_text(text, at + 1) {
         Some((s, end)) => after(builder.key(s), Mode::Colon, end + 1),
-        None => Err(ReadRefusal::NotJson),
+        None => escaped_key(builder, buffer, text, at, c),
     }
 }
 
@@ -174,7 +239,7 @@ fn separator(builder: &mut DocBuilder, text: &str, at: usize, c: u8) -> Turn
 
 // One token, or one byte of white space.
 #[inline(always)]
-fn turn(builder: &mut DocBuilder, mode: Mode, text: &str, at: usize) -> Turn
+fn turn(builder: &mut DocBuilder, buffer: &mut String, mode: Mode, text: &str, at: usize) -> Turn
     requires within { (at < length text.now) × (length text.now ≤ MAX_LENGTH) }
     requires ready { Ready (mode_of mode) builder.old }
     requires room { node_total builder.old ≤ at }
@@ -185,18 +250,18 @@ fn turn(builder: &mut DocBuilder, mode: Mode, text: &str, at: usize) -> Turn
         return Ok((mode, at + 1));
     }
     match mode {
-        Mode::Value => value(builder, text, at, c),
+        Mode::Value => value(builder, buffer, text, at, c),
         Mode::ValueOrClose => {
             if c != b']' {
-                return value(builder, text, at, c);
+                return value(builder, buffer, text, at, c);
             }
             builder.close();
             Ok((Mode::AfterValue, at + 1))
         }
-        Mode::Key => key(builder, text, at, c),
+        Mode::Key => key(builder, buffer, text, at, c),
         Mode::KeyOrClose => {
             if c != b'}' {
-                return key(builder, text, at, c);
+                return key(builder, buffer, text, at, c);
             }
             builder.close();
             Ok((Mode::AfterValue, at + 1))
@@ -219,12 +284,12 @@ pub fn read(alloc: Global, line: &[u8]) -> Result<Doc, ReadRefusal>
     ensures ok { IfOk result (λ doc. SpellsText doc line.now × IsJson line.now) }
     ensures refused { result ≡ Err ReadRefusal.NotJson → IsJson line.now → ⊥ }
 {
-    read_into(DocBuilder::new(alloc), line)
+    read_into(alloc, DocBuilder::new(alloc), line)
 }
 
-/// The same, over the memory of a builder, as `Doc::recycle` gives it. A refusal gives that memory back to
-/// the allocator.
-pub fn read_into(builder: DocBuilder, line: &[u8]) -> Result<Doc, ReadRefusal>
+/// The same, over the memory of a builder, as `Doc::recycle` gives it, and with memory from `alloc` for texts
+/// with escapes. A refusal gives the builder's memory back to the allocator.
+pub fn read_into(alloc: Global, builder: DocBuilder, line: &[u8]) -> Result<Doc, ReadRefusal>
     requires { builder ≡ fresh }
     ensures ok { IfOk result (λ doc. SpellsText doc line.now × IsJson line.now) }
     ensures refused { result ≡ Err ReadRefusal.NotJson → IsJson line.now → ⊥ }
@@ -237,10 +302,11 @@ pub fn read_into(builder: DocBuilder, line: &[u8]) -> Result<Doc, ReadRefusal>
         Err(_) => return Err(ReadRefusal::NotJson),
     };
     let mut builder = builder;
+    let mut buffer = String::new(alloc);
     let mut mode = Mode::Value;
     let mut at = 0;
     while at < text.len() {
-        match turn(&mut builder, mode, text, at) {
+        match turn(&mut builder, &mut buffer, mode, text, at) {
             Ok((next, to)) => {
                 mode = next;
                 at = to;

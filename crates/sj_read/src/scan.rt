@@ -1,8 +1,10 @@
 // Parts of a text.
-ghost use Rattle.std.specs.Prelude.{◌≡◌, ℕ, List, ◌++◌, ◌+◌, ◌-◌, ◌<◌, ◌≤◌, length, take, drop, get_or, MatchOption, None};
+ghost use Rattle.std.specs.Prelude.{◌≡◌, ℕ, List, ◌++◌, ◌+◌, ◌-◌, ◌<◌, ◌≤◌, length, take, drop, IfSome};
 ghost use Rattle.std.specs.Bool.{MatchBool};
+ghost use Rattle.std.specs.List.{prefix_len};
+ghost use Rattle.sj_decimal.specs.Number.{begins_number as beginning_byte, is_number_byte as number_byte};
 ghost use Rattle.sj_json.specs.Spelling.{is_blank as blank_byte};
-ghost use Rattle.sj_read.specs.Scans.{EndsPlain, StopsPlain};
+ghost use Rattle.sj_read.specs.Scans.{EndsPlain};
 
 use crate::plain::plain_end;
 
@@ -12,6 +14,35 @@ pub(crate) fn is_blank(c: u8) -> bool
     ensures { result ≡ blank_byte c }
 {
     c == 32 || c == 9 || c == 10 || c == 13
+}
+
+// A byte with which a number may begin.
+#[inline(always)]
+pub(crate) fn begins_number(c: u8) -> bool
+    ensures { result ≡ beginning_byte c }
+{
+    c.is_ascii_digit() || c == b'-'
+}
+
+#[inline(always)]
+fn is_number_byte(c: u8) -> bool
+    ensures { result ≡ number_byte c }
+{
+    c.is_ascii_digit() || (c == b'+' || (c == b'-' || (c == b'.' || (c == b'E' || c == b'e'))))
+}
+
+// The first byte from the place on that no number has, or the length.
+#[inline(always)]
+pub(crate) fn number_end(bytes: &[u8], from: usize) -> usize
+    requires { from ≤ length bytes.now }
+    ensures value { result ≡ from + prefix_len number_byte (drop from bytes.now) }
+    ensures bound { result ≤ length bytes.now }
+{
+    let mut i = from;
+    while i < bytes.len() && is_number_byte(bytes[i]) {
+        i += 1;
+    }
+    i
 }
 
 // Whether the word stands at the place.
@@ -24,11 +55,11 @@ pub(crate) fn follows(bytes: &[u8], at: usize, word: &[u8]) -> bool
     bytes[at..].starts_with(word)
 }
 
-// Where the string ends whose text begins at `from`: its closing quotation mark.
+// Where the string ends whose text begins at `from`, if it has no escape: its closing quotation mark.
 #[inline(always)]
 pub(crate) fn string_end(bytes: &[u8], from: usize) -> Option<usize>
     requires { from ≤ length bytes.now }
-    ensures { MatchOption result (StopsPlain bytes.now from) (λ end. EndsPlain bytes.now from end) }
+    ensures { IfSome result (EndsPlain bytes.now from) }
 {
     let end = plain_end(bytes, from);
     if end == bytes.len() {

@@ -1,7 +1,7 @@
 // Which lines are read, what the document then has, and the limits.
 use crate::{MAX_DEPTH, MAX_LENGTH, ReadRefusal, read, read_into};
 use sj_base::{Steps, Tally};
-use sj_doc::{Kind, Visit};
+use sj_doc::{Doc, Kind, Num, Visit};
 use std::alloc::{AllocError, Global};
 use std::test::Fail;
 
@@ -16,7 +16,7 @@ fn is_read(alloc: Global, line: &[u8]) -> Result<bool, Fail> {
 
 #[test]
 fn reads_exactly_json(rt: HostRuntime) -> Result<(), Fail> {
-    let json: [&[u8]; 12] = [
+    let json: [&[u8]; 30] = [
         b"null",
         b" \t\r\ntrue\n",
         b"\"\"",
@@ -29,11 +29,29 @@ fn reads_exactly_json(rt: HostRuntime) -> Result<(), Fail> {
         b"{\"a\" : \"x\", \"a\":[false]}",
         b"{\"\":{}}",
         b"[[[[]]]]",
+        b"1",
+        b" 1 ",
+        b"-0",
+        b"1.50e1",
+        b"1e400",
+        b"1E+4",
+        b"-12.5e-3",
+        b"[1,2]",
+        b"[1 , 2 ]",
+        b"{\"a\":1}",
+        b"{\"a\":1,\"a\":2}",
+        b"\"\\u0000\"",
+        b"\"\\/\"",
+        b"\"a\\ud83d\\ude00\\tb\"",
+        b"\"\\\"\\\\\\b\\f\\n\\r\"",
+        b"\"\\uABcd\"",
+        b"\"\\udbff\\udfff\"",
+        b"{\"\\u0061\":null}",
     ];
     for line in json {
         assert!(rt; is_read(rt.alloc(), line)?, "{line:?}");
     }
-    let other: [&[u8]; 24] = [
+    let other: [&[u8]; 57] = [
         b"",
         b" ",
         b"nul",
@@ -58,6 +76,39 @@ fn reads_exactly_json(rt: HostRuntime) -> Result<(), Fail> {
         b"{null:null}",
         b"{\"a\"::null}",
         b"\xef\xbb\xbfnull",
+        b"\xef\xbb\xbf1",
+        b"\xff",
+        b"\x22\xc0\x80\x22",
+        b"\x00",
+        b"[1,]",
+        b"01",
+        b"+1",
+        b"1.",
+        b".5",
+        b"NaN",
+        b"-",
+        b"1e",
+        b"1e+",
+        b"--1",
+        b"1-1",
+        b"1 1",
+        b"1.2.3",
+        b"0x1",
+        b"1n",
+        b"[-]",
+        b"\"\\ud800\"",
+        b"\"\\ud800a\"",
+        b"\"\\ud800\\u0061\"",
+        b"\"\\ud800\\n\"",
+        b"\"\\udc00\"",
+        b"\"\\udc00\\ud800\"",
+        b"\"\\x\"",
+        b"\"\\u12\"",
+        b"\"\\u12g4\"",
+        b"\"\\U0061\"",
+        b"\"\\",
+        b"\"\\\"",
+        b"{\"\\ud800\":null}",
     ];
     for line in other {
         assert!(rt; !is_read(rt.alloc(), line)?, "{line:?}");
@@ -67,11 +118,111 @@ fn reads_exactly_json(rt: HostRuntime) -> Result<(), Fail> {
 
 #[test]
 fn refuses_a_truncated_line(rt: HostRuntime) -> Result<(), Fail> {
-    let line = b"{\"a\":{\"b\":[null,true,\"x\"]},\"c\":false}";
-    for end in 0..line.len() {
-        assert!(rt; !is_read(rt.alloc(), &line[..end])?, "{end} bytes");
+    let lines: [&[u8]; 3] = [
+        b"{\"a\":{\"b\":[null,true,\"x\"]},\"c\":false}",
+        b"[1.5,-2e7,{\"\\n\":0}]",
+        b"\"\\ud83d\\ude00 \\u00e9\\\\\"",
+    ];
+    for line in lines {
+        for end in 0..line.len() {
+            assert!(rt;
+                !is_read(rt.alloc(), &line[..end])?,
+                "{end} bytes of {line:?}"
+            );
+        }
+        assert!(rt; is_read(rt.alloc(), line)?, "{line:?}");
     }
-    assert!(rt; is_read(rt.alloc(), line)?);
+    Ok(())
+}
+
+#[test]
+fn unescapes_texts(rt: HostRuntime) -> Result<(), Fail> {
+    let cases: [(&[u8], &str); 10] = [
+        (b"\"abc\"", "abc"),
+        (b"\"\\u0000\"", "\0"),
+        (b"\"\\/\"", "/"),
+        (b"\"a\\ud83d\\ude00\\tb\"", "a\u{1f600}\tb"),
+        (b"\"\\\"\\\\\"", "\"\\"),
+        (b"\"\\b\\f\\n\\r\\t\"", "\u{8}\u{c}\n\r\t"),
+        (b"\"\\u00e9\xc3\xa9\"", "\u{e9}\u{e9}"),
+        (b"\"\\uD7FF\\ue000\\uffff\"", "\u{d7ff}\u{e000}\u{ffff}"),
+        (b"\"\\ud800\\udc00\\udbff\\udfff\"", "\u{10000}\u{10ffff}"),
+        (b"\"\\u005cn\"", "\\n"),
+    ];
+    for (line, text) in cases {
+        let doc = read(rt.alloc(), line)?;
+        assert_eq!(rt; doc.root().kind(), Kind::String);
+        assert_eq!(rt; doc.root().text(), text);
+    }
+    Ok(())
+}
+
+// The text of an exact number, or what a wide one was written as, and whether it is wide.
+fn number_text(alloc: Global, doc: &Doc) -> Result<(String, bool), Fail> {
+    if doc.root().kind() != Kind::Number {
+        return Err("no number".into());
+    }
+    match doc.root().number() {
+        Num::Exact(n) => Ok((String::from_str(alloc, n.text().as_str())?, false)),
+        Num::Wide(spelling) => Ok((String::from_str(alloc, spelling)?, true)),
+    }
+}
+
+#[test]
+fn reads_numbers(rt: HostRuntime) -> Result<(), Fail> {
+    let cases: [(&[u8], &str, bool); 12] = [
+        (b"1", "1", false),
+        (b"-0", "0", false),
+        (b"1.50e1", "15", false),
+        (b" -12.5e-3 ", "-0.0125", false),
+        (b"0e999", "0", false),
+        (b"1E37", "10000000000000000000000000000000000000", false),
+        (
+            b"99999999999999999999999999999999999999",
+            "99999999999999999999999999999999999999",
+            false,
+        ),
+        (
+            b"-0.00000000000000000000000000000000000001",
+            "-0.00000000000000000000000000000000000001",
+            false,
+        ),
+        (b"1e38", "1e38", true),
+        (b"1e400", "1e400", true),
+        (b"-1.0E-39\n", "-1.0E-39", true),
+        (
+            b"100000000000000000000000000000000000001",
+            "100000000000000000000000000000000000001",
+            true,
+        ),
+    ];
+    for (line, text, wide) in cases {
+        let (found, found_wide) = number_text(rt.alloc(), &read(rt.alloc(), line)?)?;
+        assert_eq!(rt; found.as_str(), text);
+        assert_eq!(rt; found_wide, wide);
+    }
+    Ok(())
+}
+
+#[test]
+fn finds_repeated_keys(rt: HostRuntime) -> Result<(), Fail> {
+    let cases: [(&[u8], u64, bool); 6] = [
+        (b"{\"a\":1,\"a\":2}", 2, false),
+        (b"{\"a\":1,\"\\u0061\":2}", 2, false),
+        (b"{\"/\":1,\"\\/\":2}", 2, false),
+        (b"{\"a\":1,\"A\":2}", 2, true),
+        (b"{\"\\\\u0061\":1,\"a\":2}", 2, true),
+        (
+            b"{\"a\":{\"b\":1},\"b\":{\"b\":2,\"c\":3,\"b\":4}}",
+            2,
+            false,
+        ),
+    ];
+    for (line, members, unique) in cases {
+        let doc = read(rt.alloc(), line)?;
+        assert_eq!(rt; doc.root().len(), members);
+        assert_eq!(rt; doc.unique_keys(rt.alloc())?, unique);
+    }
     Ok(())
 }
 
@@ -95,7 +246,7 @@ fn keeps_members_in_order(rt: HostRuntime) -> Result<(), Fail> {
     assert!(rt; children.next(&mut steps).is_none());
     assert_eq!(rt; steps.ledger().count(), 3);
     assert!(rt; !first.unique_keys(rt.alloc())?);
-    let second = read_into(first.recycle(), b" [ ] ")?;
+    let second = read_into(rt.alloc(), first.recycle(), b" [ ] ")?;
     assert_eq!(rt; second.root().kind(), Kind::Array);
     assert!(rt; second.unique_keys(rt.alloc())?);
     Ok(())
@@ -178,6 +329,36 @@ fn opens_no_more_than_the_limit(rt: HostRuntime) -> Result<(), Fail> {
             &repeated(rt.alloc(), b'[', b'[', MAX_LENGTH / 2)?
         )?
     );
+    Ok(())
+}
+
+const LONG: usize = 1 << 20;
+
+// The unit again and again, between the two bytes.
+fn long_line(alloc: Global, first: u8, unit: &[u8], last: u8) -> Result<Vec<u8>, AllocError> {
+    let mut line = Vec::new(alloc);
+    line.push(first)?;
+    for _ in 0..LONG / unit.len().max(1) {
+        line.extend_from_slice(unit)?;
+    }
+    line.push(last)?;
+    Ok(line)
+}
+
+#[test]
+fn reads_long_tokens(rt: HostRuntime) -> Result<(), Fail> {
+    let cases: [(u8, &[u8], u8, bool); 6] = [
+        (b'"', b"\\u0000", b'"', true),
+        (b'"', b"\\ud83d\\ude00", b'"', true),
+        (b'"', b"\\n", b'x', false),
+        (b'1', b"0", b'0', true),
+        (b'0', b"0", b'0', false),
+        (b'1', b"e1", b'1', false),
+    ];
+    for (first, unit, last, json) in cases {
+        let line = long_line(rt.alloc(), first, unit, last)?;
+        assert_eq!(rt; is_read(rt.alloc(), &line)?, json);
+    }
     Ok(())
 }
 

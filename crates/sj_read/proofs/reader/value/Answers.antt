@@ -1,11 +1,11 @@
-use Rattle.std.proofs.Common.{◌≡◌, ℕ, ◌+◌, List, [], ◌∷◌, ◌++◌, drop, codes, true, false, refl, sym, ◌∙◌, subst, arith, ap}
+use Rattle.std.proofs.Common.{◌≡◌, ℕ, ◌+◌, List, [], ◌∷◌, ◌++◌, ◌-◌, take, drop, codes, true, false, refl, sym, ◌∙◌, subst, arith, ap}
 use Rattle.sj_json.specs.Tree.{null, truth, string}
 use Rattle.sj_json.specs.Building.{with_value, with_open}
 use Rattle.sj_json.specs.Machine.{value}
 use Rattle.sj_read.specs.declared.reader.TheConstants.{MAX_DEPTH}
 use Rattle.sj_read.specs.declared.reader.Mode.TheVariants as modes
 use Rattle.sj_read.specs.Turns.{Went}
-use Rattle.sj_read.proofs.Steps.{after_call, string_value, no_string_value, array_opens, object_opens, array_too_deep, object_too_deep, word_value, no_word_value, no_value, null_read, true_read, false_read}
+use Rattle.sj_read.proofs.Steps.{after_call, string_value, plain_string, array_opens, object_opens, array_too_deep, object_too_deep, word_value, no_word_value, no_value, null_read, true_read, false_read}
 use Rattle.sj_read.proofs.reader.value.Goals as goal
 use Rattle.sj_read.proofs.reader.value.Goals.{Start}
 
@@ -13,13 +13,10 @@ pub returns-in-Some : goal.returns-in-Some
 returns-in-Some c =
     let s = c.args.builder.now in
     let t = c.args.text.now in
-    let w = string_value MAX_DEPTH s t c.args.at c.args.c c.requires.within.0 c.requires.here c.requires.room c.requires.ready c.in-34.is c.in-Some.end c.in-Some.ensures.0 in
+    let w = string_value MAX_DEPTH s t c.args.at c.args.c c.requires.within.0 c.requires.here c.requires.room c.requires.ready c.in-34.is c.in-Some.end (take (c.in-Some.end - (c.args.at + 1)) (drop (c.args.at + 1) t)) (plain_string t (c.args.at + 1) c.in-Some.end c.in-Some.ensures.0) in
     let v : Went MAX_DEPTH value s t c.args.at modes.AfterValue (c.in-Some.end + 1) (with_value (string c.in-Some.s.now) s) =
     subst (λ (y : List ℕ). Went MAX_DEPTH value s t c.args.at modes.AfterValue (c.in-Some.end + 1) (with_value (string y) s)) (sym c.in-Some.ensures.1) w in
     after_call MAX_DEPTH c.text.result c.after.result modes.AfterValue (c.in-Some.end + 1) value s t c.args.at c.text.new.self (with_value (string c.in-Some.s.now) s) c.after.ensures c.text.ensures.ok v
-
-pub returns-in-None : goal.returns-in-None
-returns-in-None c = no_string_value MAX_DEPTH c.args.builder.now c.args.text.now c.args.at c.args.c c.requires.within.0 c.requires.here c.requires.room c.in-34.is c.in-None.ensures
 
 pub returns-then-depth-ge-MAX_DEPTH : goal.returns-then-depth-ge-MAX_DEPTH
 returns-then-depth-ge-MAX_DEPTH c = array_too_deep MAX_DEPTH c.args.builder.now c.args.text.now c.args.at c.args.c c.requires.within.0 c.requires.here c.requires.room c.in-91.is (omega (arith, c.depth.ensures))
@@ -87,7 +84,7 @@ returns-else-not-follows-3 c =
     let v = subst (λ (i : ℕ). Went MAX_DEPTH value s t c.args.at modes.AfterValue i (with_value (truth false) s)) far w in
     after_call MAX_DEPTH c.truth-in-102.result c.after-in-102.result modes.AfterValue (c.args.at + 5) value s t c.args.at c.truth-in-102.new.self (with_value (truth false) s) c.after-in-102.ensures c.truth-in-102.ensures.ok v
 
-pub returns-in_default : goal.returns-in_default
-returns-in_default c =
-    no_value MAX_DEPTH c.args.builder.now c.args.text.now c.args.at c.args.c c.requires.within.0 c.requires.here c.requires.room c.requires.not_blank
+pub returns-then-not-begins_number : goal.returns-then-not-begins_number
+returns-then-not-begins_number c =
+    no_value MAX_DEPTH c.args.builder.now c.args.text.now c.args.at c.args.c c.requires.within.0 c.requires.here c.requires.room c.requires.not_blank (sym c.begins_number.ensures ∙ c.if-not-begins_number.true)
     (λ e. absurd (omega arith)) (λ e. absurd (omega arith)) (λ e. absurd (omega arith)) (λ e. absurd (omega arith)) (λ e. absurd (omega arith)) (λ e. absurd (omega arith))

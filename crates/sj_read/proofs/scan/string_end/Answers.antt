@@ -1,12 +1,6 @@
 use Rattle.std.proofs.Common.{arith}
-use Rattle.sj_read.proofs.Scanned.{ends_there, stops_there, stops_at_end}
+use Rattle.sj_read.proofs.Scanned.{ends_there}
 use Rattle.sj_read.proofs.scan.string_end.Goals as goal
-
-pub returns-then-end-bytes : goal.returns-then-end-bytes
-returns-then-end-bytes c = stops_at_end c.args.bytes.now c.args.from c.plain_end-end.result c.requires c.plain_end-end.ensures.value (omega arith)
 
 pub returns-then-bytes-end-eq34 : goal.returns-then-bytes-end-eq34
 returns-then-bytes-end-eq34 c = ends_there c.args.bytes.now c.args.from c.plain_end-end.result c.requires c.plain_end-end.ensures.value (omega arith) c.if-bytes-end-eq34.true
-
-pub returns-else-bytes-end-eq34 : goal.returns-else-bytes-end-eq34
-returns-else-bytes-end-eq34 c = stops_there c.args.bytes.now c.args.from c.plain_end-end.result c.requires c.plain_end-end.ensures.value (omega arith) c.if-bytes-end-eq34.false

@@ -1,0 +1,108 @@
+-- The number that begins at a place.
+use Rattle.std.proofs.Common.{◌≡◌, ℕ, suc, ◌+◌, ◌-◌, ◌<◌, ◌≤◌, List, [], ◌∷◌, length, take, drop, get_or, Bool, true, false, cond, ◌&&◌, Some, None, refl, sym, ap, ◌∙◌, subst, arith, inl, inr}
+use Rattle.std.specs.List.{prefix_len, list_all}
+use Rattle.std.specs.Str.{IsUtf8, IsCharBoundary}
+use Rattle.std.proofs.lemmas.Str.{IsCharBoundary-before_ascii, IsCharBoundary-after_ascii}
+use Rattle.std.proofs.lemmas.List.{get_or-drop, length-drop, drop-drop}
+use Rattle.std.proofs.lemmas.List.Sums.{prefix_len-le-length, prefix_len_passes}
+use Rattle.std.proofs.lemmas.Bool.{cases_lt}
+use Rattle.std.proofs.lemmas.Bool.Decides.{nat_tests}
+use Rattle.sj_decimal.specs.Number.{is_number_byte, begins_number}
+use Rattle.sj_json.specs.Tree.{Number, number}
+use Rattle.sj_json.specs.Building.{State, TakesValue, with_value}
+use Rattle.sj_json.specs.Machine.{value, digits, run}
+use Rattle.sj_json.specs.Numbers.{number_of}
+use Rattle.sj_json.proofs.Complete.{Ends, run_digits, number_ends, no_number_ends, begins_value}
+use Rattle.sj_json.proofs.Buildings.{total-put}
+use Rattle.sj_doc.specs.Builders.{node_total}
+use Rattle.sj_read.specs.declared.reader.Mode.TheVariants as modes
+use Rattle.sj_read.specs.Turns.{Went}
+use Rattle.sj_read.proofs.Steps.{here, goes, cut, put_value}
+
+number_ascii : (k : ℕ) → is_number_byte k ≡ true → k < 128
+number_ascii k h = grind (arith, nat_tests)
+
+begin_ascii : (k : ℕ) → begins_number k ≡ true → k < 128
+begin_ascii k h = grind (arith, nat_tests)
+
+front : (q : ℕ → Bool) (xs : List ℕ) → list_all q (take (prefix_len q xs) xs) ≡ true
+front q [] = refl
+front q (x ∷ xs) = by (q x) refl (front q xs)
+  where
+    by : (b : Bool) → q x ≡ b → list_all q (take (prefix_len q xs) xs) ≡ true → list_all q (take (cond b (1 + prefix_len q xs) 0) (x ∷ xs)) ≡ true
+    by true e rest =
+        let n = prefix_len q xs in
+        let more : suc n ≡ 1 + n = omega arith in
+        subst (λ (m : ℕ). list_all q (take m (x ∷ xs)) ≡ true) more (ap (λ (b : Bool). b && list_all q (take n xs)) e ∙ rest)
+    by false e rest = refl
+
+behind : (xs : List ℕ) → Ends (drop (prefix_len is_number_byte xs) xs)
+behind [] = tt
+behind (x ∷ xs) = by (is_number_byte x) refl (behind xs)
+  where
+    by : (b : Bool) → is_number_byte x ≡ b → Ends (drop (prefix_len is_number_byte xs) xs) → Ends (drop (cond b (1 + prefix_len is_number_byte xs) 0) (x ∷ xs))
+    by true e rest =
+        let n = prefix_len is_number_byte xs in
+        let more : suc n ≡ 1 + n = omega arith in
+        subst (λ (m : ℕ). Ends (drop m (x ∷ xs))) more rest
+    by false e rest = e
+
+module _ (limit : ℕ) (s : State) (text : List ℕ) (at c : ℕ) (h : at < length text) (e : get_or text at 0 ≡ c) (begins : begins_number c ≡ true) (end : ℕ) (is : end ≡ at + 1 + prefix_len is_number_byte (drop (at + 1) text)) where
+  pub within : end ≤ length text
+  within = omega (arith, is, prefix_len-le-length is_number_byte (drop (at + 1) text), length-drop (at + 1) text)
+
+  rest_ends : Ends (drop end text)
+  rest_ends =
+      let n = prefix_len is_number_byte (drop (at + 1) text) in
+      subst Ends (drop-drop n (at + 1) text ∙ ap (λ (i : ℕ). drop i text) (sym is)) (behind (drop (at + 1) text))
+
+  -- the bytes of the number
+  bytes : List ℕ
+  bytes = take (end - at) (drop at text)
+
+  bytes_are : c ∷ take (end - (at + 1)) (drop (at + 1) text) ≡ take (end - at) (drop at text)
+  bytes_are =
+      let more : suc (end - (at + 1)) ≡ end - at = omega (arith, is) in
+      ap (λ (k : ℕ). take k (c ∷ drop (at + 1) text)) more ∙ ap (take (end - at)) (sym (here limit value s text at c h e))
+
+  pub runs : run limit value s (drop at text) ≡ run limit (digits (take (end - at) (drop at text))) s (drop end text)
+  runs =
+      let front_is : list_all is_number_byte (take (end - (at + 1)) (drop (at + 1) text)) ≡ true =
+      subst (λ (k : ℕ). list_all is_number_byte (take k (drop (at + 1) text)) ≡ true) (omega (arith, is)) (front is_number_byte (drop (at + 1) text)) in
+      goes limit value s text at c h e (digits (c ∷ []), s) (begins_value limit s c begins)
+      ∙ ap (run limit (digits (c ∷ [])) s) (cut text (at + 1) end (omega (arith, is)))
+      ∙ run_digits limit (c ∷ []) (take (end - (at + 1)) (drop (at + 1) text)) (drop end text) s front_is
+      ∙ ap (λ (a : List ℕ). run limit (digits a) s (drop end text)) bytes_are
+
+  pub number_value : (v : Number) → number_of (take (end - at) (drop at text)) ≡ Some v → TakesValue s.0 → node_total s ≤ at → Went limit value s text at modes.AfterValue end (with_value (number v) s)
+  number_value v read ready room = record {
+    same = runs ∙ number_ends limit (take (end - at) (drop at text)) v s (drop end text) read rest_ends;
+    later = omega (arith, is);
+    within = within;
+    ready = put_value (number v) s.0 ready;
+    room = omega (arith, total-put (number v) s.0 s.1 ready, is);
+  }
+
+  pub no_number_value : number_of (take (end - at) (drop at text)) ≡ None → run limit value s (drop at text) ≡ None
+  no_number_value read = runs ∙ no_number_ends limit (take (end - at) (drop at text)) s (drop end text) read rest_ends
+
+  -- ---- the number lies between characters
+
+  last_byte : get_or text (end - 1) 0 < 128
+  last_byte =
+      let n = prefix_len is_number_byte (drop (at + 1) text) in
+      elim (cases_lt at (end - 1)) as (λ _. get_or text (end - 1) 0 < 128) [
+        | inl l ↦ let k = end - 1 - (at + 1) in
+            let place : at + 1 + k ≡ end - 1 = omega arith in
+            number_ascii (get_or text (end - 1) 0) (ap (λ (i : ℕ). is_number_byte (get_or text i 0)) (sym place) ∙ ap is_number_byte (sym (get_or-drop (at + 1) text k 0)) ∙ prefix_len_passes is_number_byte (drop (at + 1) text) k 0 (omega (arith, is)))
+        | inr g ↦ let place : at ≡ end - 1 = omega (arith, is) in
+            subst (λ (i : ℕ). get_or text i 0 < 128) place (subst (λ (b : ℕ). b < 128) (sym e) (begin_ascii c begins))
+      ]
+
+  pub end_boundary : IsUtf8 text → IsCharBoundary text end
+  end_boundary good =
+      let last : end - 1 + 1 ≡ end = omega (arith, is) in
+      subst (IsCharBoundary text) last (IsCharBoundary-after_ascii text (end - 1) good (omega (arith, is, within)) last_byte)
+
+  pub start_boundary : IsCharBoundary text at
+  start_boundary = IsCharBoundary-before_ascii text at h (subst (λ (b : ℕ). b < 128) (sym e) (begin_ascii c begins))

@@ -1,0 +1,176 @@
+// Escapes of a string (RFC 8259, section 7), byte by byte.
+ghost use Rattle.std.specs.Prelude.{◌≡◌, ◌<◌, ◌≤◌, ◌^◌, length, option_map, IfSome, MatchOption};
+ghost use Rattle.sj_json.specs.Strings.{is_high as high_unit, is_low as low_unit, letter_char as character_of};
+ghost use Rattle.sj_json.specs.Machine.{escape_step, unit_step as machine_unit_step, unit_done as machine_unit_done};
+ghost use Rattle.sj_read.specs.Strings.{escape_of, step_of, IsHighUnit, IsEscape, IsStep, FindsEscape, NoEscape};
+
+// How far an escape has come, behind its backslash.
+#[derive(Clone, Copy, Drop)]
+enum Escape {
+    Begun,
+    // Behind a "u": the high surrogate that came before, if one did, how many hexadecimal digits have come,
+    // and the number that they write.
+    Unit {
+        high: Option<u32>,
+        count: u32,
+        value: u32,
+    },
+    // Behind a high surrogate.
+    High(u32),
+    // Behind a high surrogate and a backslash.
+    Second(u32),
+}
+
+// What a byte of an escape leads to.
+#[derive(Clone, Copy, Drop)]
+enum Step {
+    Wait(Escape),
+    // The escape ends, and stands for this character.
+    Char(char),
+}
+
+const UNIT_DIGITS: u32 = 4;
+
+// The first code point behind those of one unit.
+const SUPPLEMENTARY: u32 = 0x10000;
+
+fn is_high(unit: u32) -> bool
+    ensures { result ≡ high_unit unit }
+{
+    0xd800 <= unit && unit < 0xdc00
+}
+
+fn is_low(unit: u32) -> bool
+    ensures { result ≡ low_unit unit }
+{
+    0xdc00 <= unit && unit < 0xe000
+}
+
+// The character of an escape of one letter.
+fn letter_char(letter: u8) -> Option<char>
+    ensures { result ≡ character_of letter }
+{
+    match letter {
+        b'"' => Some('"'),
+        b'\\' => Some('\\'),
+        b'/' => Some('/'),
+        b'b' => Some('\u{8}'),
+        b'f' => Some('\u{c}'),
+        b'n' => Some('\n'),
+        b'r' => Some('\r'),
+        b't' => Some('\t'),
+        _ => None,
+    }
+}
+
+// Four digits have come.
+fn unit_done(high: Option<u32>, unit: u32) -> Option<Step>
+    requires small { unit < 2 ^ 16 }
+    requires high { IfSome high IsHighUnit }
+    ensures value { option_map step_of result ≡ machine_unit_done high unit }
+    ensures good { IfSome result IsStep }
+{
+    match high {
+        None => {
+            if is_high(unit) {
+                return Some(Step::Wait(Escape::High(unit)));
+            }
+            // a low surrogate alone is no character
+            match char::from_u32(unit) {
+                Some(c) => Some(Step::Char(c)),
+                None => None,
+            }
+        }
+        Some(high) => {
+            if !is_low(unit) {
+                return None;
+            }
+            match char::from_u32(SUPPLEMENTARY + (high - 0xd800) * 1024 + (unit - 0xdc00)) {
+                Some(c) => Some(Step::Char(c)),
+                None => None,
+            }
+        }
+    }
+}
+
+// The next digit.
+fn unit_step(high: Option<u32>, count: u32, value: u32, byte: u8) -> Option<Step>
+    requires { IsEscape (Escape.Unit high count value) }
+    ensures value { option_map step_of result ≡ escape_step (escape_of (Escape.Unit high count value)) byte }
+    ensures good { IfSome result IsStep }
+{
+    let digit = match (byte as char).to_digit(16) {
+        Some(digit) => digit,
+        None => return None,
+    };
+    let value = value * 16 + digit;
+    if count == UNIT_DIGITS - 1 {
+        return unit_done(high, value);
+    }
+    Some(Step::Wait(Escape::Unit {
+        high,
+        count: count + 1,
+        value,
+    }))
+}
+
+fn unit_begins(high: Option<u32>) -> Escape
+    requires { IfSome high IsHighUnit }
+    ensures value { result ≡ Escape.Unit high 0 0 }
+    ensures good { IsEscape result }
+{
+    Escape::Unit {
+        high,
+        count: 0,
+        value: 0,
+    }
+}
+
+impl Escape {
+    fn step(self, byte: u8) -> Option<Step>
+        requires { IsEscape self }
+        ensures value { option_map step_of result ≡ escape_step (escape_of self) byte }
+        ensures good { IfSome result IsStep }
+    {
+        match self {
+            Escape::Begun => {
+                if byte == b'u' {
+                    return Some(Step::Wait(unit_begins(None)));
+                }
+                match letter_char(byte) {
+                    Some(c) => Some(Step::Char(c)),
+                    None => None,
+                }
+            }
+            Escape::Unit { high, count, value } => unit_step(high, count, value, byte),
+            Escape::High(high) => {
+                if byte != b'\\' {
+                    return None;
+                }
+                Some(Step::Wait(Escape::Second(high)))
+            }
+            Escape::Second(high) => {
+                if byte != b'u' {
+                    return None;
+                }
+                Some(Step::Wait(unit_begins(Some(high))))
+            }
+        }
+    }
+}
+
+// The character of the escape that goes on at `from`, behind its backslash, and the place behind it.
+pub(crate) fn escaped_char(bytes: &[u8], from: usize) -> Option<(char, usize)>
+    requires { from ≤ length bytes.now }
+    ensures { MatchOption result (NoEscape bytes.now from) (λ r. FindsEscape bytes.now from r.0 r.1) }
+{
+    let mut escape = Escape::Begun;
+    for at in from..bytes.len() {
+        match escape.step(bytes[at]) {
+            Some(Step::Wait(next)) => escape = next,
+            Some(Step::Char(c)) => return Some((c, at + 1)),
+            None => return None,
+        }
+    }
+    None
+}
