@@ -1,0 +1,7 @@
+pub mod Bytes
+pub mod Words
+pub mod Strings
+pub mod Numbers
+pub mod Tokens
+pub mod Reading
+pub mod Gives
