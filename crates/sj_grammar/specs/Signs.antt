@@ -1,0 +1,53 @@
+-- The tables of the grammar: what single tokens and words stand for.
+use Rattle.std.specs.Prelude.{true, false, Option, Some, None}
+use Rattle.sj_token.specs.declared.token.Token.{Token}
+use Rattle.sj_token.specs.declared.token.Token.TheVariants as k
+use Rattle.sj_token.specs.declared.keyword.Keyword.{Keyword}
+use Rattle.sj_token.specs.declared.keyword.Keyword.TheVariants as w
+use Rattle.sj_grammar.specs.declared.tree.Arith.{Arith}
+use Rattle.sj_grammar.specs.declared.tree.Arith.TheVariants.{Add, Sub, Mul, Div, Rem}
+use Rattle.sj_grammar.specs.declared.tree.Method.TheVariants.{TypeOf, Size, Ceiling, Floor, Abs, KeyValue}
+use Rattle.sj_grammar.specs.declared.tree.Literal.TheVariants as l
+use Rattle.sj_grammar.specs.Tree.{Expr, Root, Var, Context, Last, Lit, Step, Call, Double}
+
+-- "+" | "-"
+abbrev pub add_sign : Token → Option Arith
+add_sign k.Plus = Some Add
+add_sign k.Minus = Some Sub
+add_sign _ = None
+
+-- "*" | "/" | "%"
+abbrev pub mul_sign : Token → Option Arith
+mul_sign k.Star = Some Mul
+mul_sign k.Slash = Some Div
+mul_sign k.Percent = Some Rem
+mul_sign _ = None
+
+-- a word that is an expression by itself
+abbrev pub word_expr : Keyword → Option Expr
+word_expr w.Last = Some Last
+word_expr w.True = Some (Lit (l.Bool true))
+word_expr w.False = Some (Lit (l.Bool false))
+word_expr w.Null = Some (Lit l.Null)
+word_expr _ = None
+
+-- a token that is an expression by itself: "$" | variable | "@" | "last" | literal
+abbrev pub token_expr : Token → Option Expr
+token_expr k.Root = Some Root
+token_expr (k.Variable name) = Some (Var name)
+token_expr k.At = Some Context
+token_expr (k.Quoted s) = Some (Lit (l.Text s))
+token_expr (k.Number n) = Some (Lit (l.Num n))
+token_expr (k.Word keyword text) = word_expr keyword
+token_expr _ = None
+
+-- a method without an argument: "type" | "size" | "ceiling" | "floor" | "abs" | "keyvalue" | "double"
+abbrev pub method_of : Keyword → Option Step
+method_of w.Type = Some (Call TypeOf)
+method_of w.Size = Some (Call Size)
+method_of w.Ceiling = Some (Call Ceiling)
+method_of w.Floor = Some (Call Floor)
+method_of w.Abs = Some (Call Abs)
+method_of w.KeyValue = Some (Call KeyValue)
+method_of w.Double = Some Double
+method_of _ = None
