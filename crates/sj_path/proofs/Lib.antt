@@ -1,3 +1,2 @@
-pub mod Tokens
-pub mod Reading
-pub mod Others
+pub mod Loops
+pub mod Names

@@ -1,5 +1,6 @@
-pub mod Tokens
-pub mod Seen
-pub mod Names
-pub mod Grammar
-pub mod Next
+pub mod Tree
+pub mod Raw
+pub mod Nests
+pub mod Nodes
+pub mod Vars
+pub mod Member

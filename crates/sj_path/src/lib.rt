@@ -1,17 +1,33 @@
-//! Path texts: what they are made of, and the one reading of each.
+//! Paths of the SQL/JSON path language (ISO/IEC 9075-2, 9.46): their trees, the parser, the path of
+//! one member, the number of nodes, and the variables that are passed to a path.
 //!
-//! It stands on sj_base for its texts and the want of memory. So far a path is `lax $` followed by
-//! at most 256 members `.word`. `parse_path` is proved to accept exactly these texts, to give the
-//! names that the text spells, and to answer `PathRefusal::Syntax` only for another text.
+//! It stands on the definitions of sj_grammar and the tokens of sj_token. `parse_path` accepts
+//! exactly the texts that `Accepts` in `specs/Answers.antt` of sj_grammar describes, gives the one
+//! tree of each, and refuses every other text with the first reason in the order of `PathRefusal`.
+//! Contracts see a path as a tree of sj_grammar, by `path_of` in `specs/Tree.antt`.
 #![tactic(auto)]
 
+mod check;
+mod count;
+mod depth;
+mod finish;
+mod level;
+mod make;
+mod member;
 mod parse;
-mod path;
-mod refusal;
+mod predicate;
+mod raw;
+mod single;
+mod step;
 #[cfg(test)]
 mod tests;
-mod token;
+mod tree;
+mod vars;
 
-pub use parse::{one_reading, parse_path};
-pub use path::{Expr, Mode, Path, Step};
-pub use refusal::PathRefusal;
+pub use count::nodes;
+pub use member::member_path;
+pub use parse::parse_path;
+pub use sj_decimal::Compare;
+pub use sj_grammar::{Arith, Initial, Literal, Method, Mode, Name, PathRefusal};
+pub use tree::{Expr, Path, Pred, Step, Sub, Subs};
+pub use vars::Vars;

@@ -1,126 +1,87 @@
-// Reads a path text.
-ghost use Rattle.std.specs.Prelude.{◌≡◌, ◌↔◌, ◌∷◌, ◌++◌, [], ℕ, List, Some, None, IfOk, IfErr, IsErrOf, MatchOption};
-ghost use Rattle.sj_path.specs.declared.refusal.PathRefusal.TheVariants as r;
-ghost use Rattle.sj_path.specs.Tokens.{tokens};
-ghost use Rattle.sj_path.specs.Names.{names_of, expr_names};
-ghost use Rattle.sj_path.specs.Next.{GoesOn};
-ghost use Rattle.sj_path.specs.Grammar.{IsPath, path_names, read_path, read_members};
+//! Whole paths.
 
-use crate::path::{Expr, Mode, Path, Step};
-use crate::refusal::PathRefusal;
-use crate::token::{Token, next_token};
-use sj_base::Text;
+ghost use Rattle.std.specs.Prelude.{◌≡◌, IfOk, IfErr, MatchResult};
+ghost use Rattle.sj_grammar.specs.Reading as reading;
+ghost use Rattle.sj_grammar.specs.Gives.{Gives};
+ghost use Rattle.sj_grammar.specs.Answers.{Allows, Forbids, Accepts, Refuses};
+ghost use Rattle.sj_path.specs.Raw as raw;
+ghost use Rattle.sj_path.specs.Tree.{path_of};
+
+use crate::check::misplaced_expr;
+use crate::depth::is_too_deep;
+use crate::finish::finished;
+use crate::level::{Level, thing};
+use crate::tree::Path;
+use crate::{raw, single};
+use sj_grammar::{Mode, PathRefusal};
+use sj_token::{LexError, Token, tokens_of};
 use std::alloc::Global;
 
-/// The most members that a path may have.
-const MAX_MEMBERS: usize = 256;
-
-/// What stands next in a text behind the root.
-#[derive(Clone, Copy)]
-enum NextMember<'a> {
-    /// Nothing but blanks.
-    End,
-    /// A member of this name, and what is behind it.
-    Member(&'a str, &'a [u8]),
-    /// Something else.
-    Other,
+#[tactic(auto, unfolding(sj_grammar::specs::Reading::whole_at))]
+fn whole(alloc: Global, tokens: &[Token]) -> Result<raw::Expr, PathRefusal>
+    ensures { Gives raw.expr_of result (reading.whole_at tokens.now) }
+{
+    let level = Level {
+        alloc,
+        depth: tokens.len() + 1,
+        thing,
+    };
+    let (e, rest) = level.inner_expr(tokens)?;
+    match rest {
+        [] => Ok(e),
+        _ => Err(PathRefusal::Syntax),
+    }
 }
 
-/// The law of the path grammar: the reading gives names exactly where the text spells the path of
-/// these names. So a text spells at most one path.
-pub fn one_reading()
-    ensures { (text : List ℕ) (names : List (List ℕ)) → (path_names text ≡ Some names) ↔ IsPath text names }
-{}
-
-/// Reads a path text (ISO/IEC 9075-2, SQL/JSON path language).
-///
-/// Spaces, TAB, LF and CR may stand between tokens. Time is linear in the text, and nothing is
-/// read behind the 257th member. `PathRefusal::Memory` may come for any text.
-#[tactic(auto, unfolding(crate::specs::Grammar::path_names))]
-pub fn parse_path(alloc: Global, text: &str) -> Result<Path, PathRefusal>
-    ensures accepted { IfOk result (λ path. path_names text.now ≡ Some (names_of path)) }
-    ensures refused { IsErrOf result PathRefusal.Syntax → path_names text.now ≡ None }
+#[tactic(auto, unfolding(sj_grammar::specs::Reading::path_at))]
+fn path(alloc: Global, tokens: &[Token]) -> Result<raw::Path, PathRefusal>
+    ensures { Gives raw.path_of result (reading.path_at tokens.now) }
 {
-    let Some(rest) = behind_root(text.as_bytes()) else {
-        return Err(PathRefusal::Syntax);
-    };
-    match members(alloc, rest) {
-        Ok(expr) => Ok(Path {
+    if let Some(rest) = single::lax(tokens) {
+        let expr = whole(alloc, rest)?;
+        return Ok(raw::Path {
             mode: Mode::Lax,
             expr,
-        }),
-        Err(refusal) => Err(refusal),
+        });
     }
-}
-
-/// What stands behind `lax $`.
-fn behind_root(text: &[u8]) -> Option<&[u8]>
-    ensures { MatchOption result (read_path (tokens text.now) ≡ None)
-        (λ rest. read_path (tokens text.now) ≡ read_members 256 (tokens rest.now)) }
-{
-    let Some((token, rest)) = next_token(text) else {
-        return None;
-    };
-    let Token::Word(mode) = token else {
-        return None;
-    };
-    let Some((token, rest)) = next_token(rest) else {
-        return None;
-    };
-    let Token::Root = token else {
-        return None;
-    };
-    if mode == "lax" { Some(rest) } else { None }
-}
-
-/// Reads members to the end of a text.
-fn members(alloc: Global, text: &[u8]) -> Result<Expr, PathRefusal>
-    ensures accepted { IfOk result (λ expr. read_members 256 (tokens text.now) ≡ Some (expr_names expr)) }
-    ensures refused { IsErrOf result PathRefusal.Syntax → read_members 256 (tokens text.now) ≡ None }
-{
-    let mut expr = Expr::Root;
-    let mut rest = text;
-    for _count in 0..MAX_MEMBERS {
-        match next_member(rest) {
-            NextMember::End => return Ok(expr),
-            NextMember::Member(name, behind) => {
-                expr = member(alloc, expr, name)?;
-                rest = behind;
-            }
-            NextMember::Other => return Err(PathRefusal::Syntax),
-        }
+    if let Some(rest) = single::strict(tokens) {
+        let expr = whole(alloc, rest)?;
+        return Ok(raw::Path {
+            mode: Mode::Strict,
+            expr,
+        });
     }
-    match next_token(rest) {
-        None => Ok(expr),
-        Some(_) => Err(PathRefusal::Syntax),
+    let expr = whole(alloc, tokens)?;
+    Ok(raw::Path {
+        mode: Mode::Lax,
+        expr,
+    })
+}
+
+/// The path that the tokens spell, or the first refusal in the order of `PathRefusal`.
+fn parse_tokens(alloc: Global, tokens: &[Token]) -> Result<Path, PathRefusal>
+    ensures { MatchResult result (λ p. Allows tokens.now (path_of p)) (λ e. Forbids tokens.now e) }
+{
+    if is_too_deep(tokens) {
+        return Err(PathRefusal::TooDeep);
     }
+    let path = path(alloc, tokens)?;
+    if misplaced_expr(&path.expr, false, false) {
+        return Err(PathRefusal::Misplaced);
+    }
+    finished(alloc, path)
 }
 
-/// The step to the members of a name.
-fn member(alloc: Global, expr: Expr, name: &str) -> Result<Expr, PathRefusal>
-    ensures ok { IfOk result (λ longer. expr_names longer ≡ expr_names expr ++ name.now ∷ []) }
-    ensures err { IfErr result (λ refusal. refusal ≡ PathRefusal.Memory) }
+/// The path that the text spells (ISO/IEC 9075-2, 9.46), or the first refusal in the order of
+/// `PathRefusal`. It takes time linear in the text, and recurs only over what the limits of `TooDeep`
+/// bound.
+pub fn parse_path(alloc: Global, text: &str) -> Result<Path, PathRefusal>
+    ensures path { IfOk result (λ p. Accepts text.now (path_of p)) }
+    ensures refusal { IfErr result (λ e. Refuses text.now e) }
 {
-    let name = Text::from_str(alloc, name)?;
-    let inner = Box::new(alloc, expr)?;
-    Ok(Expr::Access(inner, Step::Member(name)))
-}
-
-/// What stands next in a text behind the root.
-fn next_member(text: &[u8]) -> NextMember<'_>
-    ensures { GoesOn (tokens text.now) result }
-{
-    let Some((token, rest)) = next_token(text) else {
-        return NextMember::End;
-    };
-    let Token::Point = token else {
-        return NextMember::Other;
-    };
-    let Some((token, rest)) = next_token(rest) else {
-        return NextMember::Other;
-    };
-    match token {
-        Token::Word(name) => NextMember::Member(name, rest),
-        _ => NextMember::Other,
+    match tokens_of(alloc, text) {
+        Ok(tokens) => parse_tokens(alloc, tokens.as_slice()),
+        Err(LexError::Lex) => Err(PathRefusal::Lex),
+        Err(LexError::Memory) => Err(PathRefusal::Memory),
     }
 }

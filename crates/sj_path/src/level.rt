@@ -1,0 +1,481 @@
+//! What may stand at one level of parentheses, with a function that reads what stands inside them.
+
+ghost use Rattle.std.specs.Prelude.{◌≡◌, length};
+ghost use Rattle.sj_grammar.specs.Reading as reading;
+ghost use Rattle.sj_path.specs.Raw.{expr_of, step_of, sub_of, subs_of, pred_of, thing_of};
+ghost use Rattle.sj_grammar.specs.Gives.{Gives};
+ghost use Rattle.sj_path.specs.Nests.{Nests};
+
+use crate::raw::{Expr, Pred, Step, Sub, Subs, Thing};
+use crate::{make, predicate, single, step};
+use sj_grammar::PathRefusal;
+use sj_token::{Keyword, Token};
+use std::alloc::Global;
+
+#[derive(Clone, Copy)]
+pub struct Level<F> {
+    pub alloc: Global,
+    /// How deep parentheses may still nest.
+    pub depth: usize,
+    pub thing: F,
+}
+
+impl<F: Fn(Global, usize, &[Token]) -> Result<(Thing, &[Token]), PathRefusal>> Level<F> {
+    fn thing<'a>(&self, tokens: &'a [Token]) -> Result<(Thing, &'a [Token]), PathRefusal>
+        requires { Nests self.now.depth (F.pre self.now.thing) (F.post self.now.thing) }
+        ensures { Gives (λ x. (thing_of x.0, x.1.now)) result (reading.thing_at self.now.depth tokens.now) }
+    {
+        (self.thing)(self.alloc, self.depth, tokens)
+    }
+
+    #[tactic(auto, unfolding(sj_grammar::specs::Reading::inner_expr))]
+    pub fn inner_expr<'a>(&self, tokens: &'a [Token]) -> Result<(Expr, &'a [Token]), PathRefusal>
+        requires { Nests self.now.depth (F.pre self.now.thing) (F.post self.now.thing) }
+        ensures { Gives (λ x. (expr_of x.0, x.1.now)) result (reading.inner_expr (reading.thing_at self.now.depth) tokens.now) }
+    {
+        let (thing, rest) = self.thing(tokens)?;
+        match thing {
+            Thing::Value(e) => Ok((e, rest)),
+            Thing::Test(_) => Err(PathRefusal::Syntax),
+        }
+    }
+
+    #[tactic(auto, unfolding(sj_grammar::specs::Reading::sub_at))]
+    fn sub<'a>(&self, tokens: &'a [Token]) -> Result<(Sub, &'a [Token]), PathRefusal>
+        requires { Nests self.now.depth (F.pre self.now.thing) (F.post self.now.thing) }
+        ensures { Gives (λ x. (sub_of x.0, x.1.now)) result (reading.sub_at (reading.thing_at self.now.depth) tokens.now) }
+    {
+        let (from, rest) = self.inner_expr(tokens)?;
+        let Some(rest) = single::to(rest) else {
+            return Ok((Sub::One(from), rest));
+        };
+        let (to, rest) = self.inner_expr(rest)?;
+        Ok((Sub::Range(from, to), rest))
+    }
+
+    #[tactic(auto, unfolding(sj_grammar::specs::Reading::primary_at))]
+    fn primary<'a>(&self, tokens: &'a [Token]) -> Result<(Expr, &'a [Token]), PathRefusal>
+        requires { Nests self.now.depth (F.pre self.now.thing) (F.post self.now.thing) }
+        ensures { Gives (λ x. (expr_of x.0, x.1.now)) result (reading.primary_at (reading.thing_at self.now.depth) tokens.now) }
+    {
+        match tokens {
+            [] => Err(PathRefusal::Syntax),
+            [Token::Open, rest @ ..] => {
+                let (e, rest) = self.inner_expr(rest)?;
+                let rest = single::close(rest).ok_or(PathRefusal::Syntax)?;
+                Ok((e, rest))
+            }
+            [token, rest @ ..] => Ok((single::expr(self.alloc, token)?, rest)),
+        }
+    }
+
+    #[tactic(auto, unfolding(sj_grammar::specs::Reading::inner_pred))]
+    fn inner_pred<'a>(&self, tokens: &'a [Token]) -> Result<(Pred, &'a [Token]), PathRefusal>
+        requires { Nests self.now.depth (F.pre self.now.thing) (F.post self.now.thing) }
+        ensures { Gives (λ x. (pred_of x.0, x.1.now)) result (reading.inner_pred (reading.thing_at self.now.depth) tokens.now) }
+    {
+        let (thing, rest) = self.thing(tokens)?;
+        match thing {
+            Thing::Value(_) => Err(PathRefusal::Syntax),
+            Thing::Test(p) => Ok((p, rest)),
+        }
+    }
+
+    #[tactic(auto, unfolding(sj_grammar::specs::Reading::subs_at))]
+    fn subs<'a>(
+        &self,
+        turns: usize,
+        tokens: &'a [Token],
+    ) -> Result<(Subs, &'a [Token]), PathRefusal>
+        requires { Nests self.now.depth (F.pre self.now.thing) (F.post self.now.thing) }
+        ensures { Gives (λ x. (subs_of x.0, x.1.now)) result (reading.subs_at (reading.thing_at self.now.depth) turns tokens.now) }
+    {
+        if turns == 0 {
+            return Err(PathRefusal::Syntax);
+        }
+        let (sub, rest) = self.sub(tokens)?;
+        let Some(rest) = single::comma(rest) else {
+            return Ok((Subs::Only(sub), rest));
+        };
+        let (others, rest) = self.subs(turns - 1, rest)?;
+        Ok((Subs::More(sub, Box::new(self.alloc, others)?), rest))
+    }
+
+    #[tactic(auto, unfolding(sj_grammar::specs::Reading::after_bracket))]
+    fn after_bracket<'a>(&self, tokens: &'a [Token]) -> Result<(Step, &'a [Token]), PathRefusal>
+        requires { Nests self.now.depth (F.pre self.now.thing) (F.post self.now.thing) }
+        ensures { Gives (λ x. (step_of x.0, x.1.now)) result (reading.after_bracket (reading.thing_at self.now.depth) tokens.now) }
+    {
+        if let Some(rest) = single::star(tokens) {
+            let rest = single::bracket(rest).ok_or(PathRefusal::Syntax)?;
+            return Ok((Step::AllElements, rest));
+        }
+        let (subs, rest) = self.subs(tokens.len(), tokens)?;
+        let rest = single::bracket(rest).ok_or(PathRefusal::Syntax)?;
+        Ok((Step::Elements(Box::new(self.alloc, subs)?), rest))
+    }
+
+    #[tactic(auto, unfolding(sj_grammar::specs::Reading::after_question))]
+    fn after_question<'a>(&self, tokens: &'a [Token]) -> Result<(Step, &'a [Token]), PathRefusal>
+        requires { Nests self.now.depth (F.pre self.now.thing) (F.post self.now.thing) }
+        ensures { Gives (λ x. (step_of x.0, x.1.now)) result (reading.after_question (reading.thing_at self.now.depth) tokens.now) }
+    {
+        let rest = single::open(tokens).ok_or(PathRefusal::Syntax)?;
+        let (p, rest) = self.inner_pred(rest)?;
+        let rest = single::close(rest).ok_or(PathRefusal::Syntax)?;
+        Ok((Step::Filter(Box::new(self.alloc, p)?), rest))
+    }
+
+    #[tactic(auto, unfolding(sj_grammar::specs::Reading::step_at))]
+    fn step<'a>(&self, tokens: &'a [Token]) -> Result<(Step, &'a [Token]), PathRefusal>
+        requires { Nests self.now.depth (F.pre self.now.thing) (F.post self.now.thing) }
+        ensures { Gives (λ x. (step_of x.0, x.1.now)) result (reading.step_at (reading.thing_at self.now.depth) tokens.now) }
+    {
+        match tokens {
+            [Token::Dot, rest @ ..] => step::after_dot(self.alloc, rest),
+            [Token::OpenBracket, rest @ ..] => self.after_bracket(rest),
+            [Token::Question, rest @ ..] => self.after_question(rest),
+            _ => Err(PathRefusal::Syntax),
+        }
+    }
+
+    #[tactic(auto, unfolding(sj_grammar::specs::Reading::access_from))]
+    fn access_from<'a>(
+        &self,
+        x: Expr,
+        tokens: &'a [Token],
+    ) -> Result<(Expr, &'a [Token]), PathRefusal>
+        requires { Nests self.now.depth (F.pre self.now.thing) (F.post self.now.thing) }
+        ensures { Gives (λ x. (expr_of x.0, x.1.now)) result (reading.access_from (reading.thing_at self.now.depth) (length tokens.now) (expr_of x) tokens.now) }
+    {
+        let mut e = x;
+        let mut rest = tokens;
+        for _turn in 0..tokens.len() {
+            if !single::begins_step(rest) {
+                return Ok((e, rest));
+            }
+            let (step, after) = self.step(rest)?;
+            e = make::access(self.alloc, e, step)?;
+            rest = after;
+        }
+        Ok((e, rest))
+    }
+
+    #[tactic(auto, unfolding(sj_grammar::specs::Reading::access_at))]
+    fn access<'a>(&self, tokens: &'a [Token]) -> Result<(Expr, &'a [Token]), PathRefusal>
+        requires { Nests self.now.depth (F.pre self.now.thing) (F.post self.now.thing) }
+        ensures { Gives (λ x. (expr_of x.0, x.1.now)) result (reading.access_at (reading.thing_at self.now.depth) tokens.now) }
+    {
+        let (x, rest) = self.primary(tokens)?;
+        self.access_from(x, rest)
+    }
+
+    #[tactic(auto, unfolding(sj_grammar::specs::Reading::unary_at))]
+    fn unary<'a>(&self, tokens: &'a [Token]) -> Result<(Expr, &'a [Token]), PathRefusal>
+        requires { Nests self.now.depth (F.pre self.now.thing) (F.post self.now.thing) }
+        ensures { Gives (λ x. (expr_of x.0, x.1.now)) result (reading.unary_at (reading.thing_at self.now.depth) tokens.now) }
+    {
+        match tokens {
+            [] => Err(PathRefusal::Syntax),
+            [Token::Plus, rest @ ..] => {
+                let (e, rest) = self.unary(rest)?;
+                Ok((Expr::Plus(Box::new(self.alloc, e)?), rest))
+            }
+            [Token::Minus, rest @ ..] => {
+                let (e, rest) = self.unary(rest)?;
+                Ok((Expr::Minus(Box::new(self.alloc, e)?), rest))
+            }
+            _ => self.access(tokens),
+        }
+    }
+
+    #[tactic(auto, unfolding(sj_grammar::specs::Reading::product_from))]
+    fn product_from<'a>(
+        &self,
+        x: Expr,
+        tokens: &'a [Token],
+    ) -> Result<(Expr, &'a [Token]), PathRefusal>
+        requires { Nests self.now.depth (F.pre self.now.thing) (F.post self.now.thing) }
+        ensures { Gives (λ x. (expr_of x.0, x.1.now)) result (reading.product_from (reading.thing_at self.now.depth) (length tokens.now) (expr_of x) tokens.now) }
+    {
+        let mut e = x;
+        let mut rest = tokens;
+        for _turn in 0..tokens.len() {
+            let Some((op, operand)) = single::mul_sign(rest) else {
+                return Ok((e, rest));
+            };
+            let (y, after) = self.unary(operand)?;
+            e = make::binary(self.alloc, op, e, y)?;
+            rest = after;
+        }
+        Ok((e, rest))
+    }
+
+    #[tactic(auto, unfolding(sj_grammar::specs::Reading::term_at))]
+    fn term<'a>(&self, tokens: &'a [Token]) -> Result<(Expr, &'a [Token]), PathRefusal>
+        requires { Nests self.now.depth (F.pre self.now.thing) (F.post self.now.thing) }
+        ensures { Gives (λ x. (expr_of x.0, x.1.now)) result (reading.term_at (reading.thing_at self.now.depth) tokens.now) }
+    {
+        let (x, rest) = self.unary(tokens)?;
+        self.product_from(x, rest)
+    }
+
+    #[tactic(auto, unfolding(sj_grammar::specs::Reading::sum_from))]
+    fn sum_from<'a>(&self, x: Expr, tokens: &'a [Token]) -> Result<(Expr, &'a [Token]), PathRefusal>
+        requires { Nests self.now.depth (F.pre self.now.thing) (F.post self.now.thing) }
+        ensures { Gives (λ x. (expr_of x.0, x.1.now)) result (reading.sum_from (reading.thing_at self.now.depth) (length tokens.now) (expr_of x) tokens.now) }
+    {
+        let mut e = x;
+        let mut rest = tokens;
+        for _turn in 0..tokens.len() {
+            let Some((op, operand)) = single::add_sign(rest) else {
+                return Ok((e, rest));
+            };
+            let (y, after) = self.term(operand)?;
+            e = make::binary(self.alloc, op, e, y)?;
+            rest = after;
+        }
+        Ok((e, rest))
+    }
+
+    #[tactic(auto, unfolding(sj_grammar::specs::Reading::expr_at))]
+    fn expr<'a>(&self, tokens: &'a [Token]) -> Result<(Expr, &'a [Token]), PathRefusal>
+        requires { Nests self.now.depth (F.pre self.now.thing) (F.post self.now.thing) }
+        ensures { Gives (λ x. (expr_of x.0, x.1.now)) result (reading.expr_at (reading.thing_at self.now.depth) tokens.now) }
+    {
+        let (x, rest) = self.term(tokens)?;
+        self.sum_from(x, rest)
+    }
+
+    /// The rest of an expression that begins with `x`.
+    #[tactic(auto, unfolding(sj_grammar::specs::Reading::expr_from))]
+    fn expr_from<'a>(
+        &self,
+        x: Expr,
+        tokens: &'a [Token],
+    ) -> Result<(Expr, &'a [Token]), PathRefusal>
+        requires { Nests self.now.depth (F.pre self.now.thing) (F.post self.now.thing) }
+        ensures { Gives (λ x. (expr_of x.0, x.1.now)) result (reading.expr_from (reading.thing_at self.now.depth) (expr_of x) tokens.now) }
+    {
+        let (a, rest) = self.access_from(x, tokens)?;
+        let (b, rest) = self.product_from(a, rest)?;
+        self.sum_from(b, rest)
+    }
+
+    /// What stands behind an expression.
+    #[tactic(auto, unfolding(sj_grammar::specs::Reading::test_from))]
+    fn test_from<'a>(
+        &self,
+        e: Expr,
+        tokens: &'a [Token],
+    ) -> Result<(Thing, &'a [Token]), PathRefusal>
+        requires { Nests self.now.depth (F.pre self.now.thing) (F.post self.now.thing) }
+        ensures { Gives (λ x. (thing_of x.0, x.1.now)) result (reading.test_from (reading.thing_at self.now.depth) (expr_of e) tokens.now) }
+    {
+        match tokens {
+            [Token::Compare(op), rest @ ..] => {
+                let (b, rest) = self.expr(rest)?;
+                Ok((Thing::Test(Pred::Compare(*op, e, b)), rest))
+            }
+            [Token::Word(Keyword::Starts, _), rest @ ..] => {
+                let rest = single::with(rest).ok_or(PathRefusal::Syntax)?;
+                predicate::initial(self.alloc, e, rest)
+            }
+            [Token::Word(Keyword::LikeRegex, _), rest @ ..] => {
+                let (pattern, rest) = single::quoted(self.alloc, rest)?;
+                predicate::flags(self.alloc, e, pattern, rest)
+            }
+            _ => Ok((Thing::Value(e), tokens)),
+        }
+    }
+
+    #[tactic(auto, unfolding(sj_grammar::specs::Reading::tested))]
+    fn tested<'a>(&self, tokens: &'a [Token]) -> Result<(Thing, &'a [Token]), PathRefusal>
+        requires { Nests self.now.depth (F.pre self.now.thing) (F.post self.now.thing) }
+        ensures { Gives (λ x. (thing_of x.0, x.1.now)) result (reading.tested (reading.thing_at self.now.depth) tokens.now) }
+    {
+        let (e, rest) = self.expr(tokens)?;
+        self.test_from(e, rest)
+    }
+
+    /// What stands behind a parenthesis that was closed.
+    #[tactic(auto, unfolding(sj_grammar::specs::Reading::after_group))]
+    fn after_group<'a>(
+        &self,
+        x: Thing,
+        tokens: &'a [Token],
+    ) -> Result<(Thing, &'a [Token]), PathRefusal>
+        requires { Nests self.now.depth (F.pre self.now.thing) (F.post self.now.thing) }
+        ensures { Gives (λ x. (thing_of x.0, x.1.now)) result (reading.after_group (reading.thing_at self.now.depth) (thing_of x) tokens.now) }
+    {
+        match x {
+            Thing::Value(e) => {
+                let (e, rest) = self.expr_from(e, tokens)?;
+                self.test_from(e, rest)
+            }
+            Thing::Test(p) => predicate::unknown(self.alloc, p, tokens),
+        }
+    }
+
+    #[tactic(auto, unfolding(sj_grammar::specs::Reading::exists_at))]
+    fn exists<'a>(&self, tokens: &'a [Token]) -> Result<(Pred, &'a [Token]), PathRefusal>
+        requires { Nests self.now.depth (F.pre self.now.thing) (F.post self.now.thing) }
+        ensures { Gives (λ x. (pred_of x.0, x.1.now)) result (reading.exists_at (reading.thing_at self.now.depth) tokens.now) }
+    {
+        let rest = single::open(tokens).ok_or(PathRefusal::Syntax)?;
+        let (e, rest) = self.inner_expr(rest)?;
+        let rest = single::close(rest).ok_or(PathRefusal::Syntax)?;
+        Ok((Pred::Exists(e), rest))
+    }
+
+    #[tactic(auto, unfolding(sj_grammar::specs::Reading::group_at))]
+    fn group<'a>(&self, tokens: &'a [Token]) -> Result<(Pred, &'a [Token]), PathRefusal>
+        requires { Nests self.now.depth (F.pre self.now.thing) (F.post self.now.thing) }
+        ensures { Gives (λ x. (pred_of x.0, x.1.now)) result (reading.group_at (reading.thing_at self.now.depth) tokens.now) }
+    {
+        let (p, rest) = self.inner_pred(tokens)?;
+        let rest = single::close(rest).ok_or(PathRefusal::Syntax)?;
+        Ok((p, rest))
+    }
+
+    #[tactic(auto, unfolding(sj_grammar::specs::Reading::delim_at))]
+    fn delim<'a>(&self, tokens: &'a [Token]) -> Result<(Pred, &'a [Token]), PathRefusal>
+        requires { Nests self.now.depth (F.pre self.now.thing) (F.post self.now.thing) }
+        ensures { Gives (λ x. (pred_of x.0, x.1.now)) result (reading.delim_at (reading.thing_at self.now.depth) tokens.now) }
+    {
+        match tokens {
+            [Token::Open, rest @ ..] => self.group(rest),
+            [Token::Word(Keyword::Exists, _), rest @ ..] => self.exists(rest),
+            _ => Err(PathRefusal::Syntax),
+        }
+    }
+
+    /// A predicate with no `&&` and no `||`, or an expression.
+    #[tactic(auto, unfolding(sj_grammar::specs::Reading::neg_at))]
+    fn neg<'a>(&self, tokens: &'a [Token]) -> Result<(Thing, &'a [Token]), PathRefusal>
+        requires { Nests self.now.depth (F.pre self.now.thing) (F.post self.now.thing) }
+        ensures { Gives (λ x. (thing_of x.0, x.1.now)) result (reading.neg_at (reading.thing_at self.now.depth) tokens.now) }
+    {
+        match tokens {
+            [] => Err(PathRefusal::Syntax),
+            [Token::Not, rest @ ..] => {
+                let (p, rest) = self.delim(rest)?;
+                Ok((Thing::Test(Pred::Not(Box::new(self.alloc, p)?)), rest))
+            }
+            [Token::Open, rest @ ..] => {
+                let (x, rest) = self.thing(rest)?;
+                let rest = single::close(rest).ok_or(PathRefusal::Syntax)?;
+                self.after_group(x, rest)
+            }
+            [Token::Word(Keyword::Exists, _), rest @ ..] => {
+                let (p, rest) = self.exists(rest)?;
+                Ok((Thing::Test(p), rest))
+            }
+            _ => self.tested(tokens),
+        }
+    }
+
+    #[tactic(auto, unfolding(sj_grammar::specs::Reading::test_at))]
+    fn test<'a>(&self, tokens: &'a [Token]) -> Result<(Pred, &'a [Token]), PathRefusal>
+        requires { Nests self.now.depth (F.pre self.now.thing) (F.post self.now.thing) }
+        ensures { Gives (λ x. (pred_of x.0, x.1.now)) result (reading.test_at (reading.thing_at self.now.depth) tokens.now) }
+    {
+        let (thing, rest) = self.neg(tokens)?;
+        match thing {
+            Thing::Value(_) => Err(PathRefusal::Syntax),
+            Thing::Test(p) => Ok((p, rest)),
+        }
+    }
+
+    #[tactic(auto, unfolding(sj_grammar::specs::Reading::and_from))]
+    fn and_from<'a>(&self, p: Pred, tokens: &'a [Token]) -> Result<(Pred, &'a [Token]), PathRefusal>
+        requires { Nests self.now.depth (F.pre self.now.thing) (F.post self.now.thing) }
+        ensures { Gives (λ x. (pred_of x.0, x.1.now)) result (reading.and_from (reading.thing_at self.now.depth) (length tokens.now) (pred_of p) tokens.now) }
+    {
+        let mut q = p;
+        let mut rest = tokens;
+        for _turn in 0..tokens.len() {
+            let Some(operand) = single::and(rest) else {
+                return Ok((q, rest));
+            };
+            let (other, after) = self.test(operand)?;
+            q = make::and(self.alloc, q, other)?;
+            rest = after;
+        }
+        Ok((q, rest))
+    }
+
+    #[tactic(auto, unfolding(sj_grammar::specs::Reading::conj_at))]
+    fn conj<'a>(&self, tokens: &'a [Token]) -> Result<(Pred, &'a [Token]), PathRefusal>
+        requires { Nests self.now.depth (F.pre self.now.thing) (F.post self.now.thing) }
+        ensures { Gives (λ x. (pred_of x.0, x.1.now)) result (reading.conj_at (reading.thing_at self.now.depth) tokens.now) }
+    {
+        let (p, rest) = self.test(tokens)?;
+        self.and_from(p, rest)
+    }
+
+    #[tactic(auto, unfolding(sj_grammar::specs::Reading::or_from))]
+    fn or_from<'a>(&self, p: Pred, tokens: &'a [Token]) -> Result<(Pred, &'a [Token]), PathRefusal>
+        requires { Nests self.now.depth (F.pre self.now.thing) (F.post self.now.thing) }
+        ensures { Gives (λ x. (pred_of x.0, x.1.now)) result (reading.or_from (reading.thing_at self.now.depth) (length tokens.now) (pred_of p) tokens.now) }
+    {
+        let mut q = p;
+        let mut rest = tokens;
+        for _turn in 0..tokens.len() {
+            let Some(operand) = single::or(rest) else {
+                return Ok((q, rest));
+            };
+            let (other, after) = self.conj(operand)?;
+            q = make::or(self.alloc, q, other)?;
+            rest = after;
+        }
+        Ok((q, rest))
+    }
+
+    #[tactic(auto, unfolding(sj_grammar::specs::Reading::pred_from))]
+    fn pred_from<'a>(
+        &self,
+        x: Thing,
+        tokens: &'a [Token],
+    ) -> Result<(Thing, &'a [Token]), PathRefusal>
+        requires { Nests self.now.depth (F.pre self.now.thing) (F.post self.now.thing) }
+        ensures { Gives (λ x. (thing_of x.0, x.1.now)) result (reading.pred_from (reading.thing_at self.now.depth) (thing_of x) tokens.now) }
+    {
+        match x {
+            Thing::Value(e) => Ok((Thing::Value(e), tokens)),
+            Thing::Test(p) => {
+                let (p, rest) = self.and_from(p, tokens)?;
+                let (p, rest) = self.or_from(p, rest)?;
+                Ok((Thing::Test(p), rest))
+            }
+        }
+    }
+
+    #[tactic(auto, unfolding(sj_grammar::specs::Reading::thing_over))]
+    fn over<'a>(&self, tokens: &'a [Token]) -> Result<(Thing, &'a [Token]), PathRefusal>
+        requires { Nests self.now.depth (F.pre self.now.thing) (F.post self.now.thing) }
+        ensures { Gives (λ x. (thing_of x.0, x.1.now)) result (reading.thing_over (reading.thing_at self.now.depth) tokens.now) }
+    {
+        let (x, rest) = self.neg(tokens)?;
+        self.pred_from(x, rest)
+    }
+}
+
+/// An expression or a predicate, with parentheses inside one another at most `depth` deep.
+pub fn thing(
+    alloc: Global,
+    depth: usize,
+    tokens: &[Token],
+) -> Result<(Thing, &[Token]), PathRefusal>
+    ensures { Gives (λ x. (thing_of x.0, x.1.now)) result (reading.thing_at depth tokens.now) }
+{
+    if depth == 0 {
+        return Err(PathRefusal::Syntax);
+    }
+    Level {
+        alloc,
+        depth: depth - 1,
+        thing,
+    }
+    .over(tokens)
+}

@@ -1,0 +1,74 @@
+//! Trees as the grammar has them, with the parts that a parsed path lacks.
+
+use sj_base::Text;
+use sj_decimal::Compare;
+use sj_grammar::{Arith, Initial, Literal, Method, Mode};
+
+#[derive(Drop)]
+pub struct Path {
+    pub mode: Mode,
+    pub expr: Expr,
+}
+
+#[cycle(raw)]
+#[derive(Drop)]
+pub enum Expr {
+    Root,
+    Var(Text),
+    Context,
+    Last,
+    Lit(Literal),
+    Access(Box<Expr>, Step),
+    Plus(Box<Expr>),
+    Minus(Box<Expr>),
+    Binary(Arith, Box<Expr>, Box<Expr>),
+}
+
+#[cycle(raw)]
+#[derive(Drop)]
+pub enum Step {
+    Member(Text),
+    AllMembers,
+    AllElements,
+    Elements(Box<Subs>),
+    Filter(Box<Pred>),
+    Method(Method),
+    Double,
+    Datetime,
+    DatetimeBy(Text),
+}
+
+#[cycle(raw)]
+#[derive(Drop)]
+pub enum Sub {
+    One(Expr),
+    Range(Expr, Expr),
+}
+
+#[cycle(raw)]
+#[derive(Drop)]
+pub enum Subs {
+    Only(Sub),
+    More(Sub, Box<Subs>),
+}
+
+#[cycle(raw)]
+#[derive(Drop)]
+pub enum Pred {
+    Compare(Compare, Expr, Expr),
+    And(Box<Pred>, Box<Pred>),
+    Or(Box<Pred>, Box<Pred>),
+    Not(Box<Pred>),
+    IsUnknown(Box<Pred>),
+    Exists(Expr),
+    StartsWith(Expr, Initial),
+    LikeRegex(Expr, Text),
+    LikeRegexBy(Expr, Text, Text),
+}
+
+/// An expression or a predicate: which of them it is shows at its end alone.
+#[derive(Drop)]
+pub enum Thing {
+    Value(Expr),
+    Test(Pred),
+}

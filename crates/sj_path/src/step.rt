@@ -1,0 +1,94 @@
+//! Accessors with no tree inside.
+
+ghost use Rattle.std.specs.Prelude.{◌≡◌, option_map};
+ghost use Rattle.sj_grammar.specs.Reading as reading;
+ghost use Rattle.sj_grammar.specs.Signs as sign;
+ghost use Rattle.sj_path.specs.Raw.{step_of};
+ghost use Rattle.sj_grammar.specs.Gives.{Gives};
+
+use crate::raw::Step;
+use crate::single;
+use sj_base::Text;
+use sj_grammar::{Method, PathRefusal};
+use sj_token::{Keyword, Token};
+use std::alloc::Global;
+
+/// The method without an argument that the word names.
+fn method(keyword: Keyword) -> Option<Step>
+    ensures { option_map step_of result ≡ sign.method_of keyword }
+{
+    match keyword {
+        Keyword::Type => Some(Step::Method(Method::TypeOf)),
+        Keyword::Size => Some(Step::Method(Method::Size)),
+        Keyword::Ceiling => Some(Step::Method(Method::Ceiling)),
+        Keyword::Floor => Some(Step::Method(Method::Floor)),
+        Keyword::Abs => Some(Step::Method(Method::Abs)),
+        Keyword::KeyValue => Some(Step::Method(Method::KeyValue)),
+        Keyword::Double => Some(Step::Double),
+        _ => None,
+    }
+}
+
+#[tactic(auto, unfolding(sj_grammar::specs::Reading::datetime_at))]
+fn datetime(alloc: Global, tokens: &[Token]) -> Result<(Step, &[Token]), PathRefusal>
+    ensures { Gives (λ x. (step_of x.0, x.1.now)) result (reading.datetime_at tokens.now) }
+{
+    match tokens {
+        [Token::Quoted(text), rest @ ..] => {
+            let rest = single::close(rest).ok_or(PathRefusal::Syntax)?;
+            Ok((Step::DatetimeBy(single::copy(alloc, text)?), rest))
+        }
+        _ => {
+            let rest = single::close(tokens).ok_or(PathRefusal::Syntax)?;
+            Ok((Step::Datetime, rest))
+        }
+    }
+}
+
+/// Behind a name and a parenthesis.
+#[tactic(auto, unfolding(sj_grammar::specs::Reading::called))]
+fn called(
+    alloc: Global,
+    keyword: Keyword,
+    tokens: &[Token],
+) -> Result<(Step, &[Token]), PathRefusal>
+    ensures { Gives (λ x. (step_of x.0, x.1.now)) result (reading.called keyword tokens.now) }
+{
+    match keyword {
+        Keyword::Datetime => datetime(alloc, tokens),
+        _ => {
+            let method = method(keyword).ok_or(PathRefusal::Syntax)?;
+            let rest = single::close(tokens).ok_or(PathRefusal::Syntax)?;
+            Ok((method, rest))
+        }
+    }
+}
+
+/// Behind a point and a name.
+#[tactic(auto, unfolding(sj_grammar::specs::Reading::named))]
+fn named<'a>(
+    alloc: Global,
+    keyword: Keyword,
+    text: &Text,
+    tokens: &'a [Token],
+) -> Result<(Step, &'a [Token]), PathRefusal>
+    ensures { Gives (λ x. (step_of x.0, x.1.now)) result (reading.named keyword text.now tokens.now) }
+{
+    match single::open(tokens) {
+        Some(rest) => called(alloc, keyword, rest),
+        None => Ok((Step::Member(single::copy(alloc, text)?), tokens)),
+    }
+}
+
+/// Behind a point.
+#[tactic(auto, unfolding(sj_grammar::specs::Reading::after_dot))]
+pub fn after_dot(alloc: Global, tokens: &[Token]) -> Result<(Step, &[Token]), PathRefusal>
+    ensures { Gives (λ x. (step_of x.0, x.1.now)) result (reading.after_dot tokens.now) }
+{
+    match tokens {
+        [Token::Star, rest @ ..] => Ok((Step::AllMembers, rest)),
+        [Token::Quoted(text), rest @ ..] => Ok((Step::Member(single::copy(alloc, text)?), rest)),
+        [Token::Word(keyword, text), rest @ ..] => named(alloc, *keyword, text, rest),
+        _ => Err(PathRefusal::Syntax),
+    }
+}

@@ -1,0 +1,80 @@
+//! Paths as trees.
+
+use sj_base::Text;
+use sj_decimal::Compare;
+use sj_grammar::{Arith, Initial, Literal, Method, Mode};
+
+/// A path of the SQL/JSON path language (ISO/IEC 9075-2, 9.46).
+#[derive(Drop)]
+pub struct Path {
+    pub mode: Mode,
+    pub expr: Expr,
+}
+
+/// An expression of a path.
+#[cycle(tree)]
+#[derive(Drop)]
+pub enum Expr {
+    /// `$`
+    Root,
+    /// `$name`
+    Var(Text),
+    /// `@`
+    Context,
+    /// `last`
+    Last,
+    Lit(Literal),
+    /// An accessor on what an expression gives.
+    Access(Box<Expr>, Step),
+    Plus(Box<Expr>),
+    Minus(Box<Expr>),
+    Binary(Arith, Box<Expr>, Box<Expr>),
+}
+
+/// An accessor.
+#[cycle(tree)]
+#[derive(Drop)]
+pub enum Step {
+    /// `.key`
+    Member(Text),
+    /// `.*`
+    AllMembers,
+    /// `[*]`
+    AllElements,
+    /// `[list]`
+    Elements(Box<Subs>),
+    /// `?(predicate)`
+    Filter(Box<Pred>),
+    /// `.method()`
+    Method(Method),
+}
+
+/// One part of a list of subscripts.
+#[cycle(tree)]
+#[derive(Drop)]
+pub enum Sub {
+    One(Expr),
+    /// `from to to`
+    Range(Expr, Expr),
+}
+
+/// A list of subscripts, which is never empty.
+#[cycle(tree)]
+#[derive(Drop)]
+pub enum Subs {
+    Only(Sub),
+    More(Sub, Box<Subs>),
+}
+
+/// A predicate of a filter.
+#[cycle(tree)]
+#[derive(Drop)]
+pub enum Pred {
+    Compare(Compare, Expr, Expr),
+    And(Box<Pred>, Box<Pred>),
+    Or(Box<Pred>, Box<Pred>),
+    Not(Box<Pred>),
+    IsUnknown(Box<Pred>),
+    Exists(Expr),
+    StartsWith(Expr, Initial),
+}
