@@ -4,7 +4,7 @@ use Rattle.std.proofs.lemmas.List.{append-nil}
 use Rattle.std.proofs.lemmas.Grind.{flat_map-append}
 use Rattle.std.specs.List.{flat_map}
 use Rattle.std.specs.Str.{bytes_eq}
-use Rattle.sj_json.specs.Tree.{Tree, null, truth, string, array, object, Items, no_items, item, Child, item_list, member_list, children, numbered, below}
+use Rattle.sj_json.specs.Tree.{Tree, null, truth, string, number, array, object, Items, no_items, item, Child, item_list, member_list, children, numbered, below}
 use Rattle.sj_doc.specs.Kinds.{kind_of}
 use Rattle.sj_doc.specs.declared.node.Kind.TheVariants as k
 use Rattle.sqljson.specs.Meaning.{has_name, named, members_of, elements, spread, member_items, items_from, is_some_item, has_item}
@@ -86,6 +86,7 @@ pub scalar_lacks : (names : List (List ℕ)) (name : List ℕ) (t : Tree) → ki
 scalar_lacks names name null o a = has_item-none names
 scalar_lacks names name (truth b) o a = has_item-none names
 scalar_lacks names name (string s) o a = has_item-none names
+scalar_lacks names name (number v) o a = has_item-none names
 scalar_lacks names name (array ts) o a = absurd (a refl)
 scalar_lacks names name (object ms) o a = absurd (o refl)
 
@@ -93,6 +94,7 @@ pub object_item : (names : List (List ℕ)) (name : List ℕ) (t : Tree) → kin
 object_item names name null e = cc
 object_item names name (truth b) e = cc
 object_item names name (string s) e = cc
+object_item names name (number v) e = cc
 object_item names name (array ts) e = cc
 object_item names name (object ms) e = ap (has_item names) (append-nil (named name (member_list ms)))
 
@@ -100,6 +102,7 @@ pub array_item : (names : List (List ℕ)) (name : List ℕ) (t : Tree) → kind
 array_item names name null e = cc
 array_item names name (truth b) e = cc
 array_item names name (string s) e = cc
+array_item names name (number v) e = cc
 array_item names name (object ms) e = cc
 array_item names name (array ts) e = ap (λ (l : List Tree). has_item names (flat_map (members_of name) l)) (append-nil (elements ts) ∙ elements-is ts)
 
@@ -107,6 +110,7 @@ pub object_members : (name : List ℕ) (t : Tree) → kind_of t ≡ k.Object →
 object_members name null e = cc
 object_members name (truth b) e = cc
 object_members name (string s) e = cc
+object_members name (number v) e = cc
 object_members name (array ts) e = cc
 object_members name (object ms) e = refl
 
@@ -114,6 +118,7 @@ pub no_members : (name : List ℕ) (t : Tree) → kind_of t ≢ k.Object → mem
 no_members name null e = refl
 no_members name (truth b) e = refl
 no_members name (string s) e = refl
+no_members name (number v) e = refl
 no_members name (array ts) e = refl
 no_members name (object ms) e = absurd (e refl)
 

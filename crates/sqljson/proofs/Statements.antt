@@ -1,18 +1,24 @@
 -- The statements of a file, one after the other.
-use Rattle.std.proofs.Common.{◌≡◌, ℕ, ◌+◌, Bool, true, false, cond, List, [], ◌∷◌, ◌++◌, Some, None, Result, Ok, Err, refl, sym, ◌∙◌, ap, append_assoc}
+use Rattle.std.proofs.Common.{◌≡◌, ℕ, ◌+◌, Bool, true, false, cond, List, [], ◌∷◌, ◌++◌, Option, Some, None, option_and_then, Result, Ok, Err, refl, sym, ◌∙◌, ap, append_assoc}
 use Rattle.std.specs.Str.{IsUtf8, is_utf8}
 use Rattle.std.proofs.lemmas.List.{append-nil}
 use Rattle.std.proofs.lemmas.Str.{IsUtf8-from_is_utf8, is_utf8-from_IsUtf8}
-use Rattle.sj_path.specs.Grammar.{path_names}
+use Rattle.sj_grammar.specs.declared.refusal.PathRefusal.{PathRefusal}
+use Rattle.sj_grammar.specs.declared.refusal.PathRefusal.TheVariants as r
+use Rattle.sj_grammar.specs.Tree.{Path}
+use Rattle.sj_grammar.specs.Answers.{Accepts, Refuses}
+use Rattle.sj_grammar.specs.Accepted.{accepted_path}
+use Rattle.sj_grammar.proofs.Acceptance.{accepted_is, refused_is}
 use Rattle.sqljson.specs.declared.token.Fixed.TheVariants.{Select, JsonExists, Document, LeftParenthesis, RightParenthesis, Comma, Semicolon}
 use Rattle.sqljson.specs.declared.status.FileKind.{FileKind}
 use Rattle.sqljson.specs.declared.status.FileKind.TheVariants.{Syntax, PathSyntax}
 use Rattle.sqljson.specs.declared.statement.FileRefusal.{FileRefusal}
 use Rattle.sqljson.specs.declared.statement.FileRefusal.TheVariants.{Refused, Memory}
 use Rattle.sqljson.specs.Refusals.{IsRefusal}
-use Rattle.sqljson.specs.Starts.{IsNoPath}
+use Rattle.sqljson.specs.Starts.{IsNoPath, refusal_of}
 use Rattle.sqljson.specs.Tokens.{Token, fixed, quoted}
 use Rattle.sqljson.specs.Meaning.{MemberNames}
+use Rattle.sqljson.specs.Paths.{tree_names, path_names}
 use Rattle.sqljson.specs.Statements.{statement_before, names_in, before_others, verdict_from}
 
 -- ---- what a text begins with
@@ -35,9 +41,6 @@ no_text path not_text = go (is_utf8 path) refl
     go : (b : Bool) → is_utf8 path ≡ b → cond b (path_names path) None ≡ None
     go true e = absurd (not_text (IsUtf8-from_is_utf8 path e))
     go false e = refl
-
-pub text_names : (path text : List ℕ) (names : MemberNames) → IsUtf8 path → text ≡ path → path_names text ≡ Some names → names_in path ≡ Some names
-text_names path text names is_text same read = ap (λ b. cond b (path_names path) None) (is_utf8-from_IsUtf8 path is_text) ∙ ap path_names (sym same) ∙ read
 
 -- ---- the statements so far, before those to come
 
@@ -83,3 +86,25 @@ pub path_refused : (start : Result (List MemberNames) (ℕ × FileKind)) (front 
 path_refused start front k ts rest path (Refused number kind) so is no_path =
     path_is_refused start front k ts rest path so is no_path.0 ∙ ap (λ (n : ℕ). Err (n, PathSyntax)) (sym no_path.1) ∙ ap (λ (x : FileKind). Err (number, x)) (sym no_path.2)
 path_refused start front k ts rest path Memory so is no_path = tt
+
+-- a refused path text has no names, and neither has one whose path has more than members
+refused_names : (path text : List ℕ) (e : PathRefusal) → IsUtf8 path → text ≡ path → (e ≡ r.Memory → ⊥) → Refuses text e → names_in path ≡ None
+unfolding path_names
+refused_names path text e is_text same other refused =
+    ap (λ b. cond b (path_names path) None) (is_utf8-from_IsUtf8 path is_text)
+    ∙ ap (λ (o : Option Path). option_and_then tree_names o) (ap accepted_path (sym same) ∙ refused_is text e other refused)
+
+pub no_path : (path text : List ℕ) (k : ℕ) (e : PathRefusal) → IsUtf8 path → text ≡ path → Refuses text e → IsNoPath path k (refusal_of e k)
+no_path path text k r.Memory is_text same refused = tt
+no_path path text k r.Lex is_text same refused = (refused_names path text r.Lex is_text same (λ q. cc) refused, refl, refl)
+no_path path text k r.TooDeep is_text same refused = (refused_names path text r.TooDeep is_text same (λ q. cc) refused, refl, refl)
+no_path path text k r.Syntax is_text same refused = (refused_names path text r.Syntax is_text same (λ q. cc) refused, refl, refl)
+no_path path text k r.Misplaced is_text same refused = (refused_names path text r.Misplaced is_text same (λ q. cc) refused, refl, refl)
+no_path path text k (r.Unsupported name) is_text same refused = (refused_names path text (r.Unsupported name) is_text same (λ q. cc) refused, refl, refl)
+
+pub accepted_names : (path text : List ℕ) (p : Path) (o : Option MemberNames) → IsUtf8 path → text ≡ path → Accepts text p → o ≡ tree_names p → names_in path ≡ o
+unfolding path_names
+accepted_names path text p o is_text same accepted names =
+    ap (λ b. cond b (path_names path) None) (is_utf8-from_IsUtf8 path is_text)
+    ∙ ap (λ (q : Option Path). option_and_then tree_names q) (ap accepted_path (sym same) ∙ accepted_is text p accepted)
+    ∙ sym names

@@ -2,7 +2,7 @@
 use Rattle.std.specs.Prelude.{ℕ, List, [], ◌∷◌, ◌++◌, Bool, true, false, not, if◌then◌else◌, Option, None, Some}
 use Rattle.std.specs.List.{flat_map}
 use Rattle.std.specs.Str.{bytes_eq}
-use Rattle.sj_json.specs.Tree.{Tree, null, truth, string, array, object, Items, no_items, item, Child, member_list}
+use Rattle.sj_json.specs.Tree.{Tree, null, truth, string, number, array, object, Items, no_items, item, Child, member_list}
 
 -- a path of members is seen as their names, from the root on
 abbrev pub MemberNames : Type 0
@@ -23,6 +23,7 @@ abbrev pub members_of : List ℕ → Tree → List Tree
 members_of name null = []
 members_of name (truth b) = []
 members_of name (string s) = []
+members_of name (number v) = []
 members_of name (array ts) = []
 members_of name (object ms) = named name (member_list ms)
 
@@ -35,6 +36,7 @@ abbrev pub spread : Tree → List Tree
 spread null = null ∷ []
 spread (truth b) = truth b ∷ []
 spread (string s) = string s ∷ []
+spread (number v) = number v ∷ []
 spread (array ts) = elements ts
 spread (object ms) = object ms ∷ []
 

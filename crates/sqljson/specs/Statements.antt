@@ -1,11 +1,11 @@
 -- Which files hold statements, and what each statement is.
 use Rattle.std.specs.Prelude.{ℕ, ◌+◌, List, [], ◌∷◌, Option, None, Some, Result, Ok, Err, if◌then◌else◌}
 use Rattle.std.specs.Str.{is_utf8}
-use Rattle.sj_path.specs.Grammar.{path_names}
 use Rattle.sqljson.specs.declared.token.Fixed.TheVariants.{Select, JsonExists, Document, LeftParenthesis, RightParenthesis, Comma, Semicolon}
 use Rattle.sqljson.specs.declared.status.FileKind.{FileKind}
 use Rattle.sqljson.specs.declared.status.FileKind.TheVariants.{Syntax, PathSyntax}
 use Rattle.sqljson.specs.Meaning.{MemberNames}
+use Rattle.sqljson.specs.Paths.{path_names}
 use Rattle.sqljson.specs.Tokens.{Token, fixed, quoted}
 
 -- THE FORM of a statement, with other tokens behind it

@@ -3,9 +3,10 @@ ghost use Rattle.std.specs.Prelude.{◌≡◌, ◌<◌, ◌≤◌, ◌^◌, ◌�
 ghost use Rattle.sqljson.specs.Tokens.{Token as Seen, fixed, quoted, tokens};
 ghost use Rattle.sqljson.specs.Statements.{statement_before, names_in};
 ghost use Rattle.sqljson.specs.File.{max_file, verdict};
-ghost use Rattle.sqljson.specs.Starts.{IsStart, IsNoPath};
+ghost use Rattle.sqljson.specs.Starts.{IsStart, IsNoPath, refusal_of};
 ghost use Rattle.sqljson.specs.Refusals.{IsRefusal};
 
+use crate::members::member_names;
 use crate::statement::{FileRefusal, Statement};
 use crate::status::FileKind;
 use crate::token::{Fixed, Token, next_token};
@@ -81,6 +82,16 @@ fn front(text: &[u8]) -> Start<'_>
     }
 }
 
+/// How a file is refused where the path of the statement of this number is refused so.
+fn path_refusal(refusal: PathRefusal, number: u32) -> FileRefusal
+    ensures { result ≡ refusal_of refusal number }
+{
+    match refusal {
+        PathRefusal::Memory => FileRefusal::Memory,
+        _ => FileRefusal::Refused(number, FileKind::PathSyntax),
+    }
+}
+
 /// The member names of the path text of the statement of this number.
 fn path_names(alloc: Global, path: &[u8], number: u32) -> Result<Vec<Text>, FileRefusal>
     ensures ok { IfOk result (λ names. names_in path.now ≡ Some names.items) }
@@ -91,13 +102,11 @@ fn path_names(alloc: Global, path: &[u8], number: u32) -> Result<Vec<Text>, File
     };
     let path = match parse_path(alloc, text) {
         Ok(path) => path,
-        Err(PathRefusal::Syntax) => {
-            return Err(FileRefusal::Refused(number, FileKind::PathSyntax));
-        }
-        Err(PathRefusal::Memory) => return Err(FileRefusal::Memory),
+        Err(refusal) => return Err(path_refusal(refusal, number)),
     };
-    match path.into_names(alloc) {
-        Ok(names) => Ok(names),
+    match member_names(alloc, path) {
+        Ok(Some(names)) => Ok(names),
+        Ok(None) => Err(FileRefusal::Refused(number, FileKind::PathSyntax)),
         Err(_) => Err(FileRefusal::Memory),
     }
 }
@@ -200,7 +209,11 @@ mod tests {
                 FileKind::Syntax,
             ),
             (b"SELECT JSON_EXISTS(doc, 'lax $');;", 2, FileKind::Syntax),
-            (b"SELECT JSON_EXISTS(doc, '$');", 1, FileKind::PathSyntax),
+            (
+                b"SELECT JSON_EXISTS(doc, 'strict $');",
+                1,
+                FileKind::PathSyntax,
+            ),
             (b"SELECT JSON_EXISTS(doc, '');", 1, FileKind::PathSyntax),
             (
                 b"SELECT JSON_EXISTS(doc, 'lax $.\xff');",

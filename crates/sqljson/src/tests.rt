@@ -90,10 +90,10 @@ fn rows_in_any_cut(rt: HostRuntime) -> Result<(), Fail> {
         ),
         (
             AB,
-            b"{\"a\":[{\"b\":true},[{\"b\":true}]]}",
+            b"{\"a\":[{\"b\":1},[{\"b\":2}],{\"c\":3}]}",
             b"1\t1\tR\tTRUE\n",
         ),
-        (AB, b"{\"a\":[[{\"b\":true}]]}", b"1\t1\tR\tFALSE\n"),
+        (AB, b"{\"a\":[[{\"b\":2}]]}", b"1\t1\tR\tFALSE\n"),
         (AB, b"[{\"a\":{\"b\":{}}}]", b"1\t1\tR\tTRUE\n"),
         (
             b"SELECT JSON_EXISTS(doc, 'lax $.s');",
