@@ -1,0 +1,75 @@
+-- Trees compare as what is looked at of them.
+use Rattle.std.proofs.Common.{◌≡◌, ℕ, List, refl, sym, ap₂}
+use Rattle.sj_decimal.specs.declared.comparing.Compare.{Compare}
+use Rattle.sj_json.specs.Tree.{exact, wide, Tree, null, truth, string, number, Items, array, Members, object}
+use Rattle.sj_item.specs.declared.comparison.Comparand.{Comparand}
+use Rattle.sj_item.specs.declared.comparison.Comparand.TheVariants.{Null, Num, Text, Bool as Logical, Other}
+use Rattle.sj_item.specs.declared.truth.Truth.{Truth}
+use Rattle.sj_item.specs.declared.truth.Truth.TheVariants.{Unknown}
+use Rattle.sj_item.specs.Held.{exact_value}
+use Rattle.sj_item.specs.Pairs.{null_and_other, trees_compare, tree_starts_with}
+use Rattle.sj_item.specs.Comparands.{IsOther, ComparesAs, comparands_compare, comparand_starts_with}
+
+-- a tree that compares with nothing but null has one of three forms
+by_form : (P : Tree → Type 0) → ((s : List ℕ) → P (number (wide s))) → ((ts : Items) → P (array ts)) → ((ms : Members) → P (object ms)) → (t : Tree) → IsOther t → P t
+by_form P w a o null h = absurd h
+by_form P w a o (truth b) h = absurd h
+by_form P w a o (string s) h = absurd h
+by_form P w a o (number (exact d)) h = absurd h
+by_form P w a o (number (wide s)) h = w s
+by_form P w a o (array ts) h = a ts
+by_form P w a o (object ms) h = o ms
+
+-- what a comparison says, where the trees are known
+module _ (op : Compare) where
+  abbrev Says : Truth → Tree → Tree → Type 0
+  Says r t u = r ≡ trees_compare op t u
+
+  pub compares : (t u : Tree) (a b : Comparand) → ComparesAs t a → ComparesAs u b → comparands_compare op a b ≡ trees_compare op t u
+  unfolding trees_compare
+  compares t u Null Null e f = ap₂ (λ x y. trees_compare op x y) (sym e) (sym f)
+  compares t u Null (Num n) e f = ap₂ (λ x y. trees_compare op x y) (sym e) (sym f)
+  compares t u Null (Text s) e f = ap₂ (λ x y. trees_compare op x y) (sym e) (sym f)
+  compares t u Null (Logical b) e f = ap₂ (λ x y. trees_compare op x y) (sym e) (sym f)
+  compares t u Null Other e f = rw e (by_form (λ x. null_and_other op ≡ trees_compare op null x) (λ s. refl) (λ ts. refl) (λ ms. refl) u f)
+  compares t u (Num n) Null e f = ap₂ (λ x y. trees_compare op x y) (sym e) (sym f)
+  compares t u (Text s) Null e f = ap₂ (λ x y. trees_compare op x y) (sym e) (sym f)
+  compares t u (Logical b) Null e f = ap₂ (λ x y. trees_compare op x y) (sym e) (sym f)
+  compares t u Other Null e f = rw f (by_form (λ x. null_and_other op ≡ trees_compare op x null) (λ s. refl) (λ ts. refl) (λ ms. refl) t e)
+  compares t u (Num m) (Num n) e f = ap₂ (λ x y. trees_compare op x y) (sym e) (sym f)
+  compares t u (Num m) (Text s) e f = ap₂ (λ x y. trees_compare op x y) (sym e) (sym f)
+  compares t u (Num m) (Logical b) e f = ap₂ (λ x y. trees_compare op x y) (sym e) (sym f)
+  compares t u (Num m) Other e f = rw e (by_form (λ x. Unknown ≡ trees_compare op (number (exact (exact_value m))) x) (λ s. refl) (λ ts. refl) (λ ms. refl) u f)
+  compares t u (Text s) (Num n) e f = ap₂ (λ x y. trees_compare op x y) (sym e) (sym f)
+  compares t u (Text s) (Text r) e f = ap₂ (λ x y. trees_compare op x y) (sym e) (sym f)
+  compares t u (Text s) (Logical b) e f = ap₂ (λ x y. trees_compare op x y) (sym e) (sym f)
+  compares t u (Text s) Other e f = rw e (by_form (λ x. Unknown ≡ trees_compare op (string s.now) x) (λ s. refl) (λ ts. refl) (λ ms. refl) u f)
+  compares t u (Logical b) (Num n) e f = ap₂ (λ x y. trees_compare op x y) (sym e) (sym f)
+  compares t u (Logical b) (Text s) e f = ap₂ (λ x y. trees_compare op x y) (sym e) (sym f)
+  compares t u (Logical b) (Logical c) e f = ap₂ (λ x y. trees_compare op x y) (sym e) (sym f)
+  compares t u (Logical b) Other e f = rw e (by_form (λ x. Unknown ≡ trees_compare op (truth b) x) (λ s. refl) (λ ts. refl) (λ ms. refl) u f)
+  compares t u Other (Num n) e f = rw f (by_form (λ x. Unknown ≡ trees_compare op x (number (exact (exact_value n)))) (λ s. refl) (λ ts. refl) (λ ms. refl) t e)
+  compares t u Other (Text s) e f = rw f (by_form (λ x. Unknown ≡ trees_compare op x (string s.now)) (λ s. refl) (λ ts. refl) (λ ms. refl) t e)
+  compares t u Other (Logical b) e f = rw f (by_form (λ x. Unknown ≡ trees_compare op x (truth b)) (λ s. refl) (λ ts. refl) (λ ms. refl) t e)
+  compares t u Other Other e f =
+      by_form (λ x. Unknown ≡ trees_compare op x u)
+      (λ s. by_form (λ y. Unknown ≡ trees_compare op (number (wide s)) y) (λ r. refl) (λ ts. refl) (λ ms. refl) u f)
+      (λ us. by_form (λ y. Unknown ≡ trees_compare op (array us) y) (λ r. refl) (λ ts. refl) (λ ms. refl) u f)
+      (λ ns. by_form (λ y. Unknown ≡ trees_compare op (object ns) y) (λ r. refl) (λ ts. refl) (λ ms. refl) u f)
+      t e
+
+-- what is no string starts with nothing, and nothing starts with it
+no_start : (t : Tree) (a : Comparand) → ComparesAs t a → (u : Tree) (b : Comparand) → ComparesAs u b → comparand_starts_with a b ≡ tree_starts_with t u
+unfolding tree_starts_with
+no_start t Null e u b f = rw e refl
+no_start t (Num n) e u b f = rw e refl
+no_start t (Logical x) e u b f = rw e refl
+no_start t Other e u b f = by_form (λ x. Unknown ≡ tree_starts_with x u) (λ s. refl) (λ ts. refl) (λ ms. refl) t e
+no_start t (Text s) e u Null f = rw (e, f) refl
+no_start t (Text s) e u (Num n) f = rw (e, f) refl
+no_start t (Text s) e u (Logical x) f = rw (e, f) refl
+no_start t (Text s) e u (Text r) f = rw (e, f) refl
+no_start t (Text s) e u Other f = rw e (by_form (λ x. Unknown ≡ tree_starts_with (string s.now) x) (λ s. refl) (λ ts. refl) (λ ms. refl) u f)
+
+pub starts : (t u : Tree) (a b : Comparand) → ComparesAs t a → ComparesAs u b → comparand_starts_with a b ≡ tree_starts_with t u
+starts t u a b e f = no_start t a e u b f

@@ -1,0 +1,2 @@
+pub mod CodePoints
+pub mod Comparisons

@@ -1,0 +1,12 @@
+-- What an item holds in itself.
+use Rattle.std.specs.Prelude.{ℕ, List, take, ℤ}
+use Rattle.sj_item.specs.declared.held.Exact.{Exact}
+use Rattle.sj_item.specs.declared.held.ShortText.{ShortText}
+
+-- the decimal
+abbrev pub exact_value : Exact → ℤ × ℕ
+exact_value n = (n.coefficient, n.scale)
+
+-- the text
+abbrev pub short_text : ShortText → List ℕ
+short_text t = take t.len t.bytes

@@ -1,0 +1,141 @@
+// The comparison of two items.
+ghost use Rattle.std.specs.Prelude.{◌≡◌};
+ghost use Rattle.sj_doc.specs.Listed.{node_tree};
+ghost use Rattle.sj_item.specs.Truths.{truth_of};
+ghost use Rattle.sj_item.specs.Orders.{holds};
+ghost use Rattle.sj_item.specs.Items.{item_value, item_tree};
+ghost use Rattle.sj_item.specs.Pairs.{null_and_other, items_compare, item_starts_with};
+ghost use Rattle.sj_item.specs.Comparands.{ComparesAs, comparands_compare, comparand_starts_with};
+
+use crate::held::Exact;
+use crate::item::Item;
+use crate::texts::{order_of_texts, text_begins_with};
+use crate::truth::Truth;
+use sj_decimal::Compare;
+use sj_doc::{Kind, NodeRef, Num};
+use std::cmp::Ordering;
+
+/// Compares two items (ISO/IEC 9075-2, the comparison predicate of the path language).
+///
+/// Null equals null, and is not equal to anything else. Two exact numbers compare by value, and two strings by
+/// their code points. Of the truth values false is below true. Any other pair is Unknown: each of two kinds,
+/// and each with a number that is not exact, an array or an object.
+pub fn compare<'d>(op: Compare, a: Item<'d>, b: Item<'d>) -> Truth
+    ensures { result ≡ items_compare op (item_value a.entry) (item_value b.entry) }
+{
+    compare_as(op, as_comparand(&a), as_comparand(&b))
+}
+
+/// Whether the string `a` starts with the string `b`, by code points. Any other pair is Unknown.
+pub fn starts_with<'d>(a: Item<'d>, b: Item<'d>) -> Truth
+    ensures { result ≡ item_starts_with (item_value a.entry) (item_value b.entry) }
+{
+    starts_with_as(as_comparand(&a), as_comparand(&b))
+}
+
+// What a comparison looks at of an item.
+#[derive(Clone, Copy)]
+enum Comparand<'a> {
+    Null,
+    Num(Exact),
+    Text(&'a str),
+    Bool(bool),
+    // a number that is not exact, an array or an object
+    Other,
+}
+
+fn as_comparand<'a>(item: &'a Item<'_>) -> Comparand<'a>
+    ensures { ComparesAs (item_tree (item_value item.now)) result }
+{
+    match item {
+        Item::Node(node) => node_comparand(*node),
+        Item::Num(number) => Comparand::Num(*number),
+        Item::Text(text) => Comparand::Text(text),
+        Item::Short(text) => Comparand::Text(text.as_str()),
+        Item::Bool(truth) => Comparand::Bool(*truth),
+        Item::Null => Comparand::Null,
+        Item::Pair(_) => Comparand::Other,
+    }
+}
+
+fn node_comparand(node: NodeRef<'_>) -> Comparand<'_>
+    ensures { ComparesAs (node_tree node.entry) result }
+{
+    match node.kind() {
+        Kind::Null => Comparand::Null,
+        Kind::Truth => Comparand::Bool(node.truth()),
+        Kind::String => Comparand::Text(node.text()),
+        Kind::Number => match node.number() {
+            Num::Exact(number) => Comparand::Num(Exact::new(number)),
+            Num::Wide(_spelling) => Comparand::Other,
+        },
+        Kind::Array | Kind::Object => Comparand::Other,
+    }
+}
+
+fn compare_as(op: Compare, left: Comparand<'_>, right: Comparand<'_>) -> Truth
+    ensures { result ≡ comparands_compare op left.entry right.entry }
+{
+    match left {
+        Comparand::Null => match right {
+            Comparand::Null => decided(op, Ordering::Equal),
+            _ => against_null(op),
+        },
+        Comparand::Num(x) => match right {
+            Comparand::Null => against_null(op),
+            Comparand::Num(y) => decided(op, x.value().cmp(y.value())),
+            _ => Truth::Unknown,
+        },
+        Comparand::Text(x) => match right {
+            Comparand::Null => against_null(op),
+            Comparand::Text(y) => decided(op, order_of_texts(x, y)),
+            _ => Truth::Unknown,
+        },
+        Comparand::Bool(x) => match right {
+            Comparand::Null => against_null(op),
+            Comparand::Bool(y) => decided(op, x.cmp(&y)),
+            _ => Truth::Unknown,
+        },
+        Comparand::Other => match right {
+            Comparand::Null => against_null(op),
+            _ => Truth::Unknown,
+        },
+    }
+}
+
+fn starts_with_as(text: Comparand<'_>, start: Comparand<'_>) -> Truth
+    ensures { result ≡ comparand_starts_with text.entry start.entry }
+{
+    match text {
+        Comparand::Text(text) => match start {
+            Comparand::Text(start) => Truth::from_bool(text_begins_with(text, start)),
+            _ => Truth::Unknown,
+        },
+        _ => Truth::Unknown,
+    }
+}
+
+// The comparison of two values that stand in this order.
+fn decided(op: Compare, order: Ordering) -> Truth
+    ensures { result ≡ truth_of (holds op order) }
+{
+    let holds = match op {
+        Compare::Eq => order.is_eq(),
+        Compare::Ne => order.is_ne(),
+        Compare::Lt => order.is_lt(),
+        Compare::Le => order.is_le(),
+        Compare::Gt => order.is_gt(),
+        Compare::Ge => order.is_ge(),
+    };
+    Truth::from_bool(holds)
+}
+
+// The comparison of null with something else.
+fn against_null(op: Compare) -> Truth
+    ensures { result ≡ null_and_other op }
+{
+    match op {
+        Compare::Ne => Truth::True,
+        _ => Truth::False,
+    }
+}

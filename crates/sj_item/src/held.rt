@@ -1,0 +1,69 @@
+// What an item holds in itself.
+ghost use Rattle.std.specs.Prelude.{◌≡◌, ◌≤◌, length, take, IsUtf8};
+ghost use Rattle.sj_decimal.specs.Normal.{IsDecimal};
+
+use sj_decimal::Decimal;
+
+/// An exact decimal, as an item holds it. Contracts see the decimal, `exact_value`.
+#[derive(Clone, Copy)]
+pub struct Exact {
+    coefficient: i128,
+    scale: u32,
+    ghost exact: { IsDecimal (coefficient, scale) },
+}
+
+impl Exact {
+    ghost use Rattle.sj_item.specs.Held.{exact_value};
+
+    /// Holds the decimal.
+    pub fn new(value: Decimal) -> Exact
+        ensures { exact_value result ≡ value }
+    {
+        let (coefficient, scale) = value.parts();
+        Exact { coefficient, scale }
+    }
+
+    /// The decimal.
+    pub fn value(self) -> Decimal
+        ensures { result ≡ exact_value self }
+    {
+        match Decimal::from_parts(self.coefficient, self.scale) {
+            Some(value) => value,
+            None => unreachable!(),
+        }
+    }
+}
+
+/// A text of at most 48 bytes, as an item holds it. Contracts see its bytes, `short_text`, which are always UTF-8.
+#[derive(Clone, Copy)]
+pub struct ShortText {
+    bytes: [u8; ShortText::MAX_LEN],
+    len: usize,
+    ghost fits: { len ≤ 48 },
+    ghost text: { ∥ IsUtf8 (take len bytes) ∥₁ },
+}
+
+impl ShortText {
+    ghost use Rattle.sj_item.specs.Held.{short_text};
+
+    /// The greatest length, in bytes.
+    pub const MAX_LEN: usize = 48;
+
+    /// Holds a copy of the text.
+    pub fn new(text: &str) -> ShortText
+        requires { length text.now ≤ 48 }
+        ensures { short_text result ≡ text.now }
+    {
+        let mut bytes = [0; ShortText::MAX_LEN];
+        let len = text.len();
+        bytes[..len].copy_from_slice(text.as_bytes());
+        ShortText { bytes, len }
+    }
+
+    /// Lends the text.
+    pub fn as_str(&self) -> &str
+        ensures { result.now ≡ short_text self.now }
+    {
+        unsafe { std::str::from_utf8_unchecked(&self.bytes[..self.len]) }
+    }
+}

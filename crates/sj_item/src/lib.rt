@@ -1,0 +1,24 @@
+//! The items that a path gives, and what there is to say of one or two of them: kind, size and comparison.
+//!
+//! It stands on `sj_doc` for the nodes of a document, on `sj_decimal` for numbers and the words of comparison, and
+//! on `sj_base` for states.
+//!
+//! Every contract sees an [`Item`] as its `item_value`, in which there are no pointers: a node by its number and the tree
+//! that begins there, a made value by itself (`specs/Items.antt`). `item_tree` is the tree that an item stands for,
+//! and `nodes_below` counts the nodes of the document below it. Kind, size and comparison depend on the tree alone,
+//! so a made number compares as the same number in a document does. An item is copied without memory.
+#![tactic(auto)]
+
+mod comparison;
+mod held;
+mod item;
+#[cfg(test)]
+mod tests;
+mod texts;
+mod truth;
+
+pub use comparison::{compare, starts_with};
+pub use held::{Exact, ShortText};
+pub use item::{Item, Pair, PairValue, Pull, kind, size};
+pub use sj_decimal::Compare;
+pub use truth::Truth;
