@@ -1,0 +1,5 @@
+pub mod Appends
+pub mod PlainRuns
+pub mod Rendered
+pub mod Printings
+pub mod PairTexts

@@ -1,0 +1,137 @@
+// The text of a node, by its tour.
+ghost use Rattle.std.specs.Prelude.{◌≡◌, ◌++◌, ◌≤◌, OnOk, OnErr, option_map};
+ghost use Rattle.sj_base.specs.Outside.{raised};
+ghost use Rattle.sj_json.specs.Tree.{below};
+ghost use Rattle.sj_json.specs.Printing.{printed};
+ghost use Rattle.sj_doc.specs.Listed.{node_tree};
+ghost use Rattle.sj_doc.specs.Visits.{visited};
+ghost use Rattle.sj_text.specs.Prefixes.{AppendsPrefix};
+ghost use Rattle.sj_text.specs.Rendering.{IsScalar, IsVisit, key_printed, lead, opening, closing, visit_printed, place_after};
+
+use crate::scalar::{number_text, truth_text};
+use crate::string::string_text;
+use sj_base::{Bytes, Ledger, Memory, Steps};
+use sj_doc::{Kind, NodeRef, Visit};
+
+// Where a value stands in what holds it.
+#[derive(Clone, Copy)]
+enum Place {
+    // before any other
+    Start,
+    // behind another one, and so behind a comma
+    AfterValue,
+}
+
+impl Place {
+    // The place of what comes after a visit.
+    fn after(visit: Visit<'_>) -> Place
+        ensures { result ≡ place_after (visited visit.entry) }
+    {
+        match visit {
+            Visit::Enter(_) => Place::Start,
+            Visit::Leave(_) | Visit::Leaf(_) => Place::AfterValue,
+        }
+    }
+}
+
+// Appends the text of a node. It visits the nodes one by one, without recursion and without memory of its own.
+pub(crate) fn node_text<L: Ledger>(
+    node: NodeRef<'_>,
+    out: &mut Bytes,
+    steps: &mut Steps<L>,
+) -> Result<(), Memory>
+    ensures ok { OnOk result (out.new ≡ out.old ++ printed (node_tree node.entry)) }
+    ensures err { OnErr result (AppendsPrefix out.old (printed (node_tree node.entry)) out.new) }
+    ensures steps { OnOk result (steps.new ≡ raised steps.old (below (node_tree node.entry))) }
+    ensures at_most { OnErr result (steps.new ≤ raised steps.old (below (node_tree node.entry))) }
+{
+    let mut tour = node.tour();
+    let mut place = Place::Start;
+    while let Some(visit) = tour.next(steps) {
+        visit_text(place, visit, out)?;
+        place = Place::after(visit);
+    }
+    Ok(())
+}
+
+// Appends what one visit brings.
+fn visit_text(place: Place, visit: Visit<'_>, out: &mut Bytes) -> Result<(), Memory>
+    requires { IsVisit (visited visit) }
+    ensures ok { OnOk result (out.new ≡ out.old ++ visit_printed place (visited visit.entry)) }
+    ensures err { OnErr result (AppendsPrefix out.old (visit_printed place (visited visit.entry)) out.new) }
+{
+    match visit {
+        Visit::Enter(member) => {
+            lead_text(place, member.key, out)?;
+            opening_text(member.node.kind(), out)
+        }
+        Visit::Leave(kind) => closing_text(kind, out),
+        Visit::Leaf(member) => {
+            lead_text(place, member.key, out)?;
+            scalar_text(member.node, out)
+        }
+    }
+}
+
+// Appends what comes before a value: a comma behind another value, and its key where it has one.
+fn lead_text(place: Place, key: Option<&str>, out: &mut Bytes) -> Result<(), Memory>
+    ensures ok { OnOk result (out.new ≡ out.old ++ lead place (option_map (λ s. s.now) key.entry)) }
+    ensures err { OnErr result (AppendsPrefix out.old (lead place (option_map (λ s. s.now) key.entry)) out.new) }
+{
+    match place {
+        Place::Start => key_text(key, out),
+        Place::AfterValue => {
+            out.push(b",")?;
+            key_text(key, out)
+        }
+    }
+}
+
+// Appends a key with its colon, where there is one.
+fn key_text(key: Option<&str>, out: &mut Bytes) -> Result<(), Memory>
+    ensures ok { OnOk result (out.new ≡ out.old ++ key_printed (option_map (λ s. s.now) key.entry)) }
+    ensures err { OnErr result (AppendsPrefix out.old (key_printed (option_map (λ s. s.now) key.entry)) out.new) }
+{
+    match key {
+        None => Ok(()),
+        Some(key) => {
+            string_text(key, out)?;
+            out.push(b":")
+        }
+    }
+}
+
+fn opening_text(kind: Kind, out: &mut Bytes) -> Result<(), Memory>
+    ensures ok { OnOk result (out.new ≡ out.old ++ opening kind) }
+    ensures err { OnErr result (out.new ≡ out.old) }
+{
+    match kind {
+        Kind::Array => out.push(b"["),
+        _ => out.push(b"{"),
+    }
+}
+
+fn closing_text(kind: Kind, out: &mut Bytes) -> Result<(), Memory>
+    ensures ok { OnOk result (out.new ≡ out.old ++ closing kind) }
+    ensures err { OnErr result (out.new ≡ out.old) }
+{
+    match kind {
+        Kind::Array => out.push(b"]"),
+        _ => out.push(b"}"),
+    }
+}
+
+// Appends the text of a node that is no array and no object.
+fn scalar_text(node: NodeRef<'_>, out: &mut Bytes) -> Result<(), Memory>
+    requires { IsScalar (node_tree node) }
+    ensures ok { OnOk result (out.new ≡ out.old ++ printed (node_tree node.entry)) }
+    ensures err { OnErr result (AppendsPrefix out.old (printed (node_tree node.entry)) out.new) }
+{
+    match node.kind() {
+        Kind::Null => out.push(b"null"),
+        Kind::Truth => truth_text(node.truth(), out),
+        Kind::String => string_text(node.text(), out),
+        Kind::Number => number_text(node, out),
+        Kind::Array | Kind::Object => unreachable!(),
+    }
+}

@@ -1,0 +1,51 @@
+// The texts of numbers and truth values.
+ghost use Rattle.std.specs.Prelude.{◌≡◌, ◌++◌, OnOk, OnErr};
+ghost use Rattle.sj_json.specs.Tree.{truth};
+ghost use Rattle.sj_json.specs.Printing.{printed};
+ghost use Rattle.sj_decimal.specs.Text.{decimal_text as decimal_printed};
+ghost use Rattle.sj_doc.specs.Kinds.{kind_of};
+ghost use Rattle.sj_doc.specs.Listed.{node_tree};
+
+use sj_base::{Bytes, Memory};
+use sj_decimal::Decimal;
+use sj_doc::{Kind, NodeRef, Num};
+
+pub(crate) fn truth_text(holds: bool, out: &mut Bytes) -> Result<(), Memory>
+    ensures ok { OnOk result (out.new ≡ out.old ++ printed (truth holds)) }
+    ensures err { OnErr result (out.new ≡ out.old) }
+{
+    if holds {
+        out.push(b"true")
+    } else {
+        out.push(b"false")
+    }
+}
+
+// A number that is not exact is printed as it was spelled.
+pub(crate) fn number_text(node: NodeRef<'_>, out: &mut Bytes) -> Result<(), Memory>
+    requires { kind_of (node_tree node) ≡ Kind.Number }
+    ensures ok { OnOk result (out.new ≡ out.old ++ printed (node_tree node.entry)) }
+    ensures err { OnErr result (out.new ≡ out.old) }
+{
+    match node.number() {
+        Num::Exact(value) => decimal_text(value, out),
+        Num::Wide(spelling) => out.push(spelling.as_bytes()),
+    }
+}
+
+pub(crate) fn decimal_text(value: Decimal, out: &mut Bytes) -> Result<(), Memory>
+    ensures ok { OnOk result (out.new ≡ out.old ++ decimal_printed value) }
+    ensures err { OnErr result (out.new ≡ out.old) }
+{
+    out.push(value.text().as_str().as_bytes())
+}
+
+pub(crate) fn whole_text(value: i64, out: &mut Bytes) -> Result<(), Memory>
+    ensures ok { OnOk result (out.new ≡ out.old ++ decimal_printed (value, 0)) }
+    ensures err { OnErr result (out.new ≡ out.old) }
+{
+    match Decimal::from_parts(i128::from(value), 0) {
+        Some(value) => decimal_text(value, out),
+        None => unreachable!(),
+    }
+}
