@@ -1,0 +1,5 @@
+pub mod Trace
+pub mod Takes
+pub mod Reach
+pub mod Walk
+pub mod Coding

@@ -1,0 +1,90 @@
+// One accessor on one item, resumable.
+ghost use Rattle.std.specs.Prelude.{◌≡◌};
+ghost use Rattle.sj_item.specs.Items.{item_value, pull_value};
+ghost use Rattle.sj_step.specs.Reach.{reach_value};
+ghost use Rattle.sj_step.specs.Reach.{reach as reach_of};
+ghost use Rattle.sj_step.specs.Takes.{Takes};
+ghost use Rattle.sj_step.specs.Trace.{stop, fail, only};
+ghost use Rattle.sj_step.specs.Walk.{walk_left, left_of};
+
+use crate::elements::Elements;
+use crate::members::Members;
+use crate::parts::Parts;
+use sj_base::{Ledger, State, Steps};
+use sj_doc::Children;
+use sj_item::{Item, Pull};
+
+/// What one accessor has left to give of one item. Contracts see the trace that is left, `walk_left`.
+#[derive(Drop)]
+pub struct Walk<'d> {
+    pub(crate) left: Left<'d>,
+}
+
+#[derive(Drop)]
+pub(crate) enum Left<'d> {
+    Ended,
+    Failed(State),
+    Single(Item<'d>),
+    /// All these children.
+    Every(Children<'d>),
+    /// Those among the members of an object that are under a key.
+    Keyed(Members<'d>),
+    /// A run of the elements of an array.
+    Ranged(Elements<'d>),
+    /// All members of a made pair.
+    Made(Parts<'d>),
+}
+
+impl<'d> Walk<'d> {
+    /// The next item or, where none is left, the end. The counter rises by one for each child of a node that is handed out on the
+    /// way. An end and a fault come again, without a step.
+    #[tactic(auto, unfolding(crate::specs::Walk::walk_left))]
+    pub fn next<L: Ledger>(&mut self, steps: &mut Steps<L>) -> Pull<'d>
+        ensures { Takes (walk_left self.old) (pull_value result) (walk_left self.new) steps.old steps.new }
+    {
+        match &mut self.left {
+            Left::Ended => Pull::End,
+            Left::Failed(state) => Pull::Fault(*state),
+            Left::Single(item) => {
+                let item = *item;
+                self.left = Left::Ended;
+                Pull::Item(item)
+            }
+            Left::Every(children) => match children.next(steps) {
+                Some(child) => Pull::Item(Item::Node(child.node)),
+                None => Pull::End,
+            },
+            Left::Keyed(members) => members.next(steps),
+            Left::Ranged(elements) => elements.next(steps),
+            Left::Made(parts) => parts.next(),
+        }
+    }
+}
+
+#[tactic(auto, unfolding(crate::specs::Walk::walk_left))]
+impl<'d> Walk<'d> {
+    /// Nothing is left.
+    pub fn ended() -> Walk<'d>
+        ensures { walk_left result ≡ stop }
+    {
+        Walk { left: Left::Ended }
+    }
+
+    /// One item is left.
+    pub fn of_item(item: Item<'d>) -> Walk<'d>
+        ensures { walk_left result ≡ only (item_value item.entry) }
+    {
+        Walk {
+            left: Left::Single(item),
+        }
+    }
+
+    /// A fault is left.
+    pub fn of_fault(state: State) -> Walk<'d>
+        ensures { walk_left result ≡ fail state }
+    {
+        Walk {
+            left: Left::Failed(state),
+        }
+    }
+}
