@@ -1,0 +1,3 @@
+pub mod Numbers
+pub mod Methods
+pub mod Pairs

@@ -1,0 +1,59 @@
+// Item methods and signs.
+ghost use Rattle.std.specs.Prelude.{◌≡◌, ◌≢◌};
+ghost use Rattle.sj_item.specs.Items.{item_value};
+ghost use Rattle.sj_method.specs.Methods.{outcome, type_name, method_of, sign_of};
+
+use crate::number::operand;
+use sj_base::State;
+use sj_decimal::Decimal;
+use sj_doc::Kind;
+use sj_grammar::Method;
+use sj_item::{Exact, Item, kind, size};
+use sj_step::whole_number;
+
+/// What a method other than `keyvalue` gives of an item, which is one item, or a fault (ISO/IEC 9075-2, SQL/JSON path language, item
+/// methods). The methods `abs`, `floor` and `ceiling` give 22036 where the item is no number, and 22003 where it is not exact.
+#[tactic(auto, unfolding(crate::specs::Methods::method_of))]
+pub fn apply<'d>(method: Method, item: Item<'d>) -> Result<Item<'d>, State>
+    requires { method ≢ Method.KeyValue }
+    ensures { outcome result ≡ method_of method (item_value item.entry) }
+{
+    match method {
+        Method::TypeOf => Ok(Item::Text(type_name(kind(item)))),
+        Method::Size => Ok(Item::Num(whole_number(size(item) as i128))),
+        Method::Ceiling => Ok(number_item(operand(item)?.ceiling())),
+        Method::Floor => Ok(number_item(operand(item)?.floor())),
+        Method::Abs => Ok(number_item(operand(item)?.abs())),
+        Method::KeyValue => unreachable!(),
+    }
+}
+
+/// A number with a sign before it: 22036 where the item is no number, and 22003 where it is not exact. With `minus` the sign turns.
+#[tactic(auto, unfolding(crate::specs::Methods::sign_of))]
+pub fn sign<'d>(minus: bool, item: Item<'d>) -> Result<Item<'d>, State>
+    ensures { outcome result ≡ sign_of minus (item_value item.entry) }
+{
+    let number = operand(item)?;
+    Ok(number_item(if minus { number.neg() } else { number }))
+}
+
+ghost use Rattle.sj_item.specs.Items.{made_number};
+
+fn number_item<'d>(number: Decimal) -> Item<'d>
+    ensures { item_value result ≡ made_number number }
+{
+    Item::Num(Exact::new(number))
+}
+
+fn type_name(kind: Kind) -> &'static str
+    ensures { result.now ≡ type_name kind }
+{
+    match kind {
+        Kind::Null => "null",
+        Kind::Truth => "boolean",
+        Kind::Number => "number",
+        Kind::String => "string",
+        Kind::Array => "array",
+        Kind::Object => "object",
+    }
+}
