@@ -1,0 +1,134 @@
+-- What a path means on an item: the whole trace of it (ISO/IEC 9075-2, SQL/JSON path language).
+use Rattle.std.specs.Prelude.{ℕ, List, Option, Some, None, option_map, find, ℤ, pos, true, false}
+use Rattle.std.specs.Str.{bytes_eq}
+use Rattle.sj_base.specs.declared.state.State.TheVariants.{S22039}
+use Rattle.sj_grammar.specs.declared.tree.Mode.{Mode}
+use Rattle.sj_grammar.specs.declared.tree.Method.{Method}
+use Rattle.sj_grammar.specs.declared.tree.Method.TheVariants as methods
+use Rattle.sj_grammar.specs.declared.tree.Literal.{Literal}
+use Rattle.sj_grammar.specs.declared.tree.Literal.TheVariants as literals
+use Rattle.sj_grammar.specs.declared.tree.Initial.{Initial}
+use Rattle.sj_grammar.specs.declared.tree.Initial.TheVariants as initials
+use Rattle.sj_grammar.specs.Tree.{Path, Expr, Root, Var, Context, Last, Lit, Access, Plus, Minus, Binary, Step, Member, AllMembers, AllElements, Elements, Filter, Call, Double, Datetime, DatetimeBy, Sub, One, Range, Subs, Only, More, Pred, Compares, And, Or, Not, IsUnknown, Exists, StartsWith, LikeRegex, LikeRegexBy}
+use Rattle.sj_item.specs.Items.{ItemValue, made_number, made_text, made_truth, made_null}
+use Rattle.sj_item.specs.Pairs.{items_compare, item_starts_with}
+use Rattle.sj_item.specs.declared.truth.Truth.TheVariants.{Unknown}
+use Rattle.sj_step.specs.Trace.{Trace, stop, fail, only, join, each}
+use Rattle.sj_step.specs.Reach.{reach, by_key, all_members, all_elements, spread, last}
+use Rattle.sj_method.specs.Methods.{method_of, sign_of}
+use Rattle.sj_cursor.specs.Numbers.{binary_trace, element_part, range_part}
+use Rattle.sj_cursor.specs.Verdicts.{Verdict, and_verdict, or_verdict, not_verdict, unknown_verdict, exists_verdict, filtered}
+use Rattle.sj_cursor.specs.Comparisons.{compare_verdict}
+
+-- the variables that are passed, by name
+abbrev pub Variables : Type 0
+Variables = List (List ℕ × Literal)
+
+-- where an expression is evaluated: `$`, the variables, `@` and `last`
+pub record Env : Type 0 where
+  pub mode : Mode
+  pub vars : Variables
+  pub root : ItemValue
+  pub context : ItemValue
+  pub last : ℤ
+
+-- the same inside a filter that tests x
+abbrev pub at_item : Env → ItemValue → Env
+at_item env x = record { mode = env.mode; vars = env.vars; root = env.root; context = x; last = env.last }
+
+-- the same inside the subscripts of an array whose last index is n
+abbrev pub at_last : Env → ℤ → Env
+at_last env n = record { mode = env.mode; vars = env.vars; root = env.root; context = env.context; last = n }
+
+abbrev pub literal_value : Literal → ItemValue
+literal_value (literals.Text s) = made_text s
+literal_value (literals.Num d) = made_number d
+literal_value (literals.Bool b) = made_truth b
+literal_value literals.Null = made_null
+
+-- a path is evaluated with a value for each of its variables
+abbrev pub variable_value : Option Literal → ItemValue
+variable_value (Some l) = literal_value l
+variable_value None = made_null
+
+abbrev pub variable : Env → List ℕ → ItemValue
+variable env name = variable_value (option_map (λ v. v.1) (find (λ v. bytes_eq v.0 name) env.vars))
+
+abbrev pub initial_value : Env → Initial → ItemValue
+initial_value env (initials.Lit s) = made_text s
+initial_value env (initials.Var name) = variable env name
+
+-- the methods `type` and `size` take an array as it is
+abbrev pub method_input : Method → Mode → Trace → Trace
+method_input methods.TypeOf mode t = t
+method_input methods.Size mode t = t
+method_input methods.Ceiling mode t = spread mode t
+method_input methods.Floor mode t = spread mode t
+method_input methods.Abs mode t = spread mode t
+method_input methods.KeyValue mode t = spread mode t
+
+-- in strict mode an item that is no array is refused before any subscript is evaluated
+abbrev pub where_array : Option ℤ → (ℤ → Trace) → Trace
+where_array (Some n) parts = parts n
+where_array None parts = fail S22039
+
+-- a path that is evaluated has none of the parts that are refused by name
+abbrev pub refused : Trace
+refused = stop
+
+abbrev pub refused_verdict : Verdict
+refused_verdict = record { truth = Unknown; allow = 0 }
+
+abbrev mutual
+  -- the trace of an expression
+  pub meaning : Expr → Env → Trace
+  meaning Root env = only env.root
+  meaning Context env = only env.context
+  meaning (Var name) env = only (variable env name)
+  meaning Last env = only (made_number (env.last, 0))
+  meaning (Lit l) env = only (literal_value l)
+  meaning (Access e s) env = step_on s (meaning e env) env
+  meaning (Plus e) env = each (spread env.mode (meaning e env)) (sign_of false)
+  meaning (Minus e) env = each (spread env.mode (meaning e env)) (sign_of true)
+  meaning (Binary op a b) env = binary_trace op env.mode (spread env.mode (meaning a env)) (spread env.mode (meaning b env))
+
+  -- an accessor on the items of a trace
+  pub step_on : Step → Trace → Env → Trace
+  step_on (Member key) t env = each (spread env.mode t) (reach (by_key key) env.mode)
+  step_on AllMembers t env = each (spread env.mode t) (reach all_members env.mode)
+  step_on AllElements t env = each t (reach all_elements env.mode)
+  step_on (Elements subs) t env = each t (λ x. where_array (last env.mode x) (λ n. parts subs (at_last env n) x))
+  step_on (Filter p) t env = each (spread env.mode t) (λ x. filtered (verdict p (at_item env x)) x)
+  step_on (Call m) t env = each (method_input m env.mode t) (method_of m)
+  step_on Double t env = refused
+  step_on Datetime t env = refused
+  step_on (DatetimeBy template) t env = refused
+
+  -- the parts of a list of subscripts on one item, in order
+  pub parts : Subs → Env → ItemValue → Trace
+  parts (Only s) env x = part s env x
+  parts (More s others) env x = join (part s env x) (parts others env x)
+
+  pub part : Sub → Env → ItemValue → Trace
+  part (One e) env x = element_part env.mode (meaning e env) x
+  part (Range e f) env x = range_part env.mode (meaning e env) (meaning f env) x
+
+  -- the truth of a predicate, and what finding it may take
+  pub verdict : Pred → Env → Verdict
+  verdict (Compares op a b) env = compare_verdict env.mode (items_compare op) (spread env.mode (meaning a env)) (spread env.mode (meaning b env))
+  verdict (And p q) env = and_verdict (verdict p env) (verdict q env)
+  verdict (Or p q) env = or_verdict (verdict p env) (verdict q env)
+  verdict (Not p) env = not_verdict (verdict p env)
+  verdict (IsUnknown p) env = unknown_verdict (verdict p env)
+  verdict (Exists e) env = exists_verdict env.mode (meaning e env)
+  verdict (StartsWith e initial) env = compare_verdict env.mode item_starts_with (spread env.mode (meaning e env)) (only (initial_value env initial))
+  verdict (LikeRegex e pattern) env = refused_verdict
+  verdict (LikeRegexBy e pattern flags) env = refused_verdict
+
+-- at the start `@` is the root and `last` is 0; a path that is read from a text never asks for these
+abbrev pub start_env : Path → Variables → ItemValue → Env
+start_env path vars root = record { mode = path.mode; vars = vars; root = root; context = root; last = pos 0 }
+
+-- the trace of a path on a root
+unfoldable pub path_trace : Path → Variables → ItemValue → Trace
+path_trace path vars root = meaning path.expr (start_env path vars root)
