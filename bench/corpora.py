@@ -1,7 +1,7 @@
 """Makes the inputs of the benchmark: JSON texts, one a line, each an object.
 
-Every corpus is the same at every call: the values come from a fixed seed. Without numbers the values are strings
-without escapes, true, false and null.
+Every corpus is the same at every call: the values come from a fixed seed. Without numbers the values are strings,
+true, false and null. Two corpora have escapes in their strings, and the others have none.
 """
 import random
 
@@ -9,6 +9,9 @@ SEED = 20161215
 ELEMENTS = 1_000_000
 WIDTH = 30
 NAMES = ["Ann", "Bo", "Chloé", "Dmitri", "Eun-ji", "Fatima", "Gábor", "Hana"]
+LONGEST = 16_777_216  # bytes of the longest line that the program reads
+WORDS = ["lorem", "ipsum", "dolor", "sit", "amet", "consectetur", "adipiscing", "elit", "größer", "naïve"]
+ESCAPES = ["\\n", "\\t", '\\"', "\\\\", "\\/", "\\u00e9", "\\u0000", "\\ud83d\\ude00"]
 CITIES = ["Oslo", "Kraków", "Lima", "Nairobi", "Osaka", "Turin"]
 
 
@@ -69,7 +72,38 @@ def long_array(values, number):
     return f'{{"number":"{number}","elements":[{elements}],"{"a" if number % 2 else "b"}":null}}'
 
 
-KINDS = {"records": record, "wide": wide_object, "array": long_array}
+def long_text(values, between):
+    """A string of some thousand letters: words, each with one of the texts behind it."""
+    count = 200 + int(values.chance.random() * 1800)
+    return '"' + "".join(values.one_of(WORDS) + values.one_of(between) for _ in range(count)) + '"'
+
+
+def long_strings(values, number, between=(" ",)):
+    """An object with three long strings without escapes. Half of them have the member `a` behind the first."""
+    found = "a" if values.happens() else "b"
+    first, second, third = (long_text(values, between) for _ in range(3))
+    return f'{{"first":{first},"{found}":"{number}","next":[{second},{third}]}}'
+
+
+def escaped_strings(values, number):
+    """The same with an escape behind each word."""
+    return long_strings(values, number, ESCAPES)
+
+
+def escapes_alone(values, number):
+    """A line of the greatest length, of one string that is escapes alone."""
+    begun = f'{{"{"a" if number % 2 else "b"}":"'
+    return begun + "\\u0000" * ((LONGEST - len(begun) - 2) // 6) + '"}'
+
+
+KINDS = {
+    "records": record,
+    "wide": wide_object,
+    "array": long_array,
+    "strings": long_strings,
+    "escaped": escaped_strings,
+    "escapes": escapes_alone,
+}
 
 
 def write_corpus(kind, path, size, with_numbers):

@@ -6,3 +6,4 @@ pub mod Unescaping
 pub mod Ends
 pub mod Lanes
 pub mod Runs
+pub mod OnePass

@@ -9,8 +9,9 @@ mod escape;
 mod plain;
 mod reader;
 mod scan;
+mod short;
 #[cfg(test)]
 mod tests;
 mod unescape;
 
-pub use reader::{MAX_DEPTH, MAX_LENGTH, ReadRefusal, read, read_into};
+pub use reader::{MAX_DEPTH, MAX_LENGTH, ReadRefusal, read, read_over};

@@ -10,6 +10,7 @@ ghost use Rattle.sj_read.specs.Scans.{EndsPlain};
 ghost use Rattle.sj_read.specs.Turns.{mode_of, Ready, TakesOneKey, Turns};
 
 use crate::scan::{begins_number, follows, is_blank, number_end, string_end};
+use crate::short::short_number;
 use crate::unescape::unescape;
 use sj_base::Memory;
 use sj_decimal::{Decimal, Parsed};
@@ -111,8 +112,9 @@ fn escaped_key(builder: &mut DocBuilder, buffer: &mut String, text: &str, at: us
     }
 }
 
-// The number that begins with the byte c at the place.
-fn number(builder: &mut DocBuilder, text: &str, at: usize, c: u8) -> Turn
+// The number that begins with the byte c at the place, of any length.
+#[inline(never)]
+fn any_number(builder: &mut DocBuilder, text: &str, at: usize, c: u8) -> Turn
     requires within { (at < length text.now) × (length text.now ≤ MAX_LENGTH) }
     requires here { slice_index text.now at ≡ c }
     requires begins { beginning_byte c ≡ true }
@@ -126,6 +128,21 @@ fn number(builder: &mut DocBuilder, text: &str, at: usize, c: u8) -> Turn
         Parsed::Exact(n) => after(builder.exact(n), Mode::AfterValue, end),
         Parsed::Wide => after(builder.wide(spelling), Mode::AfterValue, end),
         Parsed::NotNumber => Err(ReadRefusal::NotJson),
+    }
+}
+
+// The same, where few numbers need the general way.
+fn number(builder: &mut DocBuilder, text: &str, at: usize, c: u8) -> Turn
+    requires within { (at < length text.now) × (length text.now ≤ MAX_LENGTH) }
+    requires here { slice_index text.now at ≡ c }
+    requires begins { beginning_byte c ≡ true }
+    requires ready { Ready value_mode builder.old }
+    requires room { node_total builder.old ≤ at }
+    ensures { Turns MAX_DEPTH result value_mode builder.old text.now at builder.new }
+{
+    match short_number(text.as_bytes(), at, c) {
+        Some(short) => after(builder.exact(short.value), Mode::AfterValue, short.end),
+        None => any_number(builder, text, at, c),
     }
 }
 
@@ -284,12 +301,24 @@ pub fn read(alloc: Global, line: &[u8]) -> Result<Doc, ReadRefusal>
     ensures ok { IfOk result (λ doc. SpellsText doc line.now × IsJson line.now) }
     ensures refused { result ≡ Err ReadRefusal.NotJson → IsJson line.now → ⊥ }
 {
-    read_into(alloc, DocBuilder::new(alloc), line)
+    read_over(alloc, None, line)
 }
 
-/// The same, over the memory of a builder, as `Doc::recycle` gives it, and with memory from `alloc` for texts
-/// with escapes. A refusal gives the builder's memory back to the allocator.
-pub fn read_into(alloc: Global, builder: DocBuilder, line: &[u8]) -> Result<Doc, ReadRefusal>
+/// The same, in the memory of an earlier document, where there is one. A refusal gives that memory back to the
+/// allocator.
+pub fn read_over(alloc: Global, earlier: Option<Doc>, line: &[u8]) -> Result<Doc, ReadRefusal>
+    ensures ok { IfOk result (λ doc. SpellsText doc line.now × IsJson line.now) }
+    ensures refused { result ≡ Err ReadRefusal.NotJson → IsJson line.now → ⊥ }
+{
+    let builder = match earlier {
+        Some(doc) => doc.recycle(),
+        None => DocBuilder::new(alloc),
+    };
+    read_into(alloc, builder, line)
+}
+
+// The same, into an empty builder.
+fn read_into(alloc: Global, builder: DocBuilder, line: &[u8]) -> Result<Doc, ReadRefusal>
     requires { builder ≡ fresh }
     ensures ok { IfOk result (λ doc. SpellsText doc line.now × IsJson line.now) }
     ensures refused { result ≡ Err ReadRefusal.NotJson → IsJson line.now → ⊥ }

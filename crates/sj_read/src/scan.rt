@@ -25,7 +25,7 @@ pub(crate) fn begins_number(c: u8) -> bool
 }
 
 #[inline(always)]
-fn is_number_byte(c: u8) -> bool
+pub(crate) fn is_number_byte(c: u8) -> bool
     ensures { result ≡ number_byte c }
 {
     c.is_ascii_digit() || (c == b'+' || (c == b'-' || (c == b'.' || (c == b'E' || c == b'e'))))

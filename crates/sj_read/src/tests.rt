@@ -1,9 +1,12 @@
 // Which lines are read, what the document then has, and the limits.
-use crate::{MAX_DEPTH, MAX_LENGTH, ReadRefusal, read, read_into};
+mod texts;
+
+use crate::{MAX_DEPTH, MAX_LENGTH, ReadRefusal, read, read_over};
 use sj_base::{Steps, Tally};
 use sj_doc::{Doc, Kind, Num, Visit};
 use std::alloc::{AllocError, Global};
 use std::test::Fail;
+use texts::{JSON, NOT_JSON};
 
 // Whether the line is read. Memory is ample.
 fn is_read(alloc: Global, line: &[u8]) -> Result<bool, Fail> {
@@ -16,112 +19,54 @@ fn is_read(alloc: Global, line: &[u8]) -> Result<bool, Fail> {
 
 #[test]
 fn reads_exactly_json(rt: HostRuntime) -> Result<(), Fail> {
-    let json: [&[u8]; 30] = [
-        b"null",
-        b" \t\r\ntrue\n",
-        b"\"\"",
-        b"\"caf\xc3\xa9 \x7f\"",
-        b"[]",
-        b"{ }",
-        b"[[],{}]",
-        b"[ null , \"x\" ]",
-        b"{\"a\":{\"b\":null}}",
-        b"{\"a\" : \"x\", \"a\":[false]}",
-        b"{\"\":{}}",
-        b"[[[[]]]]",
-        b"1",
-        b" 1 ",
-        b"-0",
-        b"1.50e1",
-        b"1e400",
-        b"1E+4",
-        b"-12.5e-3",
-        b"[1,2]",
-        b"[1 , 2 ]",
-        b"{\"a\":1}",
-        b"{\"a\":1,\"a\":2}",
-        b"\"\\u0000\"",
-        b"\"\\/\"",
-        b"\"a\\ud83d\\ude00\\tb\"",
-        b"\"\\\"\\\\\\b\\f\\n\\r\"",
-        b"\"\\uABcd\"",
-        b"\"\\udbff\\udfff\"",
-        b"{\"\\u0061\":null}",
-    ];
-    for line in json {
-        assert!(rt; is_read(rt.alloc(), line)?, "{line:?}");
+    for (texts, json) in [(JSON, true), (NOT_JSON, false)] {
+        for line in texts.lines() {
+            assert_eq!(rt; is_read(rt.alloc(), line.as_bytes())?, json, "{line:?}");
+        }
     }
-    let other: [&[u8]; 57] = [
-        b"",
-        b" ",
-        b"nul",
-        b"nulll",
-        b"Null",
-        b"null null",
-        b"\"a",
-        b"\"a\tb\"",
-        b"\"a\x1f\"",
-        b"\"\xff\"",
-        b"'a'",
-        b"[",
-        b"]",
-        b"[null,]",
-        b"[,null]",
-        b"[null true]",
-        b"[null}",
-        b"{\"a\":null]",
-        b"{\"a\":null,}",
-        b"{\"a\"}",
-        b"{\"a\" null}",
-        b"{null:null}",
-        b"{\"a\"::null}",
-        b"\xef\xbb\xbfnull",
-        b"\xef\xbb\xbf1",
-        b"\xff",
-        b"\x22\xc0\x80\x22",
-        b"\x00",
-        b"[1,]",
-        b"01",
-        b"+1",
-        b"1.",
-        b".5",
-        b"NaN",
-        b"-",
-        b"1e",
-        b"1e+",
-        b"--1",
-        b"1-1",
-        b"1 1",
-        b"1.2.3",
-        b"0x1",
-        b"1n",
-        b"[-]",
-        b"\"\\ud800\"",
-        b"\"\\ud800a\"",
-        b"\"\\ud800\\u0061\"",
-        b"\"\\ud800\\n\"",
-        b"\"\\udc00\"",
-        b"\"\\udc00\\ud800\"",
-        b"\"\\x\"",
-        b"\"\\u12\"",
-        b"\"\\u12g4\"",
-        b"\"\\U0061\"",
-        b"\"\\",
-        b"\"\\\"",
-        b"{\"\\ud800\":null}",
+    let bytes: [(&[u8], bool); 26] = [
+        (b"", false),
+        (b" ", false),
+        (b" \t\r\ntrue\n", true),
+        (b"[\n\t1\r,\n2 ]\n", true),
+        (b"{\t\"a\"\n:\r1 }", true),
+        (b"\x0bnull", false),
+        (b"\x0cnull", false),
+        (b"null\0", false),
+        (b"\0", false),
+        (b"[\0]", false),
+        (b"\xc2\xa0null", false),
+        (b"\xe2\x80\x83null", false),
+        (b"\xef\xbb\xbf1", false),
+        (b"\xef\xbb\xbf", false),
+        (b"\xff", false),
+        (b"\"\xff\"", false),
+        (b"\"\xc3\"", false),
+        (b"\"\xc0\x80\"", false),
+        (b"\"\xed\xa0\x80\"", false),
+        (b"\"\xf4\x90\x80\x80\"", false),
+        (b"\"\xf4\x8f\xbf\xbf\"", true),
+        (b"\"a\0b\"", false),
+        (b"\"a\tb\"", false),
+        (b"\"a\nb\"", false),
+        (b"\"a\x1fb\"", false),
+        (b"\"a\x7fb\"", true),
     ];
-    for line in other {
-        assert!(rt; !is_read(rt.alloc(), line)?, "{line:?}");
+    for (line, json) in bytes {
+        assert_eq!(rt; is_read(rt.alloc(), line)?, json, "{line:?}");
     }
     Ok(())
 }
 
 #[test]
 fn refuses_a_truncated_line(rt: HostRuntime) -> Result<(), Fail> {
-    let lines: [&[u8]; 3] = [
+    let lines: [&[u8]; 6] = [
         b"{\"a\":{\"b\":[null,true,\"x\"]},\"c\":false}",
         b"[1.5,-2e7,{\"\\n\":0}]",
         b"\"\\ud83d\\ude00 \\u00e9\\\\\"",
+        b" { \"id\" : -0.50E+10 , \"a\" : [ ] , \"a\" : { } }",
+        b"[[[\"\\\"\\\\\\/\\b\\f\\n\\r\\t\"],1234567890123456789.5],\"\xc3\xa9\xf0\x9f\x98\x80\"]",
+        b"{\"\\ud83d\\ude00\":{\"\":[true,false,null]},\"12345678901234567890123456789012345678901234567890\":0}",
     ];
     for line in lines {
         for end in 0..line.len() {
@@ -170,7 +115,7 @@ fn number_text(alloc: Global, doc: &Doc) -> Result<(String, bool), Fail> {
 
 #[test]
 fn reads_numbers(rt: HostRuntime) -> Result<(), Fail> {
-    let cases: [(&[u8], &str, bool); 12] = [
+    let cases: [(&[u8], &str, bool); 26] = [
         (b"1", "1", false),
         (b"-0", "0", false),
         (b"1.50e1", "15", false),
@@ -187,7 +132,29 @@ fn reads_numbers(rt: HostRuntime) -> Result<(), Fail> {
             "-0.00000000000000000000000000000000000001",
             false,
         ),
+        (b"99999999999999999", "99999999999999999", false),
+        (b"-100000000000000000", "-100000000000000000", false),
+        (b"999999999999999999", "999999999999999999", false),
+        (b"1000000000000000000", "1000000000000000000", false),
+        (b"18446744073709551616", "18446744073709551616", false),
+        (b"-12.500", "-12.5", false),
+        (b"-0.0", "0", false),
+        (b"10.00", "10", false),
+        (b"0.050", "0.05", false),
+        (b"12345678901234567.8", "12345678901234567.8", false),
+        (b"123456789012345678.9", "123456789012345678.9", false),
+        (b"0.1000000000000000000000000000000000000000", "0.1", false),
         (b"1e38", "1e38", true),
+        (
+            b"0.000000000000000000000000000000000000001",
+            "0.000000000000000000000000000000000000001",
+            true,
+        ),
+        (
+            b"1.000000000000000000000000000000000000001",
+            "1.000000000000000000000000000000000000001",
+            true,
+        ),
         (b"1e400", "1e400", true),
         (b"-1.0E-39\n", "-1.0E-39", true),
         (
@@ -246,7 +213,7 @@ fn keeps_members_in_order(rt: HostRuntime) -> Result<(), Fail> {
     assert!(rt; children.next(&mut steps).is_none());
     assert_eq!(rt; steps.ledger().count(), 3);
     assert!(rt; !first.unique_keys(rt.alloc())?);
-    let second = read_into(rt.alloc(), first.recycle(), b" [ ] ")?;
+    let second = read_over(rt.alloc(), Some(first), b" [ ] ")?;
     assert_eq!(rt; second.root().kind(), Kind::Array);
     assert!(rt; second.unique_keys(rt.alloc())?);
     Ok(())

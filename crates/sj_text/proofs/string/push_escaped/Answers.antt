@@ -10,11 +10,11 @@ pub returns-in_err-push_escape-in-Some-clause-err :
 returns-in_err-push_escape-in-Some-clause-err c =
     at_error c.from_residual-in_err-push_escape-in-Some.result
     (stays c.args.out.now (flat_map printed_byte c.args.bytes.now) c.push.new.self (printed_byte c.in-Some.byte.now ++ flat_map printed_byte c.in-Some.after.now) c.push_escape.new.out
-    (after_run c.args.out.now (flat_map printed_byte c.args.bytes.now) c.loop-rest.out c.loop-rest.rest.now c.plain_run-run.result c.in-Some.byte.now c.in-Some.after.now c.push.new.self
+    (after_run printed_byte c.args.out.now (flat_map printed_byte c.args.bytes.now) c.loop-rest.out c.loop-rest.rest.now c.plain_run-run.result c.in-Some.byte.now c.in-Some.after.now c.push.new.self
     c.loop-rest.invariant c.plain_run-run.ensures.plain c.in_ok-push.ensures.ok c.in-Some.ensures.cases.0) c.in_err-push_escape-in-Some.ensures.err)
 
 pub loop-rest-preserved : goal.loop-rest-preserved
 loop-rest-preserved c =
     grows_to c.args.out.now (flat_map printed_byte c.args.bytes.now) c.push.new.self (printed_byte c.in-Some.byte.now) (flat_map printed_byte c.in-Some.after.now) c.push_escape.new.out
-    (after_run c.args.out.now (flat_map printed_byte c.args.bytes.now) c.loop-rest.out c.loop-rest.rest.now c.plain_run-run.result c.in-Some.byte.now c.in-Some.after.now c.push.new.self
+    (after_run printed_byte c.args.out.now (flat_map printed_byte c.args.bytes.now) c.loop-rest.out c.loop-rest.rest.now c.plain_run-run.result c.in-Some.byte.now c.in-Some.after.now c.push.new.self
     c.loop-rest.invariant c.plain_run-run.ensures.plain c.in_ok-push.ensures.ok c.in-Some.ensures.cases.0) c.in_ok-push_escape-in-Some.ensures.ok
