@@ -10,7 +10,7 @@ use Rattle.sj_cursor.specs.Rows.{row_true, row_doubt, row_cost, rows_true, rows_
 
 -- ---- truth
 
-pub row_true_is : (pair : PairTruth) (x : ItemValue) (r : Trace) → row_true pair x r ≡ list_any (λ y. is_true (pair x y)) (items r)
+pub row_true_is : (pair : PairTruth) (x : ItemValue) (r : Trace) → row_true (pair x) r ≡ list_any (λ y. is_true (pair x y)) (items r)
 row_true_is pair x stop = refl
 row_true_is pair x (fail s) = refl
 row_true_is pair x (visit r) = row_true_is pair x r
@@ -30,7 +30,7 @@ or_turned true false c = refl
 or_turned false true c = refl
 or_turned false false c = refl
 
-pub row_doubt_is : (pair : PairTruth) (x : ItemValue) (r : Trace) → row_doubt pair x r ≡ is_faulty r || list_any (λ y. is_unknown (pair x y)) (items r)
+pub row_doubt_is : (pair : PairTruth) (x : ItemValue) (r : Trace) → row_doubt (pair x) r ≡ is_faulty r || list_any (λ y. is_unknown (pair x y)) (items r)
 row_doubt_is pair x stop = refl
 row_doubt_is pair x (fail s) = refl
 row_doubt_is pair x (visit r) = row_doubt_is pair x r
@@ -58,7 +58,7 @@ rows_doubt_is pair (give x l) r =
 
 -- ---- what it takes to go through all pairs
 
-pub row_cost_all : (pair : PairTruth) (x : ItemValue) (r : Trace) → row_cost false pair x r ≡ visits r
+pub row_cost_all : (pair : PairTruth) (x : ItemValue) (r : Trace) → row_cost false (pair x) r ≡ visits r
 row_cost_all pair x stop = refl
 row_cost_all pair x (fail s) = refl
 row_cost_all pair x (visit r) = ap suc (row_cost_all pair x r)
@@ -90,13 +90,13 @@ row_to_give : (o : Option ℕ) (y : ItemValue) (r : Trace) → row_to o r ≡ ro
 row_to_give None y r = refl
 row_to_give (Some j) y r = refl
 
-pub row_cost_is : (pair : PairTruth) (x : ItemValue) (r : Trace) → row_cost true pair x r ≡ row_to (index_where (λ y. is_true (pair x y)) (items r)) r
+pub row_cost_is : (pair : PairTruth) (x : ItemValue) (r : Trace) → row_cost true (pair x) r ≡ row_to (index_where (λ y. is_true (pair x y)) (items r)) r
 row_cost_is pair x stop = refl
 row_cost_is pair x (fail s) = refl
 row_cost_is pair x (visit r) = ap suc (row_cost_is pair x r) ∙ row_to_visit (index_where (λ y. is_true (pair x y)) (items r)) r
 row_cost_is pair x (give y r) =
     let o : Option ℕ = index_where (λ z. is_true (pair x z)) (items r) in
-    elim (is_true (pair x y)) as (λ b. cond b 0 (row_cost true pair x r) ≡ row_to (cond b (Some 0) (next_index o)) (give y r))
+    elim (is_true (pair x y)) as (λ b. cond b 0 (row_cost true (pair x) r) ≡ row_to (cond b (Some 0) (next_index o)) (give y r))
     [ true ↦ refl | false ↦ row_cost_is pair x r ∙ row_to_give o y r ]
 
 abbrev is_found : Option ℕ → Bool
@@ -129,7 +129,7 @@ rows_cost_is pair (visit l) r = ap suc (rows_cost_is pair l r) ∙ rows_to_visit
 rows_cost_is pair (give x l) r =
     let o : Option ℕ = index_where (λ y. is_true (pair x y)) (items r) in
     let f : Option (ℕ × ℕ) = first_true pair (items l) (items r) in
-    ap (λ n. n + cond (row_true pair x r) 0 (rows_cost true pair l r)) (row_cost_is pair x r)
+    ap (λ n. n + cond (row_true (pair x) r) 0 (rows_cost true pair l r)) (row_cost_is pair x r)
     ∙ ap (λ b. row_to o r + cond b 0 (rows_cost true pair l r)) (row_true_is pair x r ∙ found_where (λ y. is_true (pair x y)) (items r))
     ∙ ap (λ n. row_to o r + cond (is_found o) 0 n) (rows_cost_is pair l r)
     ∙ rows_to_give o f x l r

@@ -1,3 +1,13 @@
-pub mod Singles
-pub mod Compared
+mod Compared
+mod Singles
 mod Examples
+mod Draws
+mod Looks
+mod Pairs
+mod Begins
+mod Doings
+mod Acts
+mod Decided
+mod Pulls
+mod Parts
+mod Connectives

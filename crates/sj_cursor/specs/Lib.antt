@@ -3,4 +3,14 @@ pub mod Numbers
 pub mod Verdicts
 pub mod Comparisons
 pub mod Rows
+pub mod RowsSeen
 pub mod Meaning
+pub mod Draws
+pub mod Decides
+pub mod Looks
+pub mod Answers
+pub mod Asked
+pub mod Cells
+pub mod Left
+pub mod Sequel
+pub mod Tied

@@ -51,8 +51,11 @@ abbrev pub variable_value : Option Literal → ItemValue
 variable_value (Some l) = literal_value l
 variable_value None = made_null
 
+abbrev pub variable_of : Variables → List ℕ → ItemValue
+variable_of vars name = variable_value (option_map (λ v. v.1) (find (λ v. bytes_eq v.0 name) vars))
+
 abbrev pub variable : Env → List ℕ → ItemValue
-variable env name = variable_value (option_map (λ v. v.1) (find (λ v. bytes_eq v.0 name) env.vars))
+variable env name = variable_of env.vars name
 
 abbrev pub initial_value : Env → Initial → ItemValue
 initial_value env (initials.Lit s) = made_text s

@@ -1,5 +1,5 @@
 // What is reached of an item, and the last index of an array.
-ghost use Rattle.std.specs.Prelude.{◌≡◌};
+ghost use Rattle.std.specs.Prelude.{◌≡◌, ◌<◌, ◌^◌, IfSome, unsigned_abs};
 ghost use Rattle.sj_item.specs.Items.{item_value};
 ghost use Rattle.sj_step.specs.Reach.{last};
 
@@ -23,10 +23,11 @@ pub enum Reach<'d> {
 }
 
 /// The greatest index of an array. In lax mode it is 0 of an item that is no array; in strict mode exactly such an item has
-/// none. An empty array has the index -1.
+/// none. An empty array has the index -1. An index is below 2^64.
 #[tactic(auto, unfolding(crate::specs::Reach::last))]
 pub fn last_index(item: Item<'_>, mode: Mode) -> Option<i128>
-    ensures { result ≡ last mode (item_value item.entry) }
+    ensures is { result ≡ last mode (item_value item.entry) }
+    ensures small { IfSome result (λ n. unsigned_abs n < 2 ^ 64) }
 {
     match (kind(item), mode) {
         (Kind::Array, _) => Some(size(item) as i128 - 1),

@@ -1,0 +1,55 @@
+-- What is done with the opened items of an expression is the meaning of the whole.
+use Rattle.std.proofs.Common.{◌≡◌, ℕ, ◌+◌, ◌≤◌, ap, sym, ◌∙◌, refl, arith}
+use Rattle.sj_grammar.specs.Tree as t
+use Rattle.sj_grammar.specs.declared.tree.Method.{Method}
+use Rattle.sj_grammar.specs.declared.tree.Method.TheVariants as methods
+use Rattle.sj_item.specs.Items.{ItemValue}
+use Rattle.sj_path.specs.Nodes.{expr_nodes, sub_nodes, subs_nodes}
+use Rattle.sj_step.specs.Trace.{Trace, each, only}
+use Rattle.sj_step.proofs.Traces.{each-only}
+use Rattle.sj_method.specs.Methods.{method_of}
+use Rattle.sj_cursor.specs.Meaning.{Env, meaning}
+use Rattle.sj_cursor.specs.Left.{Doing, Acts, Keeps, Picks, doing_on, doing_opening, doing_nodes, done, operand_whole}
+use Rattle.sj_cursor.specs.declared.cells.Act.TheVariants as acts
+use Rattle.sj_cursor.specs.declared.cells.Opening.TheVariants.{AsItIs}
+
+pub as_it_is : (e : t.Expr) (env : Env) → operand_whole AsItIs e env ≡ meaning e env
+as_it_is e env = each-only (meaning e env)
+
+method_is : (m : Method) (e : t.Expr) (env : Env) → each (operand_whole (doing_opening (Acts (acts.Method m))) e env) (done (Acts (acts.Method m)) env) ≡ meaning (t.Access e (t.Call m)) env
+method_is methods.TypeOf e env = ap (λ u. each u (method_of methods.TypeOf)) (as_it_is e env)
+method_is methods.Size e env = ap (λ u. each u (method_of methods.Size)) (as_it_is e env)
+method_is methods.Ceiling e env = refl
+method_is methods.Floor e env = refl
+method_is methods.Abs e env = refl
+method_is methods.KeyValue e env = refl
+
+pub doing_is : (d : Doing) (e : t.Expr) (env : Env) → each (operand_whole (doing_opening d) e env) (done d env) ≡ meaning (doing_on d e) env
+doing_is (Acts (acts.Member key)) e env = refl
+doing_is (Acts acts.AllMembers) e env = refl
+doing_is (Acts acts.AllElements) e env = ap (λ u. each u (done (Acts acts.AllElements) env)) (as_it_is e env)
+doing_is (Acts acts.Plus) e env = refl
+doing_is (Acts acts.Minus) e env = refl
+doing_is (Acts (acts.Method m)) e env = method_is m e env
+doing_is (Keeps p) e env = refl
+doing_is (Picks s) e env = ap (λ u. each u (done (Picks s) env)) (as_it_is e env)
+
+-- ---- nodes
+
+pub doing_below : (d : Doing) (e : t.Expr) → expr_nodes e + doing_nodes d + 1 ≤ expr_nodes (doing_on d e)
+doing_below (Acts (acts.Member key)) e = omega arith
+doing_below (Acts acts.AllMembers) e = omega arith
+doing_below (Acts acts.AllElements) e = omega arith
+doing_below (Acts acts.Plus) e = omega arith
+doing_below (Acts acts.Minus) e = omega arith
+doing_below (Acts (acts.Method m)) e = omega arith
+doing_below (Keeps p) e = omega arith
+doing_below (Picks s) e = omega arith
+
+pub sub_some : (s : t.Sub) → 1 ≤ sub_nodes s
+sub_some (t.One e) = omega arith
+sub_some (t.Range e f) = omega arith
+
+pub subs_some : (s : t.Subs) → 1 ≤ subs_nodes s
+subs_some (t.Only s) = sub_some s
+subs_some (t.More s others) = omega (arith, sub_some s)

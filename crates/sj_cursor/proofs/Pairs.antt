@@ -1,0 +1,237 @@
+-- Pairs, draw by draw.
+use Rattle.std.proofs.Common.{◌≡◌, ℕ, zero, suc, ◌+◌, ◌*◌, ◌≤◌, ◌<◌, max, Bool, true, false, cond, ◌||◌, ◌&&◌, ap, sym, ◌∙◌, refl, arith}
+use Rattle.std.specs.Prelude.{nat_lt}
+use Rattle.std.proofs.lemmas.Bool.Decides.{nat_tests}
+use Rattle.sj_base.specs.Outside.{raised}
+use Rattle.sj_base.specs.declared.state.State.{State}
+use Rattle.sj_item.specs.Items.{ItemValue, gives, ends, faults}
+use Rattle.sj_step.specs.Trace.{Trace, stop, fail, visit, give, pay, only, count, visits, fore, fault_of}
+use Rattle.sj_cursor.specs.Verdicts.{is_unknown, is_faulty, has_item}
+use Rattle.sj_cursor.specs.Comparisons.{PairTruth, is_true}
+use Rattle.sj_cursor.specs.Rows.{ItemTruth, row_true, row_doubt, row_cost, rows_true, rows_doubt, rows_cost}
+use Rattle.sj_cursor.specs.RowsSeen.{RowSeen, RowsSeen}
+use Rattle.sj_cursor.specs.Draws.{Draws}
+use Rattle.sj_cursor.proofs.Draws.{draw_item, draw_end, draw_fault}
+
+-- ---- truth values
+
+or_assoc : (a b c : Bool) → (a || b) || c ≡ a || (b || c)
+or_assoc true b c = refl
+or_assoc false b c = refl
+
+or_false : (a : Bool) → a || false ≡ a
+or_false true = refl
+or_false false = refl
+
+or_true : (a : Bool) → a || true ≡ true
+or_true true = refl
+or_true false = refl
+
+-- where a and what follows do not halt, neither does what follows
+quiet_later : (e a b : Bool) → e && (a || b) ≡ false → e && b ≡ false
+quiet_later true true b h = cc
+quiet_later true false b h = h
+quiet_later false a b h = refl
+
+-- what halts and did not halt before does so by itself
+halts_later : (e a b : Bool) → e && a ≡ false → e && (a || b) ≡ true → e && b ≡ true
+halts_later true true b q h = cc
+halts_later true false b q h = h
+halts_later false a b q h = h
+
+halt_is : (e a b : Bool) → e && (a || b) ≡ true → a || b ≡ true
+halt_is true a b h = h
+halt_is false a b h = cc
+
+true_then : (a b c : Bool) → a || b ≡ true → a || (b || c) ≡ true
+true_then true b c h = refl
+true_then false true c h = refl
+true_then false false c h = cc
+
+no_halt : (e a b : Bool) (P : Type 0) → e && (a || b) ≡ true → e && (a || b) ≡ false → P
+no_halt e a b P h k = absurd (cc)
+
+-- ---- one row
+
+row_true-pay : (p : ItemTruth) (n : ℕ) (t : Trace) → row_true p (pay n t) ≡ row_true p t
+row_true-pay p zero t = refl
+row_true-pay p (suc n) t = row_true-pay p n t
+
+row_doubt-pay : (p : ItemTruth) (n : ℕ) (t : Trace) → row_doubt p (pay n t) ≡ row_doubt p t
+row_doubt-pay p zero t = refl
+row_doubt-pay p (suc n) t = row_doubt-pay p n t
+
+row_cost-pay : (e : Bool) (p : ItemTruth) (n : ℕ) (t : Trace) → row_cost e p (pay n t) ≡ n + row_cost e p t
+row_cost-pay e p zero t = omega arith
+row_cost-pay e p (suc n) t = omega (arith, row_cost-pay e p n t)
+
+-- seen so far, and left to see
+pub record RowLeft (e : Bool) (p : ItemTruth) (all left : Trace) (found doubt : Bool) (a b : ℕ) : Type 0 where
+  pub finds : found || row_true p left ≡ row_true p all
+  pub doubts : doubt || row_doubt p left ≡ row_doubt p all
+  pub quiet : e && found ≡ false
+  pub costs : raised b (row_cost e p left) ≤ raised a (row_cost e p all)
+
+row_starts : (e : Bool) (p : ItemTruth) (t : Trace) (a : ℕ) → RowLeft e p t t false false a a
+row_starts true p t a = record { finds = refl; doubts = refl; quiet = refl; costs = omega arith }
+row_starts false p t a = record { finds = refl; doubts = refl; quiet = refl; costs = omega arith }
+
+pub row_from : (e : Bool) (p : ItemTruth) (t u : Trace) (a : ℕ) → u ≡ t → RowLeft e p t u false false a a
+row_from e p t u a is = rw is (row_starts e p t a)
+
+pub row_item : (e : Bool) (p : ItemTruth) (all t t' : Trace) (y : ItemValue) (f d f' d' : Bool) (a b c : ℕ)
+    → RowLeft e p all t f d a b → Draws t (gives y) t' b c → f' ≡ f || is_true (p y) → d' ≡ d || is_unknown (p y) → e && f' ≡ false → RowLeft e p all t' f' d' a c
+row_item e p all t t' y f d f' d' a b c k w ef ed q =
+    let shape = draw_item t t' y b c w in
+    let quiet : e && (f || is_true (p y)) ≡ false = ap (λ z. e && z) (sym ef) ∙ q in
+    let found : row_true p t ≡ is_true (p y) || row_true p t' = ap (row_true p) shape ∙ row_true-pay p (fore t) (give y t') in
+    let doubt : row_doubt p t ≡ is_unknown (p y) || row_doubt p t' = ap (row_doubt p) shape ∙ row_doubt-pay p (fore t) (give y t') in
+    let cost : row_cost e p t ≡ fore t + row_cost e p t' =
+    ap (row_cost e p) shape ∙ row_cost-pay e p (fore t) (give y t') ∙ ap (λ z. fore t + cond z 0 (row_cost e p t')) (quiet_later e f (is_true (p y)) quiet) in
+    record {
+      finds = ap (λ z. z || row_true p t') ef ∙ or_assoc f (is_true (p y)) (row_true p t') ∙ ap (λ z. f || z) (sym found) ∙ k.finds;
+      doubts = ap (λ z. z || row_doubt p t') ed ∙ or_assoc d (is_unknown (p y)) (row_doubt p t') ∙ ap (λ z. d || z) (sym doubt) ∙ k.doubts;
+      quiet = q;
+      costs = omega (arith, cost, w.costs, k.costs);
+    }
+
+pub row_stop : (e : Bool) (p : ItemTruth) (all t t' : Trace) (y : ItemValue) (f d f' d' : Bool) (a b c : ℕ)
+    → RowLeft e p all t f d a b → Draws t (gives y) t' b c → f' ≡ f || is_true (p y) → e && f' ≡ true → RowSeen e p all f' d' a c
+row_stop e p all t t' y f d f' d' a b c k w ef h =
+    let shape = draw_item t t' y b c w in
+    let halts : e && (f || is_true (p y)) ≡ true = ap (λ z. e && z) (sym ef) ∙ h in
+    let found : row_true p t ≡ is_true (p y) || row_true p t' = ap (row_true p) shape ∙ row_true-pay p (fore t) (give y t') in
+    let cost : row_cost e p t ≡ fore t + 0 =
+    ap (row_cost e p) shape ∙ row_cost-pay e p (fore t) (give y t') ∙ ap (λ z. fore t + cond z 0 (row_cost e p t')) (halts_later e f (is_true (p y)) k.quiet halts) in
+    let is : f || is_true (p y) ≡ true = halt_is e f (is_true (p y)) halts in
+    record {
+      finds = ef ∙ is ∙ sym (sym k.finds ∙ ap (λ z. f || z) found ∙ true_then f (is_true (p y)) (row_true p t') is);
+      doubts = λ q. absurd (cc);
+      costs = omega (arith, cost, w.costs, k.costs);
+    }
+
+pub row_end : (e : Bool) (p : ItemTruth) (all t t' : Trace) (f d : Bool) (a b c : ℕ) → RowLeft e p all t f d a b → Draws t ends t' b c → RowSeen e p all f d a c
+row_end e p all t t' f d a b c k w =
+    let shape = draw_end t t' b c w in
+    let found : row_true p t ≡ false = ap (row_true p) shape ∙ row_true-pay p (fore t) stop in
+    let doubt : row_doubt p t ≡ false = ap (row_doubt p) shape ∙ row_doubt-pay p (fore t) stop in
+    let cost : row_cost e p t ≡ fore t + 0 = ap (row_cost e p) shape ∙ row_cost-pay e p (fore t) stop in
+    record {
+      finds = sym (or_false f) ∙ ap (λ z. f || z) (sym found) ∙ k.finds;
+      doubts = λ q. sym (or_false d) ∙ ap (λ z. d || z) (sym doubt) ∙ k.doubts;
+      costs = omega (arith, cost, w.costs, k.costs);
+    }
+
+pub row_fault : (e : Bool) (p : ItemTruth) (all t t' : Trace) (s : State) (f d : Bool) (a b c : ℕ) → RowLeft e p all t f d a b → Draws t (faults s) t' b c → RowSeen e p all f true a c
+row_fault e p all t t' s f d a b c k w =
+    let shape = draw_fault t t' s b c w in
+    let found : row_true p t ≡ false = ap (row_true p) shape ∙ row_true-pay p (fore t) (fail s) in
+    let doubt : row_doubt p t ≡ true = ap (row_doubt p) shape ∙ row_doubt-pay p (fore t) (fail s) in
+    let cost : row_cost e p t ≡ fore t + 0 = ap (row_cost e p) shape ∙ row_cost-pay e p (fore t) (fail s) in
+    record {
+      finds = sym (or_false f) ∙ ap (λ z. f || z) (sym found) ∙ k.finds;
+      doubts = λ q. sym (or_true d) ∙ ap (λ z. d || z) (sym doubt) ∙ k.doubts;
+      costs = omega (arith, cost, w.costs, k.costs);
+    }
+
+-- ---- all rows
+
+rows_true-pay : (p : PairTruth) (n : ℕ) (t r : Trace) → rows_true p (pay n t) r ≡ rows_true p t r
+rows_true-pay p zero t r = refl
+rows_true-pay p (suc n) t r = rows_true-pay p n t r
+
+rows_doubt-pay : (p : PairTruth) (n : ℕ) (t r : Trace) → rows_doubt p (pay n t) r ≡ rows_doubt p t r
+rows_doubt-pay p zero t r = refl
+rows_doubt-pay p (suc n) t r = rows_doubt-pay p n t r
+
+rows_cost-pay : (e : Bool) (p : PairTruth) (n : ℕ) (t r : Trace) → rows_cost e p (pay n t) r ≡ n + rows_cost e p t r
+rows_cost-pay e p zero t r = omega arith
+rows_cost-pay e p (suc n) t r = omega (arith, rows_cost-pay e p n t r)
+
+has_item-pay : (n : ℕ) (t : Trace) → has_item (pay n t) ≡ has_item t
+has_item-pay zero t = refl
+has_item-pay (suc n) t = has_item-pay n t
+
+some_count : (n : ℕ) → nat_lt 0 (suc n) ≡ true
+some_count n = grind (arith, nat_tests)
+
+pub record RowsLeft (e : Bool) (p : PairTruth) (all left right : Trace) (found doubt some : Bool) (a b : ℕ) : Type 0 where
+  pub finds : found || rows_true p left right ≡ rows_true p all right
+  pub doubts : doubt || rows_doubt p left right ≡ rows_doubt p all right
+  pub somes : some || has_item left ≡ has_item all
+  pub quiet : e && found ≡ false
+  pub costs : raised b (rows_cost e p left right) ≤ raised a (rows_cost e p all right)
+
+rows_starts : (e : Bool) (p : PairTruth) (l r : Trace) (a : ℕ) → RowsLeft e p l l r false false false a a
+rows_starts true p l r a = record { finds = refl; doubts = refl; somes = refl; quiet = refl; costs = omega arith }
+rows_starts false p l r a = record { finds = refl; doubts = refl; somes = refl; quiet = refl; costs = omega arith }
+
+pub rows_from : (e : Bool) (p : PairTruth) (l u r : Trace) (a : ℕ) → u ≡ l → RowsLeft e p l u r false false false a a
+rows_from e p l u r a is = rw is (rows_starts e p l r a)
+
+pub rows_item : (e : Bool) (p : PairTruth) (all t t' r : Trace) (x : ItemValue) (f d o f' d' rf rd : Bool) (a b c g : ℕ)
+    → RowsLeft e p all t r f d o a b → Draws t (gives x) t' b c → RowSeen e (p x) r rf rd c g
+    → f' ≡ f || rf → d' ≡ d || rd → e && f' ≡ false → RowsLeft e p all t' r f' d' true a g
+rows_item e p all t t' r x f d o f' d' rf rd a b c g k w s ef ed q =
+    let shape = draw_item t t' x b c w in
+    let quiet : e && (f || rf) ≡ false = ap (λ z. e && z) (sym ef) ∙ q in
+    let later : e && rf ≡ false = quiet_later e f rf quiet in
+    let row : e && row_true (p x) r ≡ false = ap (λ z. e && z) (sym s.finds) ∙ later in
+    let found : rows_true p t r ≡ rf || rows_true p t' r = ap (λ u. rows_true p u r) shape ∙ rows_true-pay p (fore t) (give x t') r ∙ ap (λ z. z || rows_true p t' r) (sym s.finds) in
+    let doubt : rows_doubt p t r ≡ rd || rows_doubt p t' r = ap (λ u. rows_doubt p u r) shape ∙ rows_doubt-pay p (fore t) (give x t') r ∙ ap (λ z. z || rows_doubt p t' r) (sym (s.doubts later)) in
+    let cost : rows_cost e p t r ≡ fore t + (row_cost e (p x) r + rows_cost e p t' r) =
+    ap (λ u. rows_cost e p u r) shape ∙ rows_cost-pay e p (fore t) (give x t') r ∙ ap (λ z. fore t + (row_cost e (p x) r + cond z 0 (rows_cost e p t' r))) row in
+    let some : has_item t ≡ true = ap has_item shape ∙ has_item-pay (fore t) (give x t') ∙ some_count (count t') in
+    record {
+      finds = ap (λ z. z || rows_true p t' r) ef ∙ or_assoc f rf (rows_true p t' r) ∙ ap (λ z. f || z) (sym found) ∙ k.finds;
+      doubts = ap (λ z. z || rows_doubt p t' r) ed ∙ or_assoc d rd (rows_doubt p t' r) ∙ ap (λ z. d || z) (sym doubt) ∙ k.doubts;
+      somes = sym (or_true o) ∙ ap (λ z. o || z) (sym some) ∙ k.somes;
+      quiet = q;
+      costs = omega (arith, cost, w.costs, s.costs, k.costs);
+    }
+
+pub rows_stop : (e : Bool) (p : PairTruth) (all t t' r : Trace) (x : ItemValue) (f d o f' d' o' rf rd : Bool) (a b c g : ℕ)
+    → RowsLeft e p all t r f d o a b → Draws t (gives x) t' b c → RowSeen e (p x) r rf rd c g
+    → f' ≡ f || rf → e && f' ≡ true → RowsSeen e p all r f' d' o' a g
+rows_stop e p all t t' r x f d o f' d' o' rf rd a b c g k w s ef h =
+    let shape = draw_item t t' x b c w in
+    let halts : e && (f || rf) ≡ true = ap (λ z. e && z) (sym ef) ∙ h in
+    let row : e && row_true (p x) r ≡ true = ap (λ z. e && z) (sym s.finds) ∙ halts_later e f rf k.quiet halts in
+    let found : rows_true p t r ≡ rf || rows_true p t' r = ap (λ u. rows_true p u r) shape ∙ rows_true-pay p (fore t) (give x t') r ∙ ap (λ z. z || rows_true p t' r) (sym s.finds) in
+    let cost : rows_cost e p t r ≡ fore t + (row_cost e (p x) r + 0) =
+    ap (λ u. rows_cost e p u r) shape ∙ rows_cost-pay e p (fore t) (give x t') r ∙ ap (λ z. fore t + (row_cost e (p x) r + cond z 0 (rows_cost e p t' r))) row in
+    let is : f || rf ≡ true = halt_is e f rf halts in
+    record {
+      finds = ef ∙ is ∙ sym (sym k.finds ∙ ap (λ z. f || z) found ∙ true_then f rf (rows_true p t' r) is);
+      doubts = λ q. absurd (cc);
+      somes = λ q. absurd (cc);
+      costs = omega (arith, cost, w.costs, s.costs, k.costs);
+    }
+
+pub rows_end : (e : Bool) (p : PairTruth) (all t t' r : Trace) (f d o : Bool) (a b c : ℕ) → RowsLeft e p all t r f d o a b → Draws t ends t' b c → RowsSeen e p all r f d o a c
+rows_end e p all t t' r f d o a b c k w =
+    let shape = draw_end t t' b c w in
+    let found : rows_true p t r ≡ false = ap (λ u. rows_true p u r) shape ∙ rows_true-pay p (fore t) stop r in
+    let doubt : rows_doubt p t r ≡ false = ap (λ u. rows_doubt p u r) shape ∙ rows_doubt-pay p (fore t) stop r in
+    let some : has_item t ≡ false = ap has_item shape ∙ has_item-pay (fore t) stop in
+    let cost : rows_cost e p t r ≡ fore t + 0 = ap (λ u. rows_cost e p u r) shape ∙ rows_cost-pay e p (fore t) stop r in
+    record {
+      finds = sym (or_false f) ∙ ap (λ z. f || z) (sym found) ∙ k.finds;
+      doubts = λ q. sym (or_false d) ∙ ap (λ z. d || z) (sym doubt) ∙ k.doubts;
+      somes = λ q. sym (or_false o) ∙ ap (λ z. o || z) (sym some) ∙ k.somes;
+      costs = omega (arith, cost, w.costs, k.costs);
+    }
+
+pub rows_fault : (e : Bool) (p : PairTruth) (all t t' r : Trace) (s : State) (f d o : Bool) (a b c : ℕ) → RowsLeft e p all t r f d o a b → Draws t (faults s) t' b c → RowsSeen e p all r f true o a c
+rows_fault e p all t t' r s f d o a b c k w =
+    let shape = draw_fault t t' s b c w in
+    let found : rows_true p t r ≡ false = ap (λ u. rows_true p u r) shape ∙ rows_true-pay p (fore t) (fail s) r in
+    let doubt : rows_doubt p t r ≡ true = ap (λ u. rows_doubt p u r) shape ∙ rows_doubt-pay p (fore t) (fail s) r in
+    let some : has_item t ≡ false = ap has_item shape ∙ has_item-pay (fore t) (fail s) in
+    let cost : rows_cost e p t r ≡ fore t + 0 = ap (λ u. rows_cost e p u r) shape ∙ rows_cost-pay e p (fore t) (fail s) r in
+    record {
+      finds = sym (or_false f) ∙ ap (λ z. f || z) (sym found) ∙ k.finds;
+      doubts = λ q. sym (or_true d) ∙ ap (λ z. d || z) (sym doubt) ∙ k.doubts;
+      somes = λ q. sym (or_false o) ∙ ap (λ z. o || z) (sym some) ∙ k.somes;
+      costs = omega (arith, cost, w.costs, k.costs);
+    }

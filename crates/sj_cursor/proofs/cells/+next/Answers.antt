@@ -1,0 +1,255 @@
+use Rattle.std.proofs.Common.{rules, ◌≡◌, ℕ, ◌+◌, ap, ◌∙◌, sym, refl, arith}
+use Rattle.sj_path.specs.Nodes.{expr_nodes, sub_nodes, subs_nodes, pred_nodes}
+use Rattle.sj_item.specs.Items.{pull_value}
+use Rattle.sj_step.specs.Trace.{count}
+use Rattle.sj_cursor.specs.Left.{core, left, doing, doing_on, doing_nodes, operand_core, operand_left, each_core, binary_core, comparison_core, parts_core, bounds_core, doing_opening, done}
+use Rattle.sj_cursor.specs.declared.cells.Opening.TheVariants.{Unwrapped}
+use Rattle.sj_cursor.proofs.Draws.{draws_after, draws_takes, join_answer, join_over, nears_none, loop_answer, turn_near, turn_answer, count_draws, nears_trans}
+use Rattle.sj_cursor.proofs.Pulls.{no_end, no_item}
+use Rattle.sj_cursor.proofs.Looks.{looking_from, looking_on, looking_enough, looking_end, looking_fault, exists_decides, single_answer, single_price, end_answer, end_price}
+use Rattle.sj_cursor.proofs.Pairs.{row_from, row_item, row_stop, row_end, row_fault, rows_from, rows_item, rows_stop, rows_end, rows_fault}
+use Rattle.sj_cursor.proofs.Decided.{compare_early, compare_all, one_early, one_all}
+use Rattle.sj_cursor.proofs.Doings.{as_it_is, doing_below, sub_some, subs_some}
+use Rattle.sj_cursor.proofs.Parts.{element_goes, range_bad, range_goes, binary_bad, binary_goes}
+use Rattle.sj_cursor.proofs.Connectives.{and_false, and_other, or_true, or_other, not_decides, unknown_decides, filter_keeps}
+use Rattle.sj_cursor.proofs.cells.+next.Goals as goal
+
+-- ---- the items of an expression, opened
+
+pub Operand::next-returns-in_default : goal.Operand::next-returns-in_default
+Operand::next-returns-in_default g t c = record {
+  answers = loop_answer _ _ _ _ _ _ _ _ c.items.invariant.near (no_end _ c.in_default.not-End) (draws_takes _ _ _ _ _ c.next.ensures);
+  same = c.items.invariant.same;
+}
+
+pub Operand::next-items-smaller : goal.Operand::next-items-smaller
+Operand::next-items-smaller g t c = count_draws _ _ _ _ _ (rw c.deref_mut.ensures.value at c.in-Item.ensures.answers)
+
+pub Operand::next-items-preserved : goal.Operand::next-items-preserved
+Operand::next-items-preserved g t c = record {
+  same = c.in-Item.ensures.same ∙ ap core c.deref_mut.ensures.value ∙ c.items.invariant.same;
+  near = rw c.open-self.ensures (turn_near _ _ _ _ _ _ _ _ _ _ _ _ _ c.items.invariant.near (draws_takes _ _ _ _ _ c.in-End.ensures) (rw c.deref_mut.ensures.value at c.in-Item.ensures.answers) (nears_none _ _));
+}
+
+pub Operand::next-returns-in_default-next : goal.Operand::next-returns-in_default-next
+Operand::next-returns-in_default-next g t c = record {
+  answers = turn_answer _ _ _ _ _ _ _ _ _ _ _ c.items.invariant.near (draws_takes _ _ _ _ _ c.in-End.ensures) (no_item _ c.in_default-next.not-Item) (rw c.deref_mut.ensures.value at c.next-in-items.ensures.answers);
+  same = c.next-in-items.ensures.same ∙ ap core c.deref_mut.ensures.value ∙ c.items.invariant.same;
+}
+
+-- ---- going through all items
+
+pub Operand::look-looking-init : goal.Operand::look-looking-init
+Operand::look-looking-init g t c = record {
+  same = c.rewind.ensures.same;
+  looking = looking_from _ _ _ _ (c.rewind.ensures.whole _ _);
+}
+
+pub Operand::look-returns-then-is_enough-clause-finds : goal.Operand::look-returns-then-is_enough-clause-finds
+Operand::look-returns-then-is_enough-clause-finds g t c =
+    looking_enough _ _ _ _ _ _ _ _ _ _ c.looking.invariant.looking c.in-Item.ensures.answers c.more-found.ensures (sym c.is_enough.ensures ∙ c.if-is_enough.true)
+
+pub Operand::look-looking-smaller : goal.Operand::look-looking-smaller
+Operand::look-looking-smaller g t c = count_draws _ _ _ _ _ c.in-Item.ensures.answers
+
+pub Operand::look-looking-preserved : goal.Operand::look-looking-preserved
+Operand::look-looking-preserved g t c = record {
+  same = c.in-Item.ensures.same ∙ c.looking.invariant.same;
+  looking = looking_on _ _ _ _ _ _ _ _ _ _ c.looking.invariant.looking c.in-Item.ensures.answers c.more-found.ensures (sym c.is_enough.ensures ∙ c.if-is_enough.false);
+}
+
+pub Operand::look-returns-in-End-clause-finds : goal.Operand::look-returns-in-End-clause-finds
+Operand::look-returns-in-End-clause-finds g t c = looking_end _ _ _ _ _ _ _ _ c.looking.invariant.looking c.in-End.ensures.answers
+
+pub Operand::look-returns-in-Fault-clause-finds : goal.Operand::look-returns-in-Fault-clause-finds
+Operand::look-returns-in-Fault-clause-finds g t c = looking_fault _ _ _ _ _ _ _ _ _ c.looking.invariant.looking c.in-Fault.ensures.answers
+
+pub Operand::number-returns-clause-answers : goal.Operand::number-returns-clause-answers
+Operand::number-returns-clause-answers g t c = c.operand.ensures ∙ ap Rattle.sj_cursor.specs.Numbers.operand_in (single_answer _ _ _ _ _ _ (rw c.of_single.ensures at c.look.ensures.finds))
+
+pub Operand::number-returns-clause-costs : goal.Operand::number-returns-clause-costs
+Operand::number-returns-clause-costs g t c = single_price _ _ _ _ _ (rw c.of_single.ensures at c.look.ensures.finds)
+
+pub Operand::index-returns-clause-answers : goal.Operand::index-returns-clause-answers
+Operand::index-returns-clause-answers g t c = c.subscript.ensures ∙ ap Rattle.sj_cursor.specs.Numbers.subscript_in (single_answer _ _ _ _ _ _ (rw c.of_single.ensures at c.look.ensures.finds))
+
+pub Operand::index-returns-clause-costs : goal.Operand::index-returns-clause-costs
+Operand::index-returns-clause-costs g t c = single_price _ _ _ _ _ (rw c.of_single.ensures at c.look.ensures.finds)
+
+pub Operand::exists-returns-clause-decides : goal.Operand::exists-returns-clause-decides
+Operand::exists-returns-clause-decides g t c = exists_decides _ _ _ _ _ _ (rw (c.of_exists.ensures, as_it_is _ _) at c.look.ensures.finds) c.exists.ensures
+
+-- ---- pairs
+
+pub Operand::see_row-row-init : goal.Operand::see_row-row-init
+Operand::see_row-row-init g t c = record { same = c.rewind.ensures.same; row = row_from _ _ _ _ _ (c.rewind.ensures.whole Unwrapped _) }
+
+pub Operand::see_row-returns-then-halts-clause-seen : goal.Operand::see_row-returns-then-halts-clause-seen
+Operand::see_row-returns-then-halts-clause-seen g t c =
+    row_stop _ _ _ _ _ _ _ _ _ _ _ _ _ c.row.invariant.row c.in-Item.ensures.answers (rw c.truth.ensures at c.saw-row.ensures.found) (sym c.halts.ensures ∙ c.if-halts.true)
+
+pub Operand::see_row-row-smaller : goal.Operand::see_row-row-smaller
+Operand::see_row-row-smaller g t c = count_draws _ _ _ _ _ c.in-Item.ensures.answers
+
+pub Operand::see_row-row-preserved : goal.Operand::see_row-row-preserved
+Operand::see_row-row-preserved g t c = record {
+  same = c.in-Item.ensures.same ∙ c.row.invariant.same;
+  row = row_item _ _ _ _ _ _ _ _ _ _ _ _ _ c.row.invariant.row c.in-Item.ensures.answers (rw c.truth.ensures at c.saw-row.ensures.found) (rw c.truth.ensures at c.saw-row.ensures.doubt) (sym c.halts.ensures ∙ c.if-halts.false);
+}
+
+pub Operand::see_row-returns-in-End-clause-seen : goal.Operand::see_row-returns-in-End-clause-seen
+Operand::see_row-returns-in-End-clause-seen g t c = row_end _ _ _ _ _ _ _ _ _ _ c.row.invariant.row c.in-End.ensures.answers
+
+pub Operand::see_row-returns-in-Fault-clause-seen : goal.Operand::see_row-returns-in-Fault-clause-seen
+Operand::see_row-returns-in-Fault-clause-seen g t c = row_fault _ _ _ _ _ _ _ _ _ _ _ c.row.invariant.row c.in-Fault.ensures.answers
+
+pub Comparison::see_rows-rows-init : goal.Comparison::see_rows-rows-init
+Comparison::see_rows-rows-init g t c = record {
+  same = ap (λ k. Rattle.sj_grammar.specs.Tree.Compares c.args.self.now.op k (operand_core c.args.self.now.right)) c.rewind.ensures.same;
+  op = refl;
+  rows = rows_from _ _ _ _ _ _ (c.rewind.ensures.whole Unwrapped _);
+}
+
+pub Comparison::see_rows-rows-smaller : goal.Comparison::see_rows-rows-smaller
+Comparison::see_rows-rows-smaller g t c = count_draws _ _ _ _ _ c.in-Item.ensures.answers
+
+pub Comparison::see_rows-rows-preserved : goal.Comparison::see_rows-rows-preserved
+Comparison::see_rows-rows-preserved g t c =
+    let right : operand_core c.rows.self.right ≡ operand_core c.args.self.now.right = cc c.rows.invariant.same in
+    record {
+      same = ap (λ k. Rattle.sj_grammar.specs.Tree.Compares c.rows.self.op k (operand_core c.see_row.new.self)) c.in-Item.ensures.same
+          ∙ ap (λ k. Rattle.sj_grammar.specs.Tree.Compares c.rows.self.op (operand_core c.rows.self.left) k) c.see_row.ensures.same
+          ∙ c.rows.invariant.same;
+      op = c.rows.invariant.op;
+      rows = rw c.saw-rows.ensures.some (rows_item _ _ _ _ _ _ _ _ _ _ _ _ _ _ _ _ _ _ c.rows.invariant.rows c.in-Item.ensures.answers
+          (rw (right, c.rows.invariant.op) at c.see_row.ensures.seen) c.saw-rows.ensures.found c.saw-rows.ensures.doubt (sym c.halts.ensures ∙ c.if-halts.false));
+    }
+
+pub Comparison::see_rows-returns-then-halts-clause-seen : goal.Comparison::see_rows-returns-then-halts-clause-seen
+Comparison::see_rows-returns-then-halts-clause-seen g t c =
+    let right : operand_core c.rows.self.right ≡ operand_core c.args.self.now.right = cc c.rows.invariant.same in
+    rows_stop _ _ _ _ _ _ _ _ _ _ _ _ _ _ _ _ _ _ _ c.rows.invariant.rows c.in-Item.ensures.answers
+    (rw (right, c.rows.invariant.op) at c.see_row.ensures.seen) c.saw-rows.ensures.found (sym c.halts.ensures ∙ c.if-halts.true)
+
+pub Comparison::see_rows-returns-in-End-clause-seen : goal.Comparison::see_rows-returns-in-End-clause-seen
+Comparison::see_rows-returns-in-End-clause-seen g t c = rows_end _ _ _ _ _ _ _ _ _ _ _ _ c.rows.invariant.rows c.in-End.ensures.answers
+
+pub Comparison::see_rows-returns-in-Fault-clause-seen : goal.Comparison::see_rows-returns-in-Fault-clause-seen
+Comparison::see_rows-returns-in-Fault-clause-seen g t c = rows_fault _ _ _ _ _ _ _ _ _ _ _ _ _ c.rows.invariant.rows c.in-Fault.ensures.answers
+
+pub Comparison::asks_right-returns-clause-asked : goal.Comparison::asks_right-returns-clause-asked
+Comparison::asks_right-returns-clause-asked g t c = rw c.if-some.false (record {
+  answers = c.is_some.ensures ∙ end_answer _ _ _ _ c.look.ensures.finds;
+  costs = end_price _ _ _ _ c.look.ensures.finds;
+})
+
+pub Comparison::holds-returns-then-halts-clause-decides : goal.Comparison::holds-returns-then-halts-clause-decides
+Comparison::holds-returns-then-halts-clause-decides g t c =
+    compare_early _ _ _ _ _ _ _ _ _ (rw c.is_early-early.ensures at c.see_rows-rows.ensures.seen) (rw c.is_early-early.ensures at (sym c.halts.ensures ∙ c.if-halts.true))
+
+pub Comparison::holds-returns-clause-decides : goal.Comparison::holds-returns-clause-decides
+Comparison::holds-returns-clause-decides g t c =
+    let right : operand_core c.see_rows-rows.new.self.right ≡ operand_core c.args.self.now.right = cc c.see_rows-rows.ensures.same in
+    rw c.truth.ensures (compare_all _ _ _ _ _ _ _ _ _ _ _ (rw c.is_early-early.ensures at c.see_rows-rows.ensures.seen) (rw c.is_early-early.ensures at (sym c.halts.ensures ∙ c.if-halts.false)) (rw right at c.asks_right-faulty.ensures.asked))
+
+pub Start::holds-returns-then-halts-clause-decides : goal.Start::holds-returns-then-halts-clause-decides
+Start::holds-returns-then-halts-clause-decides g t c =
+    rw (← c.initial_item.ensures) (one_early _ _ _ _ _ _ _ _ (rw c.is_early-early.ensures at c.see_row-row.ensures.seen) (rw c.is_early-early.ensures at (sym c.halts.ensures ∙ c.if-halts.true)))
+
+pub Start::holds-returns-clause-decides : goal.Start::holds-returns-clause-decides
+Start::holds-returns-clause-decides g t c =
+    rw (c.truth.ensures, ← c.initial_item.ensures) (one_all _ _ _ _ _ _ _ _ (rw c.is_early-early.ensures at c.see_row-row.ensures.seen) (rw c.is_early-early.ensures at (sym c.halts.ensures ∙ c.if-halts.false)))
+
+-- ---- connectives and filters
+
+pub Both::and-returns-in-False-clause-decides : goal.Both::and-returns-in-False-clause-decides
+Both::and-returns-in-False-clause-decides g t c = and_false _ _ _ _ (rw c.deref_mut.ensures.value at c.in-False.ensures.decides)
+
+pub Both::and-returns-in_default : goal.Both::and-returns-in_default
+Both::and-returns-in_default g t c = record {
+  decides = rw c.and.ensures (and_other _ _ _ _ _ _ _ c.in_default.not-False (rw c.deref_mut.ensures.value at c.holds-left.ensures.decides) (rw c.deref_mut-in_default.ensures.value at c.holds.ensures.decides));
+  same = ap (λ k. Rattle.sj_grammar.specs.Tree.And k (Rattle.sj_cursor.specs.Left.test_core c.holds.new.self)) (c.holds-left.ensures.same ∙ ap Rattle.sj_cursor.specs.Left.test_core c.deref_mut.ensures.value)
+      ∙ ap (λ k. Rattle.sj_grammar.specs.Tree.And (Rattle.sj_cursor.specs.Left.test_core c.args.self.now.left.value) k) (c.holds.ensures.same ∙ ap Rattle.sj_cursor.specs.Left.test_core c.deref_mut-in_default.ensures.value);
+}
+
+pub Both::or-returns-in-True-clause-decides : goal.Both::or-returns-in-True-clause-decides
+Both::or-returns-in-True-clause-decides g t c = or_true _ _ _ _ (rw c.deref_mut.ensures.value at c.in-True.ensures.decides)
+
+pub Both::or-returns-in_default : goal.Both::or-returns-in_default
+Both::or-returns-in_default g t c = record {
+  decides = rw c.or.ensures (or_other _ _ _ _ _ _ _ c.in_default.not-True (rw c.deref_mut.ensures.value at c.holds-left.ensures.decides) (rw c.deref_mut-in_default.ensures.value at c.holds.ensures.decides));
+  same = ap (λ k. Rattle.sj_grammar.specs.Tree.Or k (Rattle.sj_cursor.specs.Left.test_core c.holds.new.self)) (c.holds-left.ensures.same ∙ ap Rattle.sj_cursor.specs.Left.test_core c.deref_mut.ensures.value)
+      ∙ ap (λ k. Rattle.sj_grammar.specs.Tree.Or (Rattle.sj_cursor.specs.Left.test_core c.args.self.now.left.value) k) (c.holds.ensures.same ∙ ap Rattle.sj_cursor.specs.Left.test_core c.deref_mut-in_default.ensures.value);
+}
+
+pub Test::holds-returns-in-Not-clause-decides : goal.Test::holds-returns-in-Not-clause-decides
+Test::holds-returns-in-Not-clause-decides g t c = rw (c.in-Not.is, c.not.ensures) (not_decides _ _ _ _ (rw c.deref_mut.ensures.value at c.holds-in-Not.ensures.decides))
+
+pub Test::holds-returns-in-IsUnknown-clause-decides : goal.Test::holds-returns-in-IsUnknown-clause-decides
+Test::holds-returns-in-IsUnknown-clause-decides g t c = rw (c.in-IsUnknown.is, c.is_unknown.ensures) (unknown_decides _ _ _ _ (rw c.deref_mut-in-IsUnknown.ensures.value at c.holds-in-IsUnknown.ensures.decides))
+
+pub Filter::start-returns-clause-starts : goal.Filter::start-returns-clause-starts
+Filter::start-returns-clause-starts g t c = rw c.kept_item-self.ensures (filter_keeps _ _ _ _ _ (rw (c.at_item-inner.ensures, c.deref_mut.ensures.value) at c.holds-truth.ensures.decides))
+
+-- ---- what is done with each item
+
+pub Each::next-returns-in_default : goal.Each::next-returns-in_default
+Each::next-returns-in_default g t c = rw c.next.ensures.same (record {
+  answers = loop_answer _ _ _ _ _ _ _ _ c.items.invariant.near (no_end _ c.in_default.not-End) c.next.ensures.answers;
+  same = c.items.invariant.same;
+})
+
+pub Each::next-items-smaller : goal.Each::next-items-smaller
+Each::next-items-smaller g t c = rw (c.start.ensures.same, c.in-End.ensures.same) (count_draws _ _ _ _ _ (rw (c.opening.ensures, c.in-End.ensures.same) at c.in-Item.ensures.answers))
+
+pub Each::next-items-preserved : goal.Each::next-items-preserved
+Each::next-items-preserved g t c = rw (c.start.ensures.same, c.in-End.ensures.same) (record {
+  same = ap (doing_on (doing c.items.self.deed)) c.in-Item.ensures.same ∙ c.items.invariant.same;
+  near = turn_near _ _ _ _ _ _ _ _ _ _ _ _ _ c.items.invariant.near c.in-End.ensures.answers (rw (c.opening.ensures, c.in-End.ensures.same) at c.in-Item.ensures.answers) (rw c.in-End.ensures.same at c.start.ensures.starts);
+})
+
+pub Each::next-returns-in_default-next : goal.Each::next-returns-in_default-next
+Each::next-returns-in_default-next g t c = rw c.in-End.ensures.same (record {
+  answers = turn_answer _ _ _ _ _ _ _ _ _ _ _ c.items.invariant.near c.in-End.ensures.answers (no_item _ c.in_default-next.not-Item) (rw (c.opening.ensures, c.in-End.ensures.same) at c.next-in-items.ensures.answers);
+  same = ap (doing_on (doing c.items.self.deed)) c.next-in-items.ensures.same ∙ c.items.invariant.same;
+})
+
+-- ---- subscripts
+
+pub MoreParts::next-returns-in-End-clause-answers : goal.MoreParts::next-returns-in-End-clause-answers
+MoreParts::next-returns-in-End-clause-answers g t c = join_over _ _ _ _ _ _ _ _ c.in-End.ensures.answers (rw c.deref_mut.ensures.value at c.next-in-End.ensures.answers)
+
+pub MoreParts::next-returns-in_default : goal.MoreParts::next-returns-in_default
+MoreParts::next-returns-in_default g t c = record {
+  answers = join_answer _ _ _ _ _ _ (no_end _ c.in_default.not-End) c.next.ensures.answers;
+  same = ap (λ k. Rattle.sj_grammar.specs.Tree.More k (parts_core c.args.self.now.others.value)) c.next.ensures.same;
+}
+
+pub Part::next-returns-in-Unasked-clause-answers : goal.Part::next-returns-in-Unasked-clause-answers
+Part::next-returns-in-Unasked-clause-answers g t c = rw c.in-Unasked.is (draws_after _ _ _ _ _ _ _ c.start-walk.ensures.starts (draws_takes _ _ _ _ _ c.next-answer.ensures))
+
+pub Operand::element-returns-clause-starts : goal.Operand::element-returns-clause-starts
+Operand::element-returns-clause-starts g t c = rw c.element_at.ensures (element_goes _ _ _ _ _ _ (rw (as_it_is _ _) at c.index-index.ensures.answers) (rw (as_it_is _ _) at c.index-index.ensures.costs))
+
+pub Range::start-returns-in-Ok-clause-starts : goal.Range::start-returns-in-Ok-clause-starts
+Range::start-returns-in-Ok-clause-starts g t c = rw c.range_between.ensures (range_goes _ _ _ _ _ _ _ _ _ _ c.in-Ok.is (rw (as_it_is _ _) at c.index-from.ensures.answers) (rw (as_it_is _ _) at c.index-from.ensures.costs) (rw (as_it_is _ _) at c.index-to.ensures.answers) (rw (as_it_is _ _) at c.index-to.ensures.costs))
+
+pub Range::start-returns-in-Err-clause-starts : goal.Range::start-returns-in-Err-clause-starts
+Range::start-returns-in-Err-clause-starts g t c = rw c.of_fault.ensures (range_bad _ _ _ _ _ _ _ (rw (as_it_is _ _) at c.in-Err.ensures.answers) (rw (as_it_is _ _) at c.in-Err.ensures.costs))
+
+-- ---- arithmetic
+
+pub Binary::start-returns-in-Ok-clause-starts : goal.Binary::start-returns-in-Ok-clause-starts
+Binary::start-returns-in-Ok-clause-starts g t c = rw c.computed.ensures (binary_goes _ _ _ _ _ _ _ _ _ c.in-Ok.ensures.answers c.in-Ok.ensures.costs c.number-right.ensures.answers c.number-right.ensures.costs)
+
+pub Binary::start-returns-in-Err-clause-starts : goal.Binary::start-returns-in-Err-clause-starts
+Binary::start-returns-in-Err-clause-starts g t c = rw c.of_fault.ensures (binary_bad _ _ _ _ _ _ _ c.in-Err.ensures.answers c.in-Err.ensures.costs)
+
+pub Binary::next-returns-in-Unasked-clause-answers : goal.Binary::next-returns-in-Unasked-clause-answers
+Binary::next-returns-in-Unasked-clause-answers g t c = rw c.in-Unasked.is (draws_after _ _ _ _ _ _ _ c.start-walk.ensures.starts (draws_takes _ _ _ _ _ c.next-answer.ensures))
+
+pub MoreParts::next-next-requires : goal.MoreParts::next-next-requires
+MoreParts::next-next-requires g t c = λ κs l. (omega (arith, subs_some (parts_core c.args.self.now.others.value)), search rules)
+
+pub MoreParts::next-next-requires-in-End : goal.MoreParts::next-next-requires-in-End
+MoreParts::next-next-requires-in-End g t c = rw c.deref_mut.ensures.value (λ κs l. (omega (arith, sub_some (bounds_core c.args.self.now.first.bounds)), search rules))

@@ -1,0 +1,10 @@
+use Rattle.std.proofs.Common.{ap, ◌∙◌}
+use Rattle.sj_step.specs.Trace.{each, join, stop}
+use Rattle.sj_cursor.specs.Left.{doing, done, doing_opening, doing_on, operand_left, operand_core}
+use Rattle.sj_cursor.proofs.Doings.{doing_is}
+use Rattle.sj_cursor.proofs.cells.+rewind.Goals as goal
+
+pub Each::rewind-returns-clause-whole : goal.Each::rewind-returns-clause-whole
+Each::rewind-returns-clause-whole t c = λ env.
+    rw (c.clear.ensures.clear, c.clear.ensures.same, c.rewind.ensures.whole (doing_opening (doing c.args.self.now.deed)) env)
+    (doing_is (doing c.args.self.now.deed) (operand_core c.args.self.now.input) env)

@@ -1,0 +1,114 @@
+-- What cells are of, and what they have left.
+use Rattle.std.specs.Prelude.{ℕ, ◌+◌, Bool, true, false, if◌then◌else◌, Option, Some, None}
+use Rattle.sj_base.specs.declared.state.State.TheVariants.{S22039}
+use Rattle.sj_grammar.specs.declared.tree.Mode.{Mode}
+use Rattle.sj_grammar.specs.declared.tree.Mode.TheVariants.{Lax, Strict}
+use Rattle.sj_grammar.specs.declared.tree.Method.{Method}
+use Rattle.sj_grammar.specs.declared.tree.Method.TheVariants as methods
+use Rattle.sj_grammar.specs.Tree as t
+use Rattle.sj_item.specs.Items.{ItemValue, item_value, made_number}
+use Rattle.sj_item.specs.Truths.{truth_of}
+use Rattle.sj_item.specs.Pairs.{items_compare, item_starts_with}
+use Rattle.sj_item.specs.declared.item.Item.{Item}
+use Rattle.sj_item.specs.declared.truth.Truth.{Truth}
+use Rattle.sj_item.specs.declared.truth.Truth.TheVariants.{Unknown}
+use Rattle.sj_path.specs.Nodes.{expr_nodes, step_nodes, subs_nodes, sub_nodes, pred_nodes}
+use Rattle.sj_step.specs.Trace.{Trace, stop, fail, only, join, each}
+use Rattle.sj_step.specs.Reach.{reach, by_key, all_members, all_elements, unwrap, last}
+use Rattle.sj_step.specs.Walk.{walk_left}
+use Rattle.sj_method.specs.Methods.{method_of, sign_of}
+use Rattle.sj_method.specs.Pairs.{pairs_left}
+use Rattle.sj_cursor.specs.Meaning.{Env, at_item, at_last, literal_value, variable, where_array, meaning, parts, part, verdict}
+use Rattle.sj_cursor.specs.Verdicts.{filtered}
+use Rattle.sj_cursor.specs.Rows.{ItemTruth}
+use Rattle.sj_cursor.specs.declared.env.Env.{Env as EnvHeld}
+use Rattle.sj_cursor.specs.declared.row.Beside.{Beside}
+use Rattle.sj_cursor.specs.declared.row.Beside.TheVariants as besides
+use Rattle.sj_cursor.specs.declared.cells.Source.{Source}
+use Rattle.sj_cursor.specs.declared.cells.Source.TheVariants as sources
+use Rattle.sj_cursor.specs.declared.cells.One.{One as OneCell}
+use Rattle.sj_cursor.specs.declared.cells.Opening.{Opening}
+use Rattle.sj_cursor.specs.declared.cells.Opening.TheVariants.{AsItIs, Unwrapped}
+use Rattle.sj_cursor.specs.declared.cells.Act.{Act}
+use Rattle.sj_cursor.specs.declared.cells.Act.TheVariants as acts
+use Rattle.sj_cursor.specs.declared.cells.Acted.{Acted}
+use Rattle.sj_cursor.specs.declared.cells.Acted.TheVariants as acteds
+
+-- where an expression is evaluated
+abbrev pub env_value : EnvHeld → Env
+env_value e = record { mode = e.mode; vars = e.vars.now; root = item_value e.root; context = item_value e.context; last = e.last }
+
+-- ---- one item
+
+abbrev pub source_value : Source → Env → ItemValue
+source_value sources.Root env = env.root
+source_value sources.Context env = env.context
+source_value sources.Last env = made_number (env.last, 0)
+source_value (sources.Lit l) env = literal_value l.now
+source_value (sources.Var name) env = variable env name.now
+
+abbrev pub source_expr : Source → t.Expr
+source_expr sources.Root = t.Root
+source_expr sources.Context = t.Context
+source_expr sources.Last = t.Last
+source_expr (sources.Lit l) = t.Lit l.now
+source_expr (sources.Var name) = t.Var name.now
+
+abbrev pub one_left : OneCell → Env → Trace
+one_left o env = if o.given then stop else only (source_value o.source env)
+
+-- ---- pairs
+
+abbrev pub is_lax : Mode → Bool
+is_lax Lax = true
+is_lax Strict = false
+
+abbrev pub beside_truth : Beside → ItemTruth
+beside_truth (besides.Left op x) = items_compare op (item_value x)
+beside_truth (besides.Initial i) = λ x. item_starts_with x (item_value i)
+
+-- the truth where a true pair was found or not, and a doubt
+abbrev pub decided_truth : Bool → Bool → Truth
+decided_truth found doubt = if doubt then Unknown else truth_of found
+
+-- ---- acts
+
+abbrev pub opened : Opening → Mode → ItemValue → Trace
+opened AsItIs mode x = only x
+opened Unwrapped mode x = unwrap mode x
+
+abbrev pub acted : Act → Mode → ItemValue → Trace
+acted (acts.Member key) mode x = reach (by_key key.now) mode x
+acted acts.AllMembers mode x = reach all_members mode x
+acted acts.AllElements mode x = reach all_elements mode x
+acted acts.Plus mode x = sign_of false x
+acted acts.Minus mode x = sign_of true x
+acted (acts.Method m) mode x = method_of m x
+
+abbrev pub method_opening : Method → Opening
+method_opening methods.TypeOf = AsItIs
+method_opening methods.Size = AsItIs
+method_opening methods.Ceiling = Unwrapped
+method_opening methods.Floor = Unwrapped
+method_opening methods.Abs = Unwrapped
+method_opening methods.KeyValue = Unwrapped
+
+abbrev pub act_opening : Act → Opening
+act_opening (acts.Member key) = Unwrapped
+act_opening acts.AllMembers = Unwrapped
+act_opening acts.AllElements = AsItIs
+act_opening acts.Plus = Unwrapped
+act_opening acts.Minus = Unwrapped
+act_opening (acts.Method m) = method_opening m
+
+abbrev pub act_on : Act → t.Expr → t.Expr
+act_on (acts.Member key) e = t.Access e (t.Member key.now)
+act_on acts.AllMembers e = t.Access e t.AllMembers
+act_on acts.AllElements e = t.Access e t.AllElements
+act_on acts.Plus e = t.Plus e
+act_on acts.Minus e = t.Minus e
+act_on (acts.Method m) e = t.Access e (t.Call m)
+
+abbrev pub acted_left : Acted → Trace
+acted_left (acteds.Walk w) = walk_left w
+acted_left (acteds.Pairs w) = pairs_left w

@@ -1,0 +1,27 @@
+-- What a cursor is seen as: a path with its variables, a root, and the trace that is left.
+use Rattle.std.specs.Prelude.{◌≡◌, ℕ, List, refl, pos}
+use Rattle.std.specs.Coded.{Coded, code_by, coded×, coded_ℕ, coded_list}
+use Rattle.sj_grammar.specs.contracts.tree.Literal as literal
+use Rattle.sj_grammar.specs.declared.tree.Mode.{Mode}
+use Rattle.sj_item.specs.Items.{ItemValue, item_value}
+use Rattle.sj_item.specs.Coding.{item_code}
+use Rattle.sj_path.specs.Tree.{path_of, expr_of}
+use Rattle.sj_path.specs.declared.tree.Path.{Path}
+use Rattle.sj_path.specs.contracts.tree.Path as path
+use Rattle.sj_step.specs.Trace.{Trace}
+use Rattle.sj_step.specs.Coding.{trace_code}
+use Rattle.sj_cursor.specs.Meaning.{Env, Variables, start_env}
+
+pub record Sequel : Type 0 where
+  pub path : Path
+  pub vars : Variables
+  pub root : ItemValue
+  pub left : Trace
+
+abbrev pub variables_code : Coded Variables
+variables_code = coded_list (coded× (coded_list coded_ℕ) literal.the_row.coded)
+
+abbrev pub sequel_code : Coded Sequel
+sequel_code =
+    code_by (Path × (Variables × (ItemValue × Trace))) (coded× path.the_row.coded (coded× variables_code (coded× item_code trace_code)))
+    (λ s. (s.path, (s.vars, (s.root, s.left)))) (λ p. record { path = p.0; vars = p.1.0; root = p.1.1.0; left = p.1.1.1 }) (λ _. refl)

@@ -1,0 +1,102 @@
+// What is done with an item without asking a cell.
+ghost use Rattle.std.specs.Prelude.{◌≡◌};
+ghost use Rattle.sj_base.specs.Outside.{raised};
+ghost use Rattle.sj_item.specs.Items.{item_value, pull_value};
+ghost use Rattle.sj_step.specs.Takes.{Takes};
+ghost use Rattle.sj_step.specs.Trace.{stop};
+ghost use Rattle.sj_step.specs.Walk.{walk_left};
+ghost use Rattle.sj_method.specs.Methods.{outcome, method_of, sign_of};
+ghost use Rattle.sj_method.specs.Pairs.{key_values, pair_pull};
+ghost use Rattle.sj_cursor.specs.Cells.{acted, acted_left, act_opening};
+
+use crate::cells::{Act, Acted, Acting, Opening};
+use sj_base::{Ledger, State, Steps};
+use sj_item::{Item, Pair, Pull};
+use sj_method::{apply, pairs, sign};
+use sj_path::{Method, Mode};
+use sj_step::{Reach, Walk};
+
+impl<'d> Act<'d> {
+    /// Whether the items are unwrapped before.
+    pub(crate) fn opening(self) -> Opening
+        ensures { result ≡ act_opening self.entry }
+    {
+        match self {
+            Act::AllElements | Act::Method(Method::TypeOf | Method::Size) => Opening::AsItIs,
+            _ => Opening::Unwrapped,
+        }
+    }
+
+    /// What the act gives of an item.
+    #[tactic(auto, unfolding(sj_method::specs::Methods::method_of))]
+    fn start(self, mode: Mode, item: Item<'d>) -> Acted<'d>
+        ensures { acted_left result ≡ acted self.entry mode (item_value item.entry) }
+    {
+        match self {
+            Act::Member(key) => Acted::Walk(Walk::start(Reach::Member(key), item, mode)),
+            Act::AllMembers => Acted::Walk(Walk::start(Reach::AllMembers, item, mode)),
+            Act::AllElements => Acted::Walk(Walk::start(Reach::AllElements, item, mode)),
+            Act::Plus => Acted::Walk(walk_of(sign(false, item))),
+            Act::Minus => Acted::Walk(walk_of(sign(true, item))),
+            Act::Method(Method::KeyValue) => key_values(item),
+            Act::Method(method) => Acted::Walk(walk_of(apply(method, item))),
+        }
+    }
+}
+
+// An item, or a fault.
+fn walk_of<'d>(given: Result<Item<'d>, State>) -> Walk<'d>
+    ensures { walk_left result ≡ outcome given.entry }
+{
+    match given {
+        Ok(item) => Walk::of_item(item),
+        Err(state) => Walk::of_fault(state),
+    }
+}
+
+#[tactic(auto, using(crate::proofs::Acts::key_values_fault, crate::proofs::Acts::key_values_of))]
+fn key_values<'d>(item: Item<'d>) -> Acted<'d>
+    ensures { acted_left result ≡ key_values (item_value item.entry) }
+{
+    match pairs(item) {
+        Ok(walk) => Acted::Pairs(walk),
+        Err(state) => Acted::Walk(Walk::of_fault(state)),
+    }
+}
+
+impl<'d> Acting<'d> {
+    pub(crate) fn start(&mut self, mode: Mode, item: Item<'d>)
+        ensures starts { acted_left self.new.left ≡ acted self.old.act mode (item_value item.entry) }
+        ensures same { self.new.act ≡ self.old.act }
+    {
+        self.left = self.act.start(mode, item);
+    }
+
+    /// There is no item at hand.
+    pub(crate) fn clear(&mut self)
+        ensures clear { acted_left self.new.left ≡ stop }
+        ensures same { self.new.act ≡ self.old.act }
+    {
+        self.left = Acted::Walk(Walk::ended());
+    }
+}
+
+impl<'d> Acted<'d> {
+    pub(crate) fn next<L: Ledger>(&mut self, steps: &mut Steps<L>) -> Pull<'d>
+        ensures { Takes (acted_left self.old) (pull_value result) (acted_left self.new) steps.old steps.new }
+    {
+        match self {
+            Acted::Walk(walk) => walk.next(steps),
+            Acted::Pairs(walk) => pull_of(walk.next(steps)),
+        }
+    }
+}
+
+fn pull_of<'d>(pair: Option<Pair<'d>>) -> Pull<'d>
+    ensures { pull_value result ≡ pair_pull pair.entry }
+{
+    match pair {
+        Some(pair) => Pull::Item(Item::Pair(pair)),
+        None => Pull::End,
+    }
+}

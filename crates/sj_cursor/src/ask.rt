@@ -1,0 +1,103 @@
+// Whether there is an item, and which one is the only one.
+ghost use Rattle.std.specs.Prelude.{◌≡◌, ◌≤◌};
+ghost use Rattle.sj_base.specs.Outside.{raised};
+ghost use Rattle.sj_cursor.specs.Answers.{exists_answer, single_value, answer_in};
+ghost use Rattle.sj_cursor.specs.Looks.{Finds, look_value, single_in};
+ghost use Rattle.sj_cursor.specs.Single.{need, single};
+
+use crate::cursor::Cursor;
+use crate::look::{Found, Limit, Look};
+use sj_base::{Ledger, State, Steps};
+use sj_item::{Item, Pull};
+
+impl<'d> Cursor<'d> {
+    /// Whether the path gives an item, from where the cursor stands. In lax mode the first item decides, even where a fault would
+    /// follow; in strict mode all items are asked. It takes no memory. The cursor then stands anywhere.
+    ///
+    /// # Errors
+    /// The state of the fault that leaves this open: in lax mode where no item comes before it, and in strict mode always.
+    pub fn exists<L: Ledger>(&mut self, steps: &mut Steps<L>) -> Result<bool, State>
+        ensures answers { result ≡ exists_answer self.old.path.mode self.old.left }
+        ensures costs { steps.new ≤ raised steps.old (need self.old.path.mode 1 self.old.left) }
+        ensures path { self.new.path ≡ self.old.path }
+        ensures vars { self.new.vars ≡ self.old.vars }
+        ensures root { self.new.root ≡ self.old.root }
+    {
+        self.look(Limit::of_exists(self.mode()), steps)
+            .exists_or_fault()
+    }
+
+    /// The only item that the path gives, from where the cursor stands, and `None` where it gives none. In lax mode a second item
+    /// decides, even where a fault would follow; in strict mode all items are asked. It takes no memory. The cursor then stands
+    /// anywhere.
+    ///
+    /// # Errors
+    /// `several` where there are several items, and the state of a fault. In lax mode several items come first, and in strict mode
+    /// a fault does.
+    pub fn single<L: Ledger>(
+        &mut self,
+        several: State,
+        steps: &mut Steps<L>,
+    ) -> Result<Option<Item<'d>>, State>
+        ensures answers { single_value result ≡ single self.old.path.mode several self.old.left }
+        ensures costs { steps.new ≤ raised steps.old (need self.old.path.mode 2 self.old.left) }
+        ensures path { self.new.path ≡ self.old.path }
+        ensures vars { self.new.vars ≡ self.old.vars }
+        ensures root { self.new.root ≡ self.old.root }
+    {
+        self.look(Limit::of_single(self.mode()), steps)
+            .single_or_fault(several)
+    }
+
+    // Goes on until enough was found.
+    fn look<L: Ledger>(&mut self, limit: Limit, steps: &mut Steps<L>) -> Look<'d>
+        ensures finds { Finds limit self.old.left (look_value result) steps.old steps.new }
+        ensures path { self.new.path ≡ self.old.path }
+        ensures vars { self.new.vars ≡ self.old.vars }
+        ensures root { self.new.root ≡ self.old.root }
+    {
+        let mut found = Found::Nothing;
+        'looking: loop {
+            match self.next(steps) {
+                Pull::Item(item) => {
+                    found = found.more(item);
+                    if found.is_enough(limit) {
+                        return Look { found, fault: None };
+                    }
+                }
+                Pull::End => return Look { found, fault: None },
+                Pull::Fault(state) => {
+                    return Look {
+                        found,
+                        fault: Some(state),
+                    };
+                }
+            }
+        }
+    }
+}
+
+impl<'d> Look<'d> {
+    // Whether there is an item, unless a fault leaves that open.
+    fn exists_or_fault(self) -> Result<bool, State>
+        ensures { result ≡ answer_in (look_value self.entry) }
+    {
+        match (self.fault, self.found) {
+            (Some(state), _) => Err(state),
+            (None, Found::Nothing) => Ok(false),
+            (None, _) => Ok(true),
+        }
+    }
+
+    // The only item, unless there are several or a fault comes.
+    fn single_or_fault(self, several: State) -> Result<Option<Item<'d>>, State>
+        ensures { single_value result ≡ single_in several (look_value self.entry) }
+    {
+        match (self.fault, self.found) {
+            (Some(state), _) => Err(state),
+            (None, Found::Nothing) => Ok(None),
+            (None, Found::One(item)) => Ok(Some(item)),
+            (None, Found::Several) => Err(several),
+        }
+    }
+}

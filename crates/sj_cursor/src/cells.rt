@@ -1,0 +1,219 @@
+// The cells of a path: one for each part of its tree, each owning the cells that it asks. A cell holds where it stands, and no
+// list of items.
+use crate::env::Env;
+use sj_base::State;
+use sj_item::Item;
+use sj_method::PairWalk;
+use sj_path::{Arith, Compare, Initial, Literal, Method};
+use sj_step::Walk;
+
+/// A cell of an expression.
+#[cycle(cells)]
+#[derive(Drop)]
+pub(crate) enum Cell<'d> {
+    /// One item.
+    One(One<'d>),
+    /// An accessor, a method or a sign on each item of an expression.
+    Each(Each<'d>),
+    /// Arithmetic on two operands.
+    Binary(Binary<'d>),
+}
+
+/// One item, which was given already or not.
+#[derive(Drop)]
+pub(crate) struct One<'d> {
+    pub(crate) source: Source<'d>,
+    pub(crate) given: bool,
+}
+
+/// Where the one item is.
+#[derive(Clone, Copy)]
+pub(crate) enum Source<'d> {
+    Root,
+    Context,
+    Last,
+    Lit(&'d Literal),
+    Var(&'d str),
+}
+
+/// An expression that something is done with, and what is left of its item that was unwrapped last.
+#[cycle(cells)]
+#[derive(Drop)]
+pub(crate) struct Operand<'d> {
+    pub(crate) cell: Box<Cell<'d>>,
+    pub(crate) opened: Walk<'d>,
+}
+
+/// How the items of an expression are taken.
+#[derive(Clone, Copy)]
+pub(crate) enum Opening {
+    /// Each as it is.
+    AsItIs,
+    /// In lax mode arrays are unwrapped.
+    Unwrapped,
+}
+
+/// Something that is done with each item.
+#[cycle(cells)]
+#[derive(Drop)]
+pub(crate) struct Each<'d> {
+    pub(crate) input: Operand<'d>,
+    pub(crate) deed: Deed<'d>,
+}
+
+/// What is done with an item, and what is left to give of the item at hand.
+#[cycle(cells)]
+#[derive(Drop)]
+pub(crate) enum Deed<'d> {
+    Act(Acting<'d>),
+    Filter(Filter<'d>),
+    Elements(Elements<'d>),
+}
+
+/// An act that asks no cell.
+#[derive(Clone, Copy)]
+pub(crate) enum Act<'d> {
+    Member(&'d str),
+    AllMembers,
+    AllElements,
+    Plus,
+    Minus,
+    Method(Method),
+}
+
+#[derive(Drop)]
+pub(crate) struct Acting<'d> {
+    pub(crate) act: Act<'d>,
+    pub(crate) left: Acted<'d>,
+}
+
+/// What an act has left to give.
+#[derive(Drop)]
+pub(crate) enum Acted<'d> {
+    Walk(Walk<'d>),
+    Pairs(PairWalk<'d>),
+}
+
+/// A filter, and the item at hand where it is kept and was not given yet.
+#[cycle(cells)]
+#[derive(Drop)]
+pub(crate) struct Filter<'d> {
+    pub(crate) test: Box<Test<'d>>,
+    pub(crate) kept: Option<Item<'d>>,
+}
+
+/// A list of subscripts, and the item at hand.
+#[cycle(cells)]
+#[derive(Drop)]
+pub(crate) struct Elements<'d> {
+    pub(crate) parts: Box<Parts<'d>>,
+    pub(crate) at: At<'d>,
+}
+
+/// Where a list of subscripts stands.
+#[derive(Drop)]
+pub(crate) enum At<'d> {
+    /// There is no item at hand.
+    Nothing,
+    /// The item at hand was refused.
+    Refused(State),
+    /// The parts are taken on this item.
+    On(Spot<'d>),
+}
+
+/// An item, and what its subscripts are evaluated in.
+#[derive(Drop)]
+pub(crate) struct Spot<'d> {
+    pub(crate) item: Item<'d>,
+    pub(crate) env: Env<'d>,
+}
+
+/// The parts of a list of subscripts.
+#[cycle(cells)]
+#[derive(Drop)]
+pub(crate) enum Parts<'d> {
+    Only(Part<'d>),
+    More(MoreParts<'d>),
+}
+
+#[cycle(cells)]
+#[derive(Drop)]
+pub(crate) struct MoreParts<'d> {
+    pub(crate) first: Part<'d>,
+    pub(crate) others: Box<Parts<'d>>,
+}
+
+/// One part: its subscripts, and what it has left of the item at hand.
+#[cycle(cells)]
+#[derive(Drop)]
+pub(crate) struct Part<'d> {
+    pub(crate) bounds: Bounds<'d>,
+    pub(crate) reached: Reached<'d>,
+}
+
+#[cycle(cells)]
+#[derive(Drop)]
+pub(crate) enum Bounds<'d> {
+    One(Operand<'d>),
+    Range(Range<'d>),
+}
+
+#[cycle(cells)]
+#[derive(Drop)]
+pub(crate) struct Range<'d> {
+    pub(crate) from: Operand<'d>,
+    pub(crate) to: Operand<'d>,
+}
+
+/// What a part reached of the item at hand.
+#[derive(Drop)]
+pub(crate) enum Reached<'d> {
+    /// Its subscripts were not asked yet.
+    Unasked,
+    Walk(Walk<'d>),
+}
+
+/// Two operands, which are asked when the result is first asked.
+#[cycle(cells)]
+#[derive(Drop)]
+pub(crate) struct Binary<'d> {
+    pub(crate) op: Arith,
+    pub(crate) left: Operand<'d>,
+    pub(crate) right: Operand<'d>,
+    pub(crate) reached: Reached<'d>,
+}
+
+/// A predicate.
+#[cycle(cells)]
+#[derive(Drop)]
+pub(crate) enum Test<'d> {
+    Compare(Comparison<'d>),
+    And(Both<'d>),
+    Or(Both<'d>),
+    Not(Box<Test<'d>>),
+    IsUnknown(Box<Test<'d>>),
+    Exists(Operand<'d>),
+    StartsWith(Start<'d>),
+}
+
+#[cycle(cells)]
+#[derive(Drop)]
+pub(crate) struct Comparison<'d> {
+    pub(crate) op: Compare,
+    pub(crate) left: Operand<'d>,
+    pub(crate) right: Operand<'d>,
+}
+
+#[cycle(cells)]
+#[derive(Drop)]
+pub(crate) struct Both<'d> {
+    pub(crate) left: Box<Test<'d>>,
+    pub(crate) right: Box<Test<'d>>,
+}
+
+#[cycle(cells)]
+#[derive(Drop)]
+pub(crate) struct Start<'d> {
+    pub(crate) text: Operand<'d>,
+    pub(crate) initial: &'d Initial,
+}

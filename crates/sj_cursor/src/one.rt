@@ -1,0 +1,72 @@
+// One item.
+ghost use Rattle.std.specs.Prelude.{◌≡◌};
+ghost use Rattle.sj_base.specs.Outside.{raised};
+ghost use Rattle.sj_item.specs.Items.{item_value, pull_value};
+ghost use Rattle.sj_step.specs.Trace.{first, rest};
+ghost use Rattle.sj_cursor.specs.Cells.{env_value, source_value, one_left, source_expr};
+ghost use Rattle.sj_cursor.specs.Meaning.{literal_value, variable_of, initial_value};
+
+use crate::cells::{One, Source};
+use crate::env::Env;
+use sj_item::{Exact, Item, Pull};
+use sj_path::{Initial, Literal, Vars};
+use sj_step::whole_number;
+
+impl<'d> Source<'d> {
+    fn item(self, env: &Env<'d>) -> Item<'d>
+        ensures { item_value result ≡ source_value self.entry (env_value env.now) }
+    {
+        match self {
+            Source::Root => env.root,
+            Source::Context => env.context,
+            Source::Last => Item::Num(whole_number(env.last)),
+            Source::Lit(literal) => literal_item(literal),
+            Source::Var(name) => variable_item(env.vars, name),
+        }
+    }
+}
+
+fn literal_item<'d>(literal: &'d Literal) -> Item<'d>
+    ensures { item_value result ≡ literal_value literal.now }
+{
+    match literal {
+        Literal::Text(text) => Item::Text(text.as_str()),
+        Literal::Num(number) => Item::Num(Exact::new(*number)),
+        Literal::Bool(truth) => Item::Bool(*truth),
+        Literal::Null => Item::Null,
+    }
+}
+
+// The value of a variable, which is there where the variables cover the path.
+fn variable_item<'d>(vars: &'d Vars, name: &str) -> Item<'d>
+    ensures { item_value result ≡ variable_of vars.now name.now }
+{
+    match vars.get(name) {
+        Some(literal) => literal_item(literal),
+        None => Item::Null,
+    }
+}
+
+/// The string that `starts with` looks for.
+pub(crate) fn initial_item<'d>(initial: &'d Initial, env: &Env<'d>) -> Item<'d>
+    ensures { item_value result ≡ initial_value (env_value env.now) initial.now }
+{
+    match initial {
+        Initial::Lit(text) => Item::Text(text.as_str()),
+        Initial::Var(name) => variable_item(env.vars, name.as_str()),
+    }
+}
+
+impl<'d> One<'d> {
+    pub(crate) fn next(&mut self, env: &Env<'d>) -> Pull<'d>
+        ensures answers { pull_value result ≡ first (one_left self.old (env_value env.now)) }
+        ensures leaves { one_left self.new (env_value env.now) ≡ rest (one_left self.old (env_value env.now)) }
+        ensures same { self.new.source ≡ self.old.source }
+    {
+        if self.given {
+            return Pull::End;
+        }
+        self.given = true;
+        Pull::Item(self.source.item(env))
+    }
+}

@@ -1,0 +1,125 @@
+// What was seen of pairs of items.
+ghost use Rattle.std.specs.Prelude.{◌≡◌, ◌||◌, ◌&&◌, true};
+ghost use Rattle.sj_item.specs.Items.{item_value};
+ghost use Rattle.sj_cursor.specs.Comparisons.{is_true};
+ghost use Rattle.sj_cursor.specs.Verdicts.{is_unknown};
+ghost use Rattle.sj_cursor.specs.Cells.{beside_truth, is_lax, decided_truth};
+
+use sj_item::{Item, Truth, compare, starts_with};
+use sj_path::{Compare, Mode};
+
+/// What stands beside the items of a row.
+#[derive(Clone, Copy)]
+pub(crate) enum Beside<'d> {
+    /// The left item of a comparison.
+    Left(Compare, Item<'d>),
+    /// The string that the items are to start with.
+    Initial(Item<'d>),
+}
+
+impl<'d> Beside<'d> {
+    /// The truth of the pair with an item.
+    pub(crate) fn truth(self, item: Item<'d>) -> Truth
+        ensures { result ≡ beside_truth self.entry (item_value item.entry) }
+    {
+        match self {
+            Beside::Left(op, left) => compare(op, left, item),
+            Beside::Initial(initial) => starts_with(item, initial),
+        }
+    }
+}
+
+/// In lax mode the first true pair decides.
+pub(crate) fn is_early(mode: Mode) -> bool
+    ensures { result ≡ is_lax mode }
+{
+    match mode {
+        Mode::Lax => true,
+        Mode::Strict => false,
+    }
+}
+
+/// What was seen of the pairs of one item.
+#[derive(Clone, Copy)]
+pub(crate) struct Row {
+    /// A pair is true.
+    pub(crate) found: bool,
+    /// A pair has no answer, or the items end in a fault.
+    pub(crate) doubt: bool,
+}
+
+impl Row {
+    pub(crate) fn saw(self, truth: Truth) -> Row
+        ensures found { result.found ≡ (self.found || is_true truth) }
+        ensures doubt { result.doubt ≡ (self.doubt || is_unknown truth) }
+    {
+        match truth {
+            Truth::True => Row {
+                found: true,
+                doubt: self.doubt,
+            },
+            Truth::False => self,
+            Truth::Unknown => Row {
+                found: self.found,
+                doubt: true,
+            },
+        }
+    }
+
+    pub(crate) fn halts(self, early: bool) -> bool
+        ensures { result ≡ (early && self.found) }
+    {
+        early && self.found
+    }
+
+    /// The truth of a comparison of which this was seen.
+    pub(crate) fn truth(self) -> Truth
+        ensures { result ≡ decided_truth self.found self.doubt }
+    {
+        if self.doubt {
+            Truth::Unknown
+        } else {
+            Truth::from_bool(self.found)
+        }
+    }
+}
+
+/// What was seen of all pairs so far.
+#[derive(Clone, Copy)]
+pub(crate) struct Rows {
+    pub(crate) found: bool,
+    pub(crate) doubt: bool,
+    /// There was a left item.
+    pub(crate) some: bool,
+}
+
+impl Rows {
+    pub(crate) fn saw(self, row: Row) -> Rows
+        ensures found { result.found ≡ (self.found || row.found) }
+        ensures doubt { result.doubt ≡ (self.doubt || row.doubt) }
+        ensures some { result.some ≡ true }
+    {
+        Rows {
+            found: self.found || row.found,
+            doubt: self.doubt || row.doubt,
+            some: true,
+        }
+    }
+
+    pub(crate) fn halts(self, early: bool) -> bool
+        ensures { result ≡ (early && self.found) }
+    {
+        early && self.found
+    }
+
+    /// The truth of the comparison, where a fault of the right operand is told apart if there was no left item.
+    pub(crate) fn truth(self, faulty: bool) -> Truth
+        ensures { result ≡ decided_truth self.found (self.doubt || faulty) }
+    {
+        if self.doubt || faulty {
+            Truth::Unknown
+        } else {
+            Truth::from_bool(self.found)
+        }
+    }
+}
