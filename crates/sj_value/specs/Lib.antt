@@ -1,0 +1,5 @@
+pub mod Plans
+pub mod Types
+pub mod Values
+pub mod Casts
+pub mod Clauses

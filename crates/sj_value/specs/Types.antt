@@ -1,0 +1,19 @@
+-- Which types an item can be cast to.
+use Rattle.std.specs.Prelude.{ℕ, ◌≤◌}
+use Rattle.sj_value.specs.declared.types.SqlType.{SqlType}
+use Rattle.sj_value.specs.declared.types.SqlType.TheVariants.{Varchar, VarcharMax, Numeric, NumericFixed, Integer, Bigint, Boolean}
+
+-- NUMERIC(p, s) has 1 to 38 digits, of which at most all are decimals
+pub record AreDigits (p s : ℕ) : Type 0 where
+  pub some : 1 ≤ p
+  pub few : p ≤ 38
+  pub decimals : s ≤ p
+
+abbrev pub IsCastType : SqlType → Type 0
+IsCastType Varchar = Unit {0}
+IsCastType (VarcharMax n) = Unit {0}
+IsCastType Numeric = Unit {0}
+IsCastType (NumericFixed p s) = AreDigits p s
+IsCastType Integer = Unit {0}
+IsCastType Bigint = Unit {0}
+IsCastType Boolean = Unit {0}
