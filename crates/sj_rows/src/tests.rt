@@ -1,8 +1,12 @@
-// The lines of bytes whatever the cuts between their pieces, the longest line, and blank lines.
-ghost use Rattle.std.specs.Prelude.{◌≡◌, ◌+◌, ◌^◌, ◌≤◌, false, length, OnOk};
+// The lines of bytes whatever the cuts between their pieces, the longest line, blank lines, and rows.
+ghost use Rattle.std.specs.Prelude.{◌≡◌, ◌+◌, ◌^◌, ◌≤◌, false, length, All, OnOk, IfOk};
+ghost use Rattle.sj_value.specs.Values.{IsPrintable};
 
-use crate::{Line, Lines, is_blank};
-use sj_base::Bytes;
+use crate::{Line, Lines, error_text, is_blank, row_text};
+use sj_base::{Bytes, State, Text};
+use sj_item::Item;
+use sj_value::{CastRefusal, SqlType, SqlValue, cast};
+use std::alloc::Global;
 use std::process::Abort;
 use std::test::Fail;
 
@@ -150,4 +154,87 @@ fn blank_lines_have_spaces_tabs_and_returns_only(rt: HostRuntime) {
     ] {
         assert_eq!(rt; is_blank(line), want);
     }
+}
+
+/// A number with two decimals.
+fn price(alloc: Global, text: &str) -> Result<SqlValue, Fail>
+    ensures { IfOk result IsPrintable }
+{
+    match cast(alloc, Item::Text(text), SqlType::NumericFixed(10, 2)) {
+        Ok(value) => Ok(value),
+        Err(CastRefusal::State(state)) => Err(state.code())?,
+        Err(CastRefusal::Memory) => Err("memory")?,
+    }
+}
+
+/// A word as a value: NULL, a truth value, a text behind an apostrophe, a JSON text behind a colon, or a number with two decimals.
+fn value(alloc: Global, word: &str) -> Result<SqlValue, Fail>
+    ensures { IfOk result IsPrintable }
+{
+    if let Some(text) = word.strip_prefix('\'') {
+        return Ok(SqlValue::Text(Text::from_str(alloc, text)?));
+    }
+    if let Some(text) = word.strip_prefix(':') {
+        let mut bytes = Bytes::new(alloc);
+        bytes.push(text.as_bytes())?;
+        return Ok(SqlValue::Json(bytes));
+    }
+    match word {
+        "NULL" => Ok(SqlValue::Null),
+        "TRUE" => Ok(SqlValue::Bool(true)),
+        "FALSE" => Ok(SqlValue::Bool(false)),
+        _ => price(alloc, word),
+    }
+}
+
+/// The values of words between bars.
+fn values(alloc: Global, words: &str) -> Result<Vec<SqlValue>, Fail>
+    ensures { IfOk result (λ v. All IsPrintable v.items) }
+{
+    let mut values = Vec::new(alloc);
+    'words: for word in words.split('|') {
+        values.push(value(alloc, word)?)?;
+    }
+    Ok(values)
+}
+
+#[test]
+fn prints_rows(rt: HostRuntime) -> Result<(), Fail> {
+    let table = [
+        ("NULL", "\\N"),
+        ("'\\N", "\\\\N"),
+        ("'N", "N"),
+        ("'", ""),
+        ("'|'", "\t"),
+        ("TRUE|FALSE", "TRUE\tFALSE"),
+        ("'TRUE", "TRUE"),
+        ("9.5|-0.005|12", "9.50\t-0.01\t12.00"),
+        ("'a\tb\nc\rd\\e", "a\\tb\\nc\\rd\\\\e"),
+        ("'\t\t|'\\\\\n", "\\t\\t\t\\\\\\\\\\n"),
+        (
+            "'\u{e9} \u{1f600}\u{7f}\u{b}",
+            "\u{e9} \u{1f600}\u{7f}\u{b}",
+        ),
+        (":[1,\"a\\n\"]", "[1,\"a\\\\n\"]"),
+    ];
+    for (words, want) in table {
+        let mut out = Bytes::new(rt.alloc());
+        out.push(b"before ")?;
+        row_text(&mut out, 7, 12, &values(rt.alloc(), words)?)?;
+        let row = format!(in rt.alloc(); "before 7\t12\tR\t{want}\n")?;
+        assert_eq!(rt; out.as_slice(), row.as_bytes(), "{words}");
+    }
+    Ok(())
+}
+
+#[test]
+fn prints_the_ends_of_numbers_and_states(rt: HostRuntime) -> Result<(), Fail> {
+    let mut out = Bytes::new(rt.alloc());
+    row_text(&mut out, 1, 2, &[])?;
+    error_text(&mut out, u64::MAX, u32::MAX, State::S22034)?;
+    assert_eq!(rt;
+        out.as_slice(),
+        b"1\t2\tR\n18446744073709551615\t4294967295\tE\t22034\n".as_slice()
+    );
+    Ok(())
 }

@@ -1,0 +1,81 @@
+// The texts of rows and error rows.
+ghost use Rattle.std.specs.Prelude.{◌≡◌, ◌++◌, All, OnOk, OnErr};
+ghost use Rattle.std.specs.List.{flat_map};
+ghost use Rattle.sj_text.specs.Prefixes.{AppendsPrefix};
+ghost use Rattle.sj_value.specs.Values.{IsPrintable};
+ghost use Rattle.sj_rows.specs.RowText.{row_head, tabbed, row_bytes, error_bytes};
+
+use crate::field::field_text;
+use itoa::Buffer;
+use sj_base::{Bytes, Memory, State};
+use sj_value::SqlValue;
+
+/// Appends a row: the line's number, TAB, the statement's number, TAB, `R`, then TAB and a field for each value, and LF.
+///
+/// The field of NULL is `\N`, and that of a truth value `TRUE` or `FALSE`. A number has its text, with the decimals that it is to
+/// print. A text and a JSON value stand as they are, but for backslash, TAB, LF and CR, which are `\\`, `\t`, `\n` and `\r`. So a
+/// field has no TAB and no LF, and the text `\N` is not the field of NULL.
+///
+/// # Errors
+/// `Memory` where memory ran out. `out` has then grown by a first part of the row.
+pub fn row_text(
+    out: &mut Bytes,
+    line: u64,
+    statement: u32,
+    fields: &[SqlValue],
+) -> Result<(), Memory>
+    requires { All IsPrintable fields.now }
+    ensures ok { OnOk result (out.new ≡ out.old ++ row_bytes line statement fields.now) }
+    ensures err { OnErr result (AppendsPrefix out.old (row_bytes line statement fields.now) out.new) }
+{
+    head_text(out, line, statement)?;
+    out.push(b"\tR")?;
+    fields_text(out, fields)?;
+    out.push(b"\n")
+}
+
+/// Appends an error row: the line's number, TAB, the statement's number, TAB, `E`, TAB, the five characters of the state, and LF.
+///
+/// # Errors
+/// `Memory` where memory ran out. `out` has then grown by a first part of the row.
+pub fn error_text(out: &mut Bytes, line: u64, statement: u32, state: State) -> Result<(), Memory>
+    ensures ok { OnOk result (out.new ≡ out.old ++ error_bytes line statement state) }
+    ensures err { OnErr result (AppendsPrefix out.old (error_bytes line statement state) out.new) }
+{
+    head_text(out, line, statement)?;
+    out.push(b"\tE\t")?;
+    out.push(state.code().as_bytes())?;
+    out.push(b"\n")
+}
+
+// Appends the two numbers.
+fn head_text(out: &mut Bytes, line: u64, statement: u32) -> Result<(), Memory>
+    ensures ok { OnOk result (out.new ≡ out.old ++ row_head line statement) }
+    ensures err { OnErr result (AppendsPrefix out.old (row_head line statement) out.new) }
+{
+    let mut buffer = Buffer::new();
+    out.push(buffer.format(line).as_bytes())?;
+    out.push(b"\t")?;
+    out.push(buffer.format(statement).as_bytes())
+}
+
+// Appends a TAB and a field for each value.
+fn fields_text(out: &mut Bytes, fields: &[SqlValue]) -> Result<(), Memory>
+    requires { All IsPrintable fields.now }
+    ensures ok { OnOk result (out.new ≡ out.old ++ flat_map tabbed fields.now) }
+    ensures err { OnErr result (AppendsPrefix out.old (flat_map tabbed fields.now) out.new) }
+{
+    for value in fields {
+        tabbed_text(out, value)?;
+    }
+    Ok(())
+}
+
+fn tabbed_text(out: &mut Bytes, value: &SqlValue) -> Result<(), Memory>
+    requires { IsPrintable value.now }
+    ensures ok { OnOk result (out.new ≡ out.old ++ tabbed value.now) }
+    ensures err { OnErr result (AppendsPrefix out.old (tabbed value.now) out.new) }
+{
+    out.push(b"\t")?;
+    field_text(out, value)
+}
