@@ -1,0 +1,30 @@
+// The only item of a path on a context.
+ghost use Rattle.std.specs.Prelude.{◌≡◌, ◌≤◌};
+ghost use Rattle.sj_base.specs.Outside.{raised};
+ghost use Rattle.sj_cursor.specs.Answers.{single_value};
+ghost use Rattle.sj_func.specs.Functions.{context_value, trace_on, single_on, value_cost};
+
+use crate::context::Context;
+use sj_base::{Ledger, State, Steps};
+use sj_cursor::Cursor;
+use sj_item::Item;
+
+// The only item, and `None` where there is none. Several items are 22034, and an error is its state.
+pub(crate) fn single_item<'d, L: Ledger>(
+    cursor: &mut Cursor<'d>,
+    context: Context<'d>,
+    steps: &mut Steps<L>,
+) -> Result<Option<Item<'d>>, State>
+    ensures answers { single_value result ≡ single_on cursor.old.path.mode (context_value context.entry) (trace_on cursor.old) }
+    ensures costs { steps.new ≤ raised steps.old (value_cost cursor.old.path.mode (context_value context.entry) (trace_on cursor.old)) }
+    ensures path { cursor.new.path ≡ cursor.old.path }
+    ensures vars { cursor.new.vars ≡ cursor.old.vars }
+{
+    match context {
+        Context::Item(item) => {
+            cursor.rewind(item);
+            cursor.single(State::S22034, steps)
+        }
+        Context::Bad(state) => Err(state),
+    }
+}

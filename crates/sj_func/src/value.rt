@@ -1,0 +1,76 @@
+// JSON_VALUE.
+ghost use Rattle.std.specs.Prelude.{◌≡◌, ◌≤◌, IfOk};
+ghost use Rattle.sj_base.specs.Outside.{raised};
+ghost use Rattle.sj_item.specs.Items.{item_value};
+ghost use Rattle.sj_value.specs.Casts.{cast_of};
+ghost use Rattle.sj_value.specs.Clauses.{GivesPrintable, IsValueSpec};
+ghost use Rattle.sj_func.specs.Functions.{context_value, trace_on, value_error, value_empty, value_cast, value_outcome, value_cost, IsPrinted};
+
+use crate::context::{Context, Outcome};
+use crate::single::single_item;
+use sj_base::{Ledger, Memory, State, Steps};
+use sj_cursor::Cursor;
+use sj_item::Item;
+use sj_value::{CastRefusal, SqlValue, ValueAction, ValueSpec, cast, copy};
+use std::alloc::Global;
+
+/// JSON_VALUE: the only item that the path gives on the context item, as a value of the type of RETURNING (ISO/IEC 9075-2, JSON value
+/// function).
+///
+/// No item is ON EMPTY. Several items are the error 22034, a fault of the path is an error, and so is an item that the cast refuses.
+/// In lax mode the second item decides before a later fault, and nothing is asked behind it; in strict mode a fault anywhere
+/// decides first. An error is ON ERROR. Each of the two gives NULL or a copy of its DEFAULT, or with ERROR raises a state: ON EMPTY raises
+/// 22035, which ON ERROR does not see, and ON ERROR that of the error.
+///
+/// The cursor is rewound, wherever it stood, and then stands anywhere; its path and its variables stay. The counter rises by no
+/// more than the children of nodes that are handed out before the second item, in strict mode by no more than all of them, and not at
+/// all on a bad context. A value that is given can be printed.
+///
+/// # Errors
+/// [`Memory`] where memory runs out. What is said of the cursor and of the counter holds then too.
+pub fn json_value<'d, L: Ledger>(
+    alloc: Global,
+    cursor: &mut Cursor<'d>,
+    context: Context<'d>,
+    spec: &ValueSpec,
+    steps: &mut Steps<L>,
+) -> Result<Outcome, Memory>
+    requires { IsValueSpec spec.now }
+    ensures outcome { IfOk result (λ o. o ≡ value_outcome spec.now cursor.old.path.mode (context_value context.entry) (trace_on cursor.old)) }
+    ensures printable { IfOk result IsPrinted }
+    ensures costs { steps.new ≤ raised steps.old (value_cost cursor.old.path.mode (context_value context.entry) (trace_on cursor.old)) }
+    ensures path { cursor.new.path ≡ cursor.old.path }
+    ensures vars { cursor.new.vars ≡ cursor.old.vars }
+{
+    match single_item(cursor, context, steps) {
+        Ok(Some(item)) => cast_item(alloc, item, spec),
+        Ok(None) => given(alloc, &spec.on_empty, State::S22035),
+        Err(state) => given(alloc, &spec.on_error, state),
+    }
+}
+
+// The item as a value of the type.
+fn cast_item<'d>(alloc: Global, item: Item<'d>, spec: &ValueSpec) -> Result<Outcome, Memory>
+    requires { IsValueSpec spec.now }
+    ensures outcome { IfOk result (λ o. o ≡ value_cast spec.now.on_error (cast_of (item_value item.entry) spec.now.ty)) }
+    ensures printable { IfOk result IsPrinted }
+{
+    match cast(alloc, item, spec.ty) {
+        Ok(value) => Ok(Outcome::Value(value)),
+        Err(CastRefusal::State(state)) => given(alloc, &spec.on_error, state),
+        Err(CastRefusal::Memory) => Err(Memory),
+    }
+}
+
+// What ON EMPTY or ON ERROR gives, where ERROR raises this state.
+fn given(alloc: Global, action: &ValueAction, state: State) -> Result<Outcome, Memory>
+    requires { GivesPrintable action.now }
+    ensures outcome { IfOk result (λ o. o ≡ value_error action.now state) }
+    ensures printable { IfOk result IsPrinted }
+{
+    Ok(match action {
+        ValueAction::Error => Outcome::Raised(state),
+        ValueAction::Null => Outcome::Value(SqlValue::Null),
+        ValueAction::Default(value) => Outcome::Value(copy(alloc, value)?),
+    })
+}
