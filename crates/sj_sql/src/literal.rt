@@ -1,0 +1,128 @@
+//! Literals, names and the phrases that hold them. What the tree needs of a text is copied here.
+
+ghost use Rattle.std.specs.Prelude.{◌≡◌, option_map};
+ghost use Rattle.sj_sql.specs.Gives.{Gives};
+ghost use Rattle.sj_statement.specs.Phrases as phrase;
+
+use crate::meaning::value_action;
+use crate::phrase::cause;
+use crate::refusal::Refusal;
+use crate::single::{Tokens, name, number_of, passing, word};
+use sj_base::Text;
+use sj_path::Literal;
+use sj_sql_token::{Keyword, Token};
+use sj_statement::{Passed, ValueDo};
+use std::alloc::Global;
+
+/// The literal that a word is.
+fn constant_of(keyword: Keyword) -> Option<Literal>
+    ensures { result ≡ phrase.constant_of keyword }
+{
+    match keyword {
+        Keyword::True => Some(Literal::Bool(true)),
+        Keyword::False => Some(Literal::Bool(false)),
+        Keyword::Null => Some(Literal::Null),
+        _ => None,
+    }
+}
+
+/// A literal, and what follows it.
+#[tactic(auto, unfolding(sj_statement::specs::Phrases::literal_at))]
+pub fn literal(alloc: Global, tokens: Tokens<'_>) -> Result<(Literal, Tokens<'_>), Refusal>
+    ensures { Gives (λ x. (x.0, x.1.now)) result (phrase.literal_at tokens.now) }
+{
+    let Some((token, rest)) = tokens.split_first() else {
+        return Err(Refusal::Syntax);
+    };
+    match token {
+        Token::String(text) => Ok((Literal::Text(text.to_text(alloc)?), rest)),
+        Token::Plus => {
+            let Some((token, rest)) = rest.split_first() else {
+                return Err(Refusal::Syntax);
+            };
+            let value = number_of(token).ok_or(Refusal::Syntax)?;
+            Ok((Literal::Num(value), rest))
+        }
+        Token::Minus => {
+            let Some((token, rest)) = rest.split_first() else {
+                return Err(Refusal::Syntax);
+            };
+            let value = number_of(token).ok_or(Refusal::Syntax)?;
+            Ok((Literal::Num(value.neg()), rest))
+        }
+        Token::Whole(value) => Ok((Literal::Num(*value), rest)),
+        Token::Fraction(value) => Ok((Literal::Num(*value), rest)),
+        Token::Word(keyword, _) => {
+            let literal = constant_of(*keyword).ok_or(Refusal::Syntax)?;
+            Ok((literal, rest))
+        }
+        _ => Err(Refusal::Syntax),
+    }
+}
+
+/// A name behind AS.
+#[tactic(auto, unfolding(sj_statement::specs::Phrases::alias_at))]
+pub fn alias(alloc: Global, tokens: Tokens<'_>) -> Result<(Text, Tokens<'_>), Refusal>
+    ensures { Gives (λ x. (x.0, x.1.now)) result (phrase.alias_at tokens.now) }
+{
+    let Some(rest) = word(Keyword::As, tokens) else {
+        return Err(Refusal::Syntax);
+    };
+    name(alloc, rest)
+}
+
+/// A name of a table, behind AS or not.
+#[tactic(auto, unfolding(sj_statement::specs::Phrases::table_alias_at))]
+pub fn table_alias(alloc: Global, tokens: Tokens<'_>) -> Result<(Text, Tokens<'_>), Refusal>
+    ensures { Gives (λ x. (x.0, x.1.now)) result (phrase.table_alias_at tokens.now) }
+{
+    name(alloc, passing(Keyword::As, tokens))
+}
+
+/// The name of a path.
+#[tactic(auto, unfolding(sj_statement::specs::Phrases::path_name_at))]
+pub fn path_name(alloc: Global, tokens: Tokens<'_>) -> Result<(Option<Text>, Tokens<'_>), Refusal>
+    ensures { Gives (λ x. (x.0, x.1.now)) result (phrase.path_name_at tokens.now) }
+{
+    let (name, rest) = alias(alloc, tokens)?;
+    Ok((Some(name), rest))
+}
+
+/// A variable of a PASSING clause.
+#[tactic(auto, unfolding(sj_statement::specs::Phrases::passed_at))]
+pub fn passed(alloc: Global, tokens: Tokens<'_>) -> Result<(Passed, Tokens<'_>), Refusal>
+    ensures { Gives (λ x. (x.0, x.1.now)) result (phrase.passed_at tokens.now) }
+{
+    let (value, rest) = literal(alloc, tokens)?;
+    let Some(rest) = word(Keyword::As, rest) else {
+        return Err(Refusal::Syntax);
+    };
+    let (name, rest) = name(alloc, rest)?;
+    Ok((Passed { name, value }, rest))
+}
+
+fn value_action_phrase(alloc: Global, tokens: Tokens<'_>) -> Result<(ValueDo, Tokens<'_>), Refusal>
+    ensures { Gives (λ x. (x.0, x.1.now)) result (phrase.value_action_at tokens.now) }
+{
+    if let Some(rest) = word(Keyword::Default, tokens) {
+        let (value, rest) = literal(alloc, rest)?;
+        return Ok((ValueDo::Default(value), rest));
+    }
+    value_action(tokens)
+}
+
+/// The action of JSON_VALUE for a cause.
+#[tactic(auto, unfolding(sj_statement::specs::Phrases::value_clause_at))]
+pub fn value_clause(
+    alloc: Global,
+    on: Keyword,
+    tokens: Tokens<'_>,
+) -> Result<(ValueDo, Tokens<'_>), Refusal>
+    ensures { Gives (λ x. (x.0, x.1.now)) result (phrase.value_clause_at on tokens.now) }
+{
+    let (action, rest) = value_action_phrase(alloc, tokens)?;
+    let Some(rest) = cause(on, rest) else {
+        return Err(Refusal::Syntax);
+    };
+    Ok((action, rest))
+}

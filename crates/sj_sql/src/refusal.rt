@@ -1,0 +1,42 @@
+//! How reading tokens ends without a tree.
+
+ghost use Rattle.std.specs.Prelude.{◌≡◌};
+ghost use Rattle.sj_sql.specs.declared.refusal.Refusal.TheVariants.{Memory};
+
+use std::alloc::{AllocError, AllocFailed};
+use thiserror::Error;
+
+/// Why tokens were not read.
+#[derive(Debug, Drop, Error)]
+pub enum Refusal {
+    /// No tree begins there.
+    #[error("syntax error")]
+    Syntax,
+    /// Memory ran out.
+    #[error("out of memory")]
+    Memory,
+}
+
+impl From<AllocError> for Refusal {
+    ghost from_gives = { λ _ e. e ≡ Memory };
+
+    fn from(_: AllocError) -> Refusal {
+        Refusal::Memory
+    }
+}
+
+impl<T: Drop> From<AllocFailed<T>> for Refusal {
+    ghost from_gives = { λ _ e. e ≡ Memory };
+
+    fn from(_: AllocFailed<T>) -> Refusal {
+        Refusal::Memory
+    }
+}
+
+impl From<sj_base::Memory> for Refusal {
+    ghost from_gives = { λ _ e. e ≡ Memory };
+
+    fn from(_: sj_base::Memory) -> Refusal {
+        Refusal::Memory
+    }
+}

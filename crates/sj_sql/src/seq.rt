@@ -1,0 +1,79 @@
+//! Sequences.
+
+ghost use Rattle.std.specs.Prelude.{◌≡◌, ◌<◌, ◌≤◌, ◌-◌, ◌^◌, ◌∷◌, ◌++◌, [], length, OnOk, OnErr, slice_get};
+ghost use Rattle.std.specs.Option.{option_copied};
+
+use sj_base::Memory;
+use std::alloc::Global;
+use std::marker::Model;
+
+/// Values one after another, seen as a list of fewer than 2^32.
+pub struct Seq<T> {
+    items: Vec<T>,
+}
+
+impl<T> Model for Seq<T> {
+    ghost use Rattle.std.specs.Prelude.{List, length, vec_len, ◌<◌, ◌^◌};
+
+    ghost Value = { List T };
+
+    ghost view = { λ s. s.items.items };
+
+    ghost invariant = { λ s. length s.items.items < 2 ^ 32 };
+}
+
+impl<T: Drop> Drop for Seq<T> {
+    fn drop(self) {
+        let Seq { items: _ } = self;
+    }
+}
+
+impl<T: Drop> Seq<T> {
+    /// No values. It takes no memory; `alloc` serves the calls that grow it.
+    pub fn new(alloc: Global) -> Seq<T>
+        ensures { result ≡ [] }
+    {
+        Seq {
+            items: Vec::new(alloc),
+        }
+    }
+
+    /// Puts a value at the end. Where memory runs out, the value is given up and nothing changes.
+    pub fn push(&mut self, value: T) -> Result<(), Memory>
+        requires { length self.old < 2 ^ 32 - 1 }
+        ensures ok { OnOk result (self.new ≡ self.old ++ value ∷ []) }
+        ensures err { OnErr result (self.new ≡ self.old) }
+    {
+        self.items.push(value)?;
+        Ok(())
+    }
+
+    /// How many values there are.
+    pub fn len(&self) -> u32
+        ensures { result ≡ length self.now }
+    {
+        self.items.len() as u32
+    }
+
+    /// The value of this number, counted from 0, or nothing past the end.
+    pub fn get(&self, i: u32) -> Option<&T>
+        ensures { option_copied result ≡ slice_get self.now i }
+    {
+        self.items.get(i as usize)
+    }
+
+    /// Lends the values.
+    pub fn as_slice(&self) -> &[T]
+        ensures { result.now ≡ self.now }
+    {
+        self.items.as_slice()
+    }
+
+    /// Gives the vector back, with no memory taken.
+    pub fn into_vec(self) -> Vec<T>
+        ensures { result.items ≡ self }
+    {
+        let Seq { items } = self;
+        items
+    }
+}

@@ -1,0 +1,42 @@
+use crate::{SMembers, SValue, SValues, Seq};
+use sj_path::Literal;
+use std::alloc::Global;
+use std::test::Fail;
+
+/// So many linked cells, one behind another.
+fn chain(alloc: Global, len: u32) -> Result<SValues, Fail> {
+    let mut cells = SValues::Empty;
+    for _turn in 0..len {
+        let value = Box::new(alloc, SValue::Lit(Literal::Null))?;
+        cells = SValues::More(value, Box::new(alloc, cells)?);
+    }
+    Ok(cells)
+}
+
+#[test]
+fn long_chains_are_given_up_by_a_loop(rt: HostRuntime) -> Result<(), Fail> {
+    let _values = chain(rt.alloc(), 1_000_000)?;
+    let mut members = SMembers::Empty;
+    for _turn in 0..1_000_000u32 {
+        let key = Box::new(rt.alloc(), SValue::Lit(Literal::Null))?;
+        let value = Box::new(rt.alloc(), SValue::Lit(Literal::Null))?;
+        members = SMembers::More(key, value, Box::new(rt.alloc(), members)?);
+    }
+    Ok(())
+}
+
+#[test]
+fn sequences(rt: HostRuntime) -> Result<(), Fail> {
+    let mut numbers = Seq::new(rt.alloc());
+    for n in 0..3u32 {
+        if numbers.len() < 10 {
+            numbers.push(n * n).map_err(|_| "memory")?;
+        }
+    }
+    assert_eq!(rt; numbers.len(), 3);
+    assert_eq!(rt; numbers.get(2).copied(), Some(4));
+    assert_eq!(rt; numbers.get(3).copied(), None);
+    assert_eq!(rt; numbers.as_slice(), [0, 1, 4].as_slice());
+    assert_eq!(rt; numbers.into_vec().len(), 3);
+    Ok(())
+}

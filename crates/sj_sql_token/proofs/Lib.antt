@@ -1,0 +1,5 @@
+pub mod Quotes
+pub mod Texts
+pub mod Numbers
+pub mod Pieces
+pub mod Keywords

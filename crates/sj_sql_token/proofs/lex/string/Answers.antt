@@ -1,0 +1,5 @@
+use Rattle.sj_sql_token.proofs.Pieces.{string_found}
+use Rattle.sj_sql_token.proofs.lex.string.Goals as goal
+
+pub returns-in-Some-utf8-clause-value : goal.returns-in-Some-utf8-clause-value
+returns-in-Some-utf8-clause-value c = string_found c.args.after.now c.in-Some-utf8.inside.now c.in-Some.len c.in-Some.ensures.value c.in-Some-utf8.ensures

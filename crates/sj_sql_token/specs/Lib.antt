@@ -1,0 +1,7 @@
+pub mod Bytes
+pub mod Keywords
+pub mod Quotes
+pub mod Numbers
+pub mod Tokens
+pub mod Next
+pub mod Same

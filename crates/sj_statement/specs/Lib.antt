@@ -1,0 +1,6 @@
+pub mod Tree
+pub mod Phrases
+pub mod Grammar
+pub mod Notes
+pub mod Reading
+pub mod Answers

@@ -1,0 +1,14 @@
+//! The grammar of statements (ISO/IEC 9075-2, SQL/JSON), as definitions below the parser: the trees, the rules as
+//! relations, the functional reading of the tokens of a statement, and the law that these have at most one tree.
+//!
+//! It stands on the tokens of statement files, the paths of sj_grammar and the clauses of sj_value. The parser, which is proved
+//! against these definitions, is a crate of its own.
+#![tactic(auto)]
+
+mod clauses;
+mod law;
+mod refusal;
+
+pub use clauses::{Encoding, InOut, IsJsonCall, Passed, Quotes, Siblings, TypeName, ValueDo};
+pub use law::{one_reading, one_tree};
+pub use refusal::{BindKind, FileKind};
