@@ -50,7 +50,7 @@ def check_files(tally, program, folder):
     tally.check("the longest file", difference(wanted, program.run(["run", "longest.sql"], b"true\n", folder)))
     wanted = Ended(8, note=b"statement file too long\n")
     tally.check("a longer file", difference(wanted, program.run(["run", "too_long.sql"], b"true\n", folder)))
-    for members, wanted in [(256, Ended(0, b"1\t1\tR\tFALSE\n")), (257, Ended(2, note=b"statement 1: path: syntax error\n"))]:
+    for members, wanted in [(256, Ended(0, b"1\t1\tR\tFALSE\n")), (257, Ended(2, note=b"statement 1: path: too deep\n"))]:
         (folder / "members.sql").write_bytes(b"SELECT JSON_EXISTS(doc, 'lax $" + b".a" * members + b"');")
         tally.check(f"a path of {members} members", difference(wanted, program.run(["run", "members.sql"], b"true\n", folder)))
 

@@ -5,10 +5,10 @@ use Rattle.std.specs.Io.KnownBytes.{Consumes}
 use Rattle.sj_base.specs.Outside.{Files, Rose}
 use Rattle.sqljson.specs.declared.status.Status.{Status}
 use Rattle.sqljson.specs.declared.status.Status.TheVariants.{Done, Usage, Refused, ShelfFault, ReadFault, WriteFault, Memory, InputLimit, FileTooLong}
-use Rattle.sqljson.specs.Meaning.{MemberNames}
+use Rattle.sj_grammar.specs.Tree.{Path}
 use Rattle.sqljson.specs.Output.{output, whole_output}
 use Rattle.sqljson.specs.Sides.{InputSide, OutputSide, Grew}
-use Rattle.sqljson.specs.Stream.{IsPrefix, IsWhy, Streamed, WroteLeast, WroteWhole, max_piece, max_input}
+use Rattle.sqljson.specs.Stream.{IsPrefix, IsWhy, Streamed, WroteLeast, WroteWhole, StepsWithin, max_piece, max_input}
 use Rattle.sqljson.specs.File.{ShelfSide, verdict, file_shown}
 use Rattle.sqljson.specs.Ran.{Ran, EndsSo, RanOver, Idle}
 use Rattle.sqljson.proofs.Writing.{grew_none}
@@ -18,16 +18,16 @@ use Rattle.sqljson.proofs.Running.{by_left, by_verdict, same_file}
 -- ---- at least
 
 -- the texts of the whole lines of a front go in front of those of all
-front_whole : (K : List MemberNames) (h : List ℕ) (m : ℕ) → IsPrefix (whole_output K (take m h)) (whole_output K h)
+front_whole : (K : List Path) (h : List ℕ) (m : ℕ) → IsPrefix (whole_output K (take m h)) (whole_output K h)
 front_whole K h m = (_, ap (whole_output K) (sym (take-append-drop m h)) ∙ whole_output-append K (take m h) (drop m h))
 
-whole_front : (K : List MemberNames) (h : List ℕ) → IsPrefix (whole_output K h) (output K h)
+whole_front : (K : List Path) (h : List ℕ) → IsPrefix (whole_output K h) (output K h)
 whole_front K h = (_, output-end K h)
 
-front_and_least : List MemberNames → List ℕ → List ℕ → Type 0
+front_and_least : List Path → List ℕ → List ℕ → Type 0
 front_and_least K bytes text = IsPrefix text (output K bytes) × IsPrefix (whole_output K (take (length bytes - max_piece) bytes)) text
 
-least_by_why : (K : List MemberNames) (i i' : InputSide) (o o' : OutputSide) (bytes text : List ℕ) (status : Status) → IsWhy K i i' o o' bytes text status → front_and_least K bytes text
+least_by_why : (K : List Path) (i i' : InputSide) (o o' : OutputSide) (bytes text : List ℕ) (status : Status) → IsWhy K i i' o o' bytes text status → front_and_least K bytes text
 unfolding front_and_least
 least_by_why K i i' o o' bytes text Done why =
     subst (λ (t : List ℕ). IsPrefix t (output K bytes) × IsPrefix (whole_output K (take (length bytes - max_piece) bytes)) t) (sym why.0)
@@ -45,13 +45,13 @@ least_by_why K i i' o o' bytes text ShelfFault why = absurd why
 least_by_why K i i' o o' bytes text FileTooLong why = absurd why
 least_by_why K i i' o o' bytes text (Refused k kind) why = absurd why
 
-streamed_least : (K : List MemberNames) (i i' : InputSide) (o o' : OutputSide) (status : Status) → Streamed K i i' o o' status → WroteLeast K i i' o o'
+streamed_least : (K : List Path) (i i' : InputSide) (o o' : OutputSide) (status : Status) → Streamed K i i' o o' status → WroteLeast K i i' o o'
 unfolding front_and_least
 streamed_least K i i' o o' status s =
     let l = least_by_why K i i' o o' s.bytes s.text status s.why in
     record { bytes = s.bytes; consumed = s.consumed; text = s.text; grew = s.grew; front = l.0; least = l.1 }
 
-idle_least : (K : List MemberNames) (i i' : InputSide) (o o' : OutputSide) → Idle i i' o o' → WroteLeast K i i' o o'
+idle_least : (K : List Path) (i i' : InputSide) (o o' : OutputSide) → Idle i i' o o' → WroteLeast K i i' o o'
 idle_least K i i' o o' idle = record {
   bytes = [];
   consumed = subst (λ (p : InputSide). Consumes i.left p.left []) (sym idle.input) (consumes_none i.left);
@@ -61,14 +61,14 @@ idle_least K i i' o o' idle = record {
   least = ([], refl);
 }
 
-over_least : (name : List ℕ) (s s' : ShelfSide) (i i' : InputSide) (o o' : OutputSide) (status : Status) (file : List ℕ) (K : List MemberNames) →
+over_least : (name : List ℕ) (s s' : ShelfSide) (i i' : InputSide) (o o' : OutputSide) (status : Status) (file : List ℕ) (K : List Path) →
     file_shown s.files (Some name) ≡ Some file → verdict file ≡ Ok K → RanOver name s s' i i' o o' status → WroteLeast K i i' o o'
 over_least name s s' i i' o o' status file K shown accepted r =
     let same : r.file ≡ file = same_file s.files name file r.file shown r.holds.is in
     let these : r.statements ≡ K = cc (r.accepted, ap verdict same, accepted) in
-    subst (λ (k : List MemberNames). WroteLeast k i i' o o') these (streamed_least r.statements i i' o o' status r.streamed)
+    subst (λ (k : List Path). WroteLeast k i i' o o') these (streamed_least r.statements i i' o o' status r.streamed)
 
-ends_least : (name : List ℕ) (s s' : ShelfSide) (i i' : InputSide) (o o' : OutputSide) (status : Status) (file : List ℕ) (K : List MemberNames) →
+ends_least : (name : List ℕ) (s s' : ShelfSide) (i i' : InputSide) (o o' : OutputSide) (status : Status) (file : List ℕ) (K : List Path) →
     file_shown s.files (Some name) ≡ Some file → verdict file ≡ Ok K → EndsSo name s s' i i' o o' status → WroteLeast K i i' o o'
 ends_least name s s' i i' o o' ShelfFault file K shown accepted e = idle_least K i i' o o' e.2
 ends_least name s s' i i' o o' FileTooLong file K shown accepted e = idle_least K i i' o o' e.2
@@ -81,7 +81,7 @@ ends_least name s s' i i' o o' WriteFault file K shown accepted e = over_least n
 ends_least name s s' i i' o o' InputLimit file K shown accepted e = over_least name s s' i i' o o' InputLimit file K shown accepted e
 ends_least name s s' i i' o o' Usage file K shown accepted e = absurd e
 
-words_least : (named : Option (List ℕ)) (s s' : ShelfSide) (i i' : InputSide) (o o' : OutputSide) (status : Status) (file : List ℕ) (K : List MemberNames) →
+words_least : (named : Option (List ℕ)) (s s' : ShelfSide) (i i' : InputSide) (o o' : OutputSide) (status : Status) (file : List ℕ) (K : List Path) →
     file_shown s.files named ≡ Some file → verdict file ≡ Ok K → Ran named s s' i i' o o' status → WroteLeast K i i' o o'
 words_least None s s' i i' o o' status file K shown accepted r = idle_least K i i' o o' r.2
 words_least (Some name) s s' i i' o o' status file K shown accepted r = ends_least name s s' i i' o o' status file K shown accepted r
@@ -92,24 +92,60 @@ pub ran_least : (named : Option (List ℕ)) (s s' : ShelfSide) (i i' : InputSide
 ran_least named s s' i i' o o' status r =
     by_left (file_shown s.files named) _ (λ file shown. by_verdict (verdict file) _ (λ K accepted. words_least named s s' i i' o o' status file K shown accepted r))
 
+-- ---- steps
+
+idle_within : (K : List Path) (i i' : InputSide) (o o' : OutputSide) → Idle i i' o o' → StepsWithin K i i'
+idle_within K i i' o o' idle = subst (λ (p : InputSide). StepsWithin K i p) (sym idle.input) (record { bytes = []; consumed = consumes_none i.left; costs = omega arith })
+
+over_within : (name : List ℕ) (s s' : ShelfSide) (i i' : InputSide) (o o' : OutputSide) (status : Status) (file : List ℕ) (K : List Path) →
+    file_shown s.files (Some name) ≡ Some file → verdict file ≡ Ok K → RanOver name s s' i i' o o' status → StepsWithin K i i'
+over_within name s s' i i' o o' status file K shown accepted r =
+    let same : r.file ≡ file = same_file s.files name file r.file shown r.holds.is in
+    let these : r.statements ≡ K = cc (r.accepted, ap verdict same, accepted) in
+    subst (λ (k : List Path). StepsWithin k i i') these (record { bytes = r.streamed.bytes; consumed = r.streamed.consumed; costs = r.streamed.costs })
+
+ends_within : (name : List ℕ) (s s' : ShelfSide) (i i' : InputSide) (o o' : OutputSide) (status : Status) (file : List ℕ) (K : List Path) →
+    file_shown s.files (Some name) ≡ Some file → verdict file ≡ Ok K → EndsSo name s s' i i' o o' status → StepsWithin K i i'
+ends_within name s s' i i' o o' ShelfFault file K shown accepted e = idle_within K i i' o o' e.2
+ends_within name s s' i i' o o' FileTooLong file K shown accepted e = idle_within K i i' o o' e.2
+ends_within name s s' i i' o o' (Refused k kind) file K shown accepted e = idle_within K i i' o o' e.1
+ends_within name s s' i i' o o' Memory file K shown accepted (inl e) = idle_within K i i' o o' e
+ends_within name s s' i i' o o' Memory file K shown accepted (inr e) = over_within name s s' i i' o o' Memory file K shown accepted e
+ends_within name s s' i i' o o' Done file K shown accepted e = over_within name s s' i i' o o' Done file K shown accepted e
+ends_within name s s' i i' o o' ReadFault file K shown accepted e = over_within name s s' i i' o o' ReadFault file K shown accepted e
+ends_within name s s' i i' o o' WriteFault file K shown accepted e = over_within name s s' i i' o o' WriteFault file K shown accepted e
+ends_within name s s' i i' o o' InputLimit file K shown accepted e = over_within name s s' i i' o o' InputLimit file K shown accepted e
+ends_within name s s' i i' o o' Usage file K shown accepted e = absurd e
+
+words_within : (named : Option (List ℕ)) (s s' : ShelfSide) (i i' : InputSide) (o o' : OutputSide) (status : Status) (file : List ℕ) (K : List Path) →
+    file_shown s.files named ≡ Some file → verdict file ≡ Ok K → Ran named s s' i i' o o' status → StepsWithin K i i'
+words_within None s s' i i' o o' status file K shown accepted r = idle_within K i i' o o' r.2
+words_within (Some name) s s' i i' o o' status file K shown accepted r = ends_within name s s' i i' o o' status file K shown accepted r
+
+-- however a run ended, its steps are within what the lines of the bytes taken allow
+pub ran_within : (named : Option (List ℕ)) (s s' : ShelfSide) (i i' : InputSide) (o o' : OutputSide) (status : Status) → Ran named s s' i i' o o' status →
+    IfSome (file_shown s.files named) (λ file. IfOk (verdict file) (λ K. StepsWithin K i i'))
+ran_within named s s' i i' o o' status r =
+    by_left (file_shown s.files named) _ (λ file shown. by_verdict (verdict file) _ (λ K accepted. words_within named s s' i i' o o' status file K shown accepted r))
+
 -- ---- whole lines alone
 
-whole : (K : List MemberNames) (i i' : InputSide) (o o' : OutputSide) (status : Status) (s : Streamed K i i' o o' status) → s.text ≡ whole_output K s.bytes → WroteWhole K i i' o o'
+whole : (K : List Path) (i i' : InputSide) (o o' : OutputSide) (status : Status) (s : Streamed K i i' o o' status) → s.text ≡ whole_output K s.bytes → WroteWhole K i i' o o'
 whole K i i' o o' status s is = record { bytes = s.bytes; consumed = s.consumed; grew = subst (Grew o o') is s.grew }
 
-over_whole : (name : List ℕ) (s s' : ShelfSide) (i i' : InputSide) (o o' : OutputSide) (status : Status) (file : List ℕ) (K : List MemberNames) →
+over_whole : (name : List ℕ) (s s' : ShelfSide) (i i' : InputSide) (o o' : OutputSide) (status : Status) (file : List ℕ) (K : List Path) →
     file_shown s.files (Some name) ≡ Some file → verdict file ≡ Ok K → (r : RanOver name s s' i i' o o' status) → r.streamed.text ≡ whole_output r.statements r.streamed.bytes → WroteWhole K i i' o o'
 over_whole name s s' i i' o o' status file K shown accepted r is =
     let same : r.file ≡ file = same_file s.files name file r.file shown r.holds.is in
     let these : r.statements ≡ K = cc (r.accepted, ap verdict same, accepted) in
-    subst (λ (k : List MemberNames). WroteWhole k i i' o o') these (whole r.statements i i' o o' status r.streamed is)
+    subst (λ (k : List Path). WroteWhole k i i' o o') these (whole r.statements i i' o o' status r.streamed is)
 
-words_read_fault : (named : Option (List ℕ)) (s s' : ShelfSide) (i i' : InputSide) (o o' : OutputSide) (file : List ℕ) (K : List MemberNames) →
+words_read_fault : (named : Option (List ℕ)) (s s' : ShelfSide) (i i' : InputSide) (o o' : OutputSide) (file : List ℕ) (K : List Path) →
     file_shown s.files named ≡ Some file → verdict file ≡ Ok K → Ran named s s' i i' o o' ReadFault → WroteWhole K i i' o o'
 words_read_fault None s s' i i' o o' file K shown accepted r = absurd (cc r.0)
 words_read_fault (Some name) s s' i i' o o' file K shown accepted r = over_whole name s s' i i' o o' ReadFault file K shown accepted r r.streamed.why.0
 
-words_limit : (named : Option (List ℕ)) (s s' : ShelfSide) (i i' : InputSide) (o o' : OutputSide) (file : List ℕ) (K : List MemberNames) →
+words_limit : (named : Option (List ℕ)) (s s' : ShelfSide) (i i' : InputSide) (o o' : OutputSide) (file : List ℕ) (K : List Path) →
     file_shown s.files named ≡ Some file → verdict file ≡ Ok K → Ran named s s' i i' o o' InputLimit → WroteWhole K i i' o o'
 words_limit None s s' i i' o o' file K shown accepted r = absurd (cc r.0)
 words_limit (Some name) s s' i i' o o' file K shown accepted r = over_whole name s s' i i' o o' InputLimit file K shown accepted r r.streamed.why.0
@@ -142,7 +178,7 @@ taken a b all rest bytes is is' c =
     let same : t.0 ≡ rest = cc (t.1, is') in
     ap length t.2 ∙ length-append bytes t.0 ∙ ap (λ (l : List ℕ). length bytes + length l) same
 
-limit_by_why : (K : List MemberNames) (i i' : InputSide) (o o' : OutputSide) (status : Status) (all rest : List ℕ) → (s : Streamed K i i' o o' status) → i.left ≡ Some all → i'.left ≡ Some rest
+limit_by_why : (K : List Path) (i i' : InputSide) (o o' : OutputSide) (status : Status) (all rest : List ℕ) → (s : Streamed K i i' o o' status) → i.left ≡ Some all → i'.left ≡ Some rest
     → length all ≡ length rest + max_input → (Rose i.faults i'.faults → ⊥) → (Rose o.faults o'.faults → ⊥) → IsLimitOrMemory status
 limit_by_why K i i' o o' Done all rest s is is' len read write = absurd (omega (arith, s.why.2, taken i.left i'.left all rest s.bytes is is' s.consumed, len))
 limit_by_why K i i' o o' ReadFault all rest s is is' len read write = absurd (read s.why.1)

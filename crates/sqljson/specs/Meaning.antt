@@ -1,68 +1,28 @@
--- What a path of members gives on a document, in lax mode: the whole sequence of its items.
-use Rattle.std.specs.Prelude.{ℕ, List, [], ◌∷◌, ◌++◌, Bool, true, false, not, if◌then◌else◌, Option, None, Some}
-use Rattle.std.specs.List.{flat_map}
-use Rattle.std.specs.Str.{bytes_eq}
-use Rattle.sj_json.specs.Tree.{Tree, null, truth, string, number, array, object, Items, no_items, item, Child, member_list}
+-- What a statement gives for a line, and what finding it may take.
+use Rattle.std.specs.Prelude.{ℕ, [], Option, None, Some}
+use Rattle.sj_base.specs.declared.state.State.TheVariants.{S22032}
+use Rattle.sj_grammar.specs.Tree.{Path}
+use Rattle.sj_item.specs.Items.{ItemValue, node}
+use Rattle.sj_json.specs.Tree.{Tree}
+use Rattle.sj_step.specs.Trace.{Trace}
+use Rattle.sj_cursor.specs.Meaning.{path_trace}
+use Rattle.sj_value.specs.declared.clauses.ExistsAction.TheVariants as on_error
+use Rattle.sj_func.specs.Functions.{ContextValue, on_item, on_bad, exists_outcome, exists_cost}
+use Rattle.sj_func.specs.declared.context.Outcome.{Outcome}
 
--- a path of members is seen as their names, from the root on
-abbrev pub MemberNames : Type 0
-MemberNames = List (List ℕ)
+-- the context item of a line: the root of its document, which is the node 0; a line that is not JSON is an error
+abbrev pub line_context : Option Tree → ContextValue
+line_context None = on_bad S22032
+line_context (Some root) = on_item (node 0 root)
 
--- a child is a member of this name; an element of an array has no name
-abbrev pub has_name : List ℕ → Option (List ℕ) → Bool
-has_name name None = false
-has_name name (Some key) = bytes_eq key name
+-- the trace of a path on an item; no variables are passed
+abbrev pub statement_trace : Path → ItemValue → Trace
+statement_trace path x = path_trace path [] x
 
--- the trees of the members of this name, in their order
-abbrev pub named : List ℕ → List Child → List Tree
-named name [] = []
-named name (child ∷ rest) = if has_name name child.0 then child.1 ∷ named name rest else named name rest
+-- JSON_EXISTS of a path, with FALSE ON ERROR, on the document of a line
+abbrev pub statement_outcome : Path → Option Tree → Outcome
+statement_outcome path doc = exists_outcome on_error.False path.mode (line_context doc) (statement_trace path)
 
--- the member accessor on one item: every member of an object with this name, and nothing on another item
-abbrev pub members_of : List ℕ → Tree → List Tree
-members_of name null = []
-members_of name (truth b) = []
-members_of name (string s) = []
-members_of name (number v) = []
-members_of name (array ts) = []
-members_of name (object ms) = named name (member_list ms)
-
-abbrev pub elements : Items → List Tree
-elements no_items = []
-elements (item t ts) = t ∷ elements ts
-
--- lax mode takes an array apart, one level deep
-abbrev pub spread : Tree → List Tree
-spread null = null ∷ []
-spread (truth b) = truth b ∷ []
-spread (string s) = string s ∷ []
-spread (number v) = number v ∷ []
-spread (array ts) = elements ts
-spread (object ms) = object ms ∷ []
-
--- the items of `e.name` from the items of `e`
-abbrev pub member_items : List ℕ → List Tree → List Tree
-member_items name ts = flat_map (members_of name) (flat_map spread ts)
-
--- the items of the names, one accessor after another, from items
-abbrev pub items_from : MemberNames → List Tree → List Tree
-items_from [] ts = ts
-items_from (name ∷ names) ts = items_from names (member_items name ts)
-
--- THE ITEMS of the path `lax $` and these names on a document
-abbrev pub path_items : MemberNames → Tree → List Tree
-path_items names root = items_from names (root ∷ [])
-
-abbrev pub is_some_item : List Tree → Bool
-is_some_item [] = false
-is_some_item (t ∷ ts) = true
-
--- whether the names, one accessor after another, have an item on these
-abbrev pub has_item : MemberNames → List Tree → Bool
-has_item names ts = is_some_item (items_from names ts)
-
--- JSON_EXISTS of a path on the document of a line: whether there is an item. A line that is not JSON is an
--- error, and without a clause ON ERROR that is FALSE.
-abbrev pub exists_value : MemberNames → Option Tree → Bool
-exists_value names None = false
-exists_value names (Some root) = is_some_item (path_items names root)
+-- the children that finding it may hand out
+abbrev pub statement_cost : Path → Option Tree → ℕ
+statement_cost path doc = exists_cost path.mode (line_context doc) (statement_trace path)

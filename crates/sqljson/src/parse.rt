@@ -1,17 +1,17 @@
 // The statements of a file.
-ghost use Rattle.std.specs.Prelude.{◌≡◌, ◌<◌, ◌≤◌, ◌^◌, ◌∷◌, ℕ, List, length, Some, Ok, IfOk, IfErr, MatchOption};
+ghost use Rattle.std.specs.Prelude.{◌≡◌, ◌<◌, ◌≤◌, ◌^◌, ◌∷◌, ℕ, List, length, map, Ok, IfOk, IfErr, MatchOption};
 ghost use Rattle.sqljson.specs.Tokens.{Token as Seen, fixed, quoted, tokens};
-ghost use Rattle.sqljson.specs.Statements.{statement_before, names_in};
+ghost use Rattle.sj_path.specs.Tree.{path_of};
+ghost use Rattle.sqljson.specs.Paths.{path_in};
+ghost use Rattle.sqljson.specs.Statements.{statement_before};
 ghost use Rattle.sqljson.specs.File.{max_file, verdict};
 ghost use Rattle.sqljson.specs.Starts.{IsStart, IsNoPath, refusal_of};
 ghost use Rattle.sqljson.specs.Refusals.{IsRefusal};
 
-use crate::members::member_names;
 use crate::statement::{FileRefusal, Statement};
 use crate::status::FileKind;
 use crate::token::{Fixed, Token, next_token};
-use sj_base::Text;
-use sj_path::{PathRefusal, parse_path};
+use sj_path::{Path, PathRefusal, Vars, parse_path};
 use std::alloc::Global;
 
 /// What a text begins with.
@@ -86,29 +86,34 @@ fn front(text: &[u8]) -> Start<'_>
 fn path_refusal(refusal: PathRefusal, number: u32) -> FileRefusal
     ensures { result ≡ refusal_of refusal number }
 {
-    match refusal {
-        PathRefusal::Memory => FileRefusal::Memory,
-        _ => FileRefusal::Refused(number, FileKind::PathSyntax),
-    }
+    let kind = match refusal {
+        PathRefusal::Lex => FileKind::PathLex,
+        PathRefusal::TooDeep => FileKind::PathTooDeep,
+        PathRefusal::Syntax => FileKind::PathSyntax,
+        PathRefusal::Misplaced => FileKind::PathMisplaced,
+        PathRefusal::Unsupported(name) => FileKind::Unsupported(name),
+        PathRefusal::Memory => return FileRefusal::Memory,
+    };
+    FileRefusal::Refused(number, kind)
 }
 
-/// The member names of the path text of the statement of this number.
-fn path_names(alloc: Global, path: &[u8], number: u32) -> Result<Vec<Text>, FileRefusal>
-    ensures ok { IfOk result (λ names. names_in path.now ≡ Some names.items) }
+/// The path of the path text of the statement of this number.
+fn read_path(alloc: Global, path: &[u8], number: u32) -> Result<Path, FileRefusal>
+    ensures ok { IfOk result (λ p. path_in path.now ≡ Ok (path_of p)) }
     ensures err { IfErr result (λ refusal. IsNoPath path.now number refusal) }
 {
     let Ok(text) = simdutf8::basic::from_utf8(path) else {
-        return Err(FileRefusal::Refused(number, FileKind::PathSyntax));
+        return Err(FileRefusal::Refused(number, FileKind::PathLex));
     };
     let path = match parse_path(alloc, text) {
         Ok(path) => path,
         Err(refusal) => return Err(path_refusal(refusal, number)),
     };
-    match member_names(alloc, path) {
-        Ok(Some(names)) => Ok(names),
-        Ok(None) => Err(FileRefusal::Refused(number, FileKind::PathSyntax)),
-        Err(_) => Err(FileRefusal::Memory),
+    let passed = Vars::new(alloc);
+    if !passed.covers(&path) {
+        return Err(FileRefusal::Refused(number, FileKind::PathSyntax));
     }
+    Ok(path)
 }
 
 /// The statements of a file, in their order, or the first that is refused.
@@ -116,7 +121,7 @@ fn path_names(alloc: Global, path: &[u8], number: u32) -> Result<Vec<Text>, File
 /// The file is read once from its start to the statement that is refused, or to its end.
 pub(crate) fn parse(alloc: Global, file: &[u8]) -> Result<Vec<Statement>, FileRefusal>
     requires { length file.now ≤ max_file }
-    ensures accepted { IfOk result (λ statements. verdict file.now ≡ Ok statements.items) }
+    ensures accepted { IfOk result (λ statements. verdict file.now ≡ Ok (map path_of statements.items)) }
     ensures few { IfOk result (λ statements. length statements.items < 2 ^ 32) }
     ensures refused { IfErr result (λ refusal. IsRefusal (verdict file.now) refusal) }
 {
@@ -129,11 +134,11 @@ pub(crate) fn parse(alloc: Global, file: &[u8]) -> Result<Vec<Statement>, FileRe
             Start::Statement(path, behind) => (path, behind),
             Start::Other => return Err(FileRefusal::Refused(number, FileKind::Syntax)),
         };
-        let names = match path_names(alloc, path, number) {
-            Ok(names) => names,
+        let path = match read_path(alloc, path, number) {
+            Ok(path) => path,
             Err(refusal) => return Err(refusal),
         };
-        match statements.push(Statement::new(names)) {
+        match statements.push(Statement::new(alloc, path)) {
             Ok(()) => {}
             Err(_) => return Err(FileRefusal::Memory),
         }
@@ -145,47 +150,38 @@ pub(crate) fn parse(alloc: Global, file: &[u8]) -> Result<Vec<Statement>, FileRe
 #[cfg(test)]
 mod tests {
     use super::*;
+    use sj_path::Name;
     use std::test::Fail;
 
-    /// The member names of the statements of a file, each with a point before it and each
-    /// statement with a semicolon behind it.
-    fn shown(alloc: Global, file: &[u8]) -> Result<Result<String, FileRefusal>, Fail> {
+    /// The number of statements of a file.
+    fn counted(alloc: Global, file: &[u8]) -> Result<Result<usize, FileRefusal>, Fail> {
         if file.len() > 1_048_576 {
             return Err(Fail::from("file too long"));
         }
-        let statements = match parse(alloc, file) {
-            Ok(statements) => statements,
-            Err(refusal) => return Ok(Err(refusal)),
-        };
-        let mut all = String::new(alloc);
-        for statement in &statements {
-            for name in statement.names() {
-                all.push_str(".")?;
-                all.push_str(name.as_str())?;
-            }
-            all.push_str(";")?;
+        match parse(alloc, file) {
+            Ok(statements) => Ok(Ok(statements.len())),
+            Err(refusal) => Ok(Err(refusal)),
         }
-        Ok(Ok(all))
     }
 
     #[test]
     fn accepted_files(rt: HostRuntime) -> Result<(), Fail> {
         let rows = [
-            ("", ""),
-            (" \t\r\n", ""),
-            ("SELECT JSON_EXISTS(doc, 'lax $');\n", ";"),
+            ("", 0),
+            (" \t\r\n", 0),
+            ("SELECT JSON_EXISTS(doc, 'lax $');\n", 1),
             (
-                "SELECT JSON_EXISTS(doc, 'lax $.a.b');SELECT JSON_EXISTS(doc,'lax$.c');",
-                ".a.b;.c;",
+                "SELECT JSON_EXISTS(doc, 'lax $.a.b');SELECT JSON_EXISTS(doc,'strict$.c');",
+                2,
             ),
             (
-                "\n select\tJson_Exists ( doc\n,'lax $.a' ) ;\r\nSELECT json_exists(doc, 'lax $.a');",
-                ".a;.a;",
+                "\n select\tJson_Exists ( doc\n,'$[*] ? (@.a > 1).b' ) ;\r\nSELECT json_exists(doc, '-$.a');",
+                2,
             ),
         ];
         for (file, wanted) in rows {
-            let shown = shown(rt.alloc(), file.as_bytes())?.map_err(|_| "refused")?;
-            assert_eq!(rt; shown.as_str(), wanted, "{file}");
+            let count = counted(rt.alloc(), file.as_bytes())?.map_err(|_| "refused")?;
+            assert_eq!(rt; count, wanted, "{file}");
         }
         Ok(())
     }
@@ -210,15 +206,26 @@ mod tests {
             ),
             (b"SELECT JSON_EXISTS(doc, 'lax $');;", 2, FileKind::Syntax),
             (
-                b"SELECT JSON_EXISTS(doc, 'strict $');",
+                b"SELECT JSON_EXISTS(doc, '$.a ? (@ == $x)');",
                 1,
                 FileKind::PathSyntax,
+            ),
+            (b"SELECT JSON_EXISTS(doc, '$ + #');", 1, FileKind::PathLex),
+            (
+                b"SELECT JSON_EXISTS(doc, '$ + @');",
+                1,
+                FileKind::PathMisplaced,
+            ),
+            (
+                b"SELECT JSON_EXISTS(doc, '$.a.double()');",
+                1,
+                FileKind::Unsupported(Name::Double),
             ),
             (b"SELECT JSON_EXISTS(doc, '');", 1, FileKind::PathSyntax),
             (
                 b"SELECT JSON_EXISTS(doc, 'lax $.\xff');",
                 1,
-                FileKind::PathSyntax,
+                FileKind::PathLex,
             ),
             (
                 b"SELECT JSON_EXISTS(doc, 'lax $'); SELECT JSON_EXISTS(doc, 'lax $.');",
@@ -232,7 +239,7 @@ mod tests {
             ),
         ];
         for (file, number, kind) in rows {
-            let refusal = shown(rt.alloc(), file)?.err().ok_or("accepted")?;
+            let refusal = counted(rt.alloc(), file)?.err().ok_or("accepted")?;
             assert_eq!(rt; refusal, FileRefusal::Refused(number, kind));
         }
         Ok(())

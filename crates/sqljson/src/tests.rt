@@ -5,12 +5,13 @@ use sj_base::{MemShelf, MemSink, MemSource, Steps, Tally, Text};
 use std::alloc::Global;
 use std::test::Fail;
 
-/// What a run gave: how it ended, and what it wrote.
+/// What a run gave: how it ended, what it wrote, and the steps that it took.
 #[derive(Drop)]
 struct Outcome {
     status: Status,
     out: Vec<u8>,
     notes: Vec<u8>,
+    steps: u64,
 }
 
 /// What a run is given. The file is `f`, and calls fail as the lists say.
@@ -66,6 +67,7 @@ fn run_on(alloc: Global, setup: &Setup<'_>) -> Result<Outcome, Fail> {
         status,
         out: out.bytes().to_vec(alloc)?,
         notes: notes.bytes().to_vec(alloc)?,
+        steps: steps.ledger().count(),
     })
 }
 
@@ -111,6 +113,54 @@ fn rows_in_any_cut(rt: HostRuntime) -> Result<(), Fail> {
         }
     }
     Ok(())
+}
+
+// Lax mode stops at the first item that decides, and strict mode goes to the end.
+#[test]
+fn early_stops(rt: HostRuntime) -> Result<(), Fail> {
+    let alloc = rt.alloc();
+    let cases: [(&[u8], &[u8], &str, u64); 8] = [
+        (b"lax $[*].abs()", b"[1,\"x\"]", "TRUE", 1),
+        (b"strict $[*].abs()", b"[1,\"x\"]", "FALSE", 2),
+        (b"lax $ ? (@.v[*] > 5)", b"{\"v\":[\"a\",7]}", "TRUE", 3),
+        (b"strict $ ? (@.v[*] > 5)", b"{\"v\":[\"a\",7]}", "FALSE", 3),
+        (b"lax $.a", b"{\"a\":1,\"b\":2,\"a\":3}", "TRUE", 1),
+        (b"lax $.c", b"{\"a\":1,\"b\":2}", "FALSE", 2),
+        (
+            b"lax $ ? (@.a == 1 || @.b == 1)",
+            b"{\"a\":1,\"b\":2}",
+            "TRUE",
+            1,
+        ),
+        (b"$ + 1", b"null", "FALSE", 0),
+    ];
+    for (path, input, truth, most) in cases {
+        let file = statement_of(alloc, path)?;
+        let ran = run_on(alloc, &plain(&file, input, 0))?;
+        let row = format!(in alloc; "1\t1\tR\t{truth}\n")?;
+        assert_eq!(rt; ran.out.as_slice(), row.as_bytes());
+        assert!(rt; ran.steps <= most, "{} steps", ran.steps);
+    }
+    let file = statement_of(alloc, b"lax $[*] ? (@ == 1)")?;
+    let mut ones = long(alloc, b'1', 1, b"[")?;
+    ones.truncate(2);
+    for _ in 0..1_000_000 {
+        ones.extend_from_slice(b",1")?;
+    }
+    ones.push(b']')?;
+    let ran = run_on(alloc, &plain(&file, &ones, 0))?;
+    assert_eq!(rt; ran.out.as_slice(), b"1\t1\tR\tTRUE\n".as_slice());
+    assert_eq!(rt; ran.steps, 1);
+    Ok(())
+}
+
+/// The statement that asks for a path.
+fn statement_of(alloc: Global, path: &[u8]) -> Result<Vec<u8>, Fail> {
+    let mut file = Vec::new(alloc);
+    file.extend_from_slice(b"SELECT JSON_EXISTS(doc, '")?;
+    file.extend_from_slice(path)?;
+    file.extend_from_slice(b"');")?;
+    Ok(file)
 }
 
 // How a run ends where the words, the file or the objects are at fault, with the message.
