@@ -45,6 +45,9 @@ impl<'d> Cursor<'d> {
 
     /// A cursor at the beginning of the path's sequence on a root item. It takes all memory that the cursor will use. A variable that
     /// the path names and that is not passed counts as null.
+    ///
+    /// # Errors
+    /// [`Memory`] where memory runs out.
     pub fn new(
         alloc: Global,
         path: &'d Path,
