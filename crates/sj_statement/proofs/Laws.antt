@@ -3,7 +3,7 @@ use Rattle.std.proofs.Common.{◌≡◌, List, [], ◌∷◌, Option, Some, refl
 use Rattle.sj_statement.specs.Tree.{PathText, Value, Lit, Column, Exists, ValueOf, Query, IsJson, Object, Array, Values, NoValues, MoreValues, Members, NoMembers, MoreMembers, Item, Single, ArrayAgg, ObjectAgg, ColumnOf, Ordinality, Regular, Formatted, Nested, Columns, Last, More, Table, Statement, Plain, All, Listed}
 use Rattle.sj_statement.specs.Phrases.{Tokens}
 use Rattle.sj_statement.specs.Grammar.{IsSelect, IsStatement}
-use Rattle.sj_statement.specs.Notes.{Notes, written, value_with, values_with, members_with, item_with, column_with, columns_with, table_with, plain_with, items_with, statement_with}
+use Rattle.sj_statement.specs.Notes.{written, value_with, values_with, members_with, item_with, column_with, columns_with, table_with, plain_with, items_with, statement_with}
 use Rattle.sj_statement.proofs.Words.{some_is}
 use Rattle.sj_statement.proofs.FullTables.{select_full}
 use Rattle.sj_statement.proofs.Found.{read}

@@ -7,4 +7,10 @@ pub mod FullTables
 pub mod Laws
 pub mod Sound
 pub mod Found
+pub mod PathAnswers
+pub mod Marks
+pub mod Firsts
+pub mod Faults
+pub mod Verdicts
+pub mod Scripts
 mod Examples

@@ -1,5 +1,5 @@
 -- What a file of statements is read as, and which of its statements is refused first, and why.
-use Rattle.std.specs.Prelude.{◌≡◌, ℕ, suc, List, [], ◌∷◌, ◌++◌, Option, Some, None}
+use Rattle.std.specs.Prelude.{◌≡◌, ℕ, suc, List, [], ◌∷◌, ◌++◌, Option, Some, None, Result, Ok, Err}
 use Rattle.sj_grammar.specs.declared.refusal.Name.{Name}
 use Rattle.sj_grammar.specs.declared.refusal.PathRefusal.{PathRefusal}
 use Rattle.sj_grammar.specs.declared.refusal.PathRefusal.TheVariants as r
@@ -123,6 +123,11 @@ Forbids ts kind.Syntax = (x : Statement PathText) → IsStatement ts x → ⊥
 Forbids ts (kind.Unsupported name) = (x : Statement PathText) × IsStatement ts x × Free IsFault (marks x) × First Lacks (marks x) name
 Forbids ts (kind.Bind why) = ⊥
 Forbids ts of_path = (x : Statement PathText) × IsStatement ts x × First IsFault (marks x) of_path
+
+-- the answer of one statement: its tree, or why it is refused
+abbrev pub IsAnswer : Tokens → Result (Statement Path) FileKind → Type 0
+IsAnswer ts (Ok s) = Accepted ts s
+IsAnswer ts (Err why) = Forbids ts why
 
 -- ---- files
 

@@ -4,3 +4,5 @@ pub mod Grammar
 pub mod Notes
 pub mod Reading
 pub mod Answers
+pub mod PathAnswers
+pub mod Faults

@@ -10,5 +10,8 @@ mod law;
 mod refusal;
 
 pub use clauses::{Encoding, InOut, IsJsonCall, Passed, Quotes, Siblings, TypeName, ValueDo};
-pub use law::{one_reading, one_tree};
+pub use law::{
+    noted_answer, noted_faults, noted_reading, one_answer, one_file, one_reading, one_tree,
+    path_answers,
+};
 pub use refusal::{BindKind, FileKind};

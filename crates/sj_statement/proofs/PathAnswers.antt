@@ -1,0 +1,141 @@
+-- The answer of a text is what sj_grammar says of the text.
+use Rattle.std.proofs.Common.{◌≡◌, ◌⊎◌, inl, inr, ℕ, zero, suc, ◌+◌, ◌<◌, ◌≤◌, nat_lt, nat_le, Bool, true, false, ◌||◌, cond, List, length, take, count_by, Option, Some, None, Result, Ok, Err, refl, sym, ap, subst, ◌∙◌, arith}
+use Rattle.std.proofs.lemmas.Bool.Decides.{nat_tests}
+use Rattle.std.proofs.lemmas.List.{take_all}
+use Rattle.std.proofs.Math.Seq.{take-length}
+use Rattle.sj_token.specs.Tokens.{HasTokens}
+use Rattle.sj_token.specs.Reading.{lex}
+use Rattle.sj_token.proofs.Texts.{lex_sound, lex_full}
+use Rattle.sj_grammar.specs.declared.refusal.PathRefusal.{PathRefusal}
+use Rattle.sj_grammar.specs.declared.refusal.PathRefusal.TheVariants as r
+use Rattle.sj_grammar.specs.declared.refusal.Name.{Name}
+use Rattle.sj_grammar.specs.Tree.{Path}
+use Rattle.sj_grammar.specs.Grammar.{Tokens}
+use Rattle.sj_grammar.specs.Depth.{is_opening, is_closing, is_counted, IsDeepAt, OpensTooMany, IsTooDeep}
+use Rattle.sj_grammar.specs.Misplaced.{is_misplaced}
+use Rattle.sj_grammar.specs.Unsupported.{unsupported}
+use Rattle.sj_grammar.specs.Reading.{path_at}
+use Rattle.sj_grammar.specs.Answers.{Spells, Accepts, Refuses}
+use Rattle.sj_grammar.specs.Accepted.{is_deep_at, is_deep_within, is_too_deep}
+use Rattle.sj_grammar.proofs.Paths.{path_full, path_sound}
+use Rattle.sj_grammar.proofs.Acceptance.{accepted_is}
+use Rattle.sj_grammar.proofs.Laws as laws
+use Rattle.sj_statement.specs.PathAnswers.{if_supported, if_spelled, of_tokens, path_answer}
+use Rattle.sj_statement.proofs.Words.{some_is}
+
+-- ---- the test of depth
+
+lt_from : (m n : ℕ) → nat_lt m n ≡ true → m < n
+lt_from m n h = grind (arith, nat_tests)
+
+lt_not : (m n : ℕ) → nat_lt m n ≡ false → m < n → ⊥
+lt_not m n h l = grind (arith, nat_tests)
+
+or_cases : (a b : Bool) → a || b ≡ true → (a ≡ true) ⊎ (b ≡ true)
+or_cases true b h = inl refl
+or_cases false b h = inr h
+
+or_left : (a b : Bool) → a || b ≡ false → a ≡ false
+or_left true b h = cc
+or_left false b h = refl
+
+or_right : (a b : Bool) → a || b ≡ false → b ≡ false
+or_right true b h = cc
+or_right false b h = h
+
+deep_found : (ts : Tokens) (n : ℕ) → is_deep_within ts n ≡ true → OpensTooMany ts
+unfolding is_deep_within
+deep_found ts zero h = (0, lt_from _ _ h)
+deep_found ts (suc n) h = elim (or_cases (is_deep_at ts (suc n)) (is_deep_within ts n) h) [ inl here ↦ (suc n, lt_from _ _ here) | inr before ↦ deep_found ts n before ]
+
+deep_step : (ts : Tokens) (n m : ℕ) → is_deep_at ts (suc n) ≡ false → (m ≤ n → ⊥) → m ≤ suc n → IsDeepAt ts m → ⊥
+deep_step ts n m here before le d = go (nat_le m n) refl
+  where
+    go : (b : Bool) → nat_le m n ≡ b → ⊥
+    go true e = before (grind (arith, nat_tests))
+    go false e = let is : m ≡ suc n = grind (arith, nat_tests) in lt_not _ _ here (subst (λ (k : ℕ). IsDeepAt ts k) is d)
+
+deep_missed : (ts : Tokens) (n : ℕ) → is_deep_within ts n ≡ false → (m : ℕ) → m ≤ n → IsDeepAt ts m → ⊥
+unfolding is_deep_within
+deep_missed ts zero h m le d = let is : m ≡ 0 = omega arith in lt_not _ _ h (subst (λ (k : ℕ). IsDeepAt ts k) is d)
+deep_missed ts (suc n) h m le d =
+    deep_step ts n m (or_left (is_deep_at ts (suc n)) (is_deep_within ts n) h) (λ small. deep_missed ts n (or_right (is_deep_at ts (suc n)) (is_deep_within ts n) h) m small d) le d
+
+deep_anywhere : (ts : Tokens) → is_deep_within ts (length ts) ≡ false → (m : ℕ) → IsDeepAt ts m → ⊥
+deep_anywhere ts h m d = go (nat_le m (length ts)) refl
+  where
+    go : (b : Bool) → nat_le m (length ts) ≡ b → ⊥
+    go true e = deep_missed ts (length ts) h m (grind (arith, nat_tests)) d
+    go false e =
+        let long : length ts ≤ m = grind (arith, nat_tests) in
+        let same : take m ts ≡ take (length ts) ts = take_all m ts long ∙ sym (take-length ts) in
+        deep_missed ts (length ts) h (length ts) (omega arith) (subst (λ (us : Tokens). count_by is_closing us + 64 < count_by is_opening us) same d)
+
+too_deep_found : (ts : Tokens) → is_too_deep ts ≡ true → IsTooDeep ts
+too_deep_found ts h = elim (or_cases (is_deep_within ts (length ts)) (nat_lt 256 (count_by is_counted ts)) h) [
+  | inl deep ↦ inl (deep_found ts (length ts) deep)
+  | inr many ↦ inr (lt_from _ _ many)
+]
+
+too_deep_missed : (ts : Tokens) → is_too_deep ts ≡ false → IsTooDeep ts → ⊥
+too_deep_missed ts h (inl deep) = deep_anywhere ts (or_left (is_deep_within ts (length ts)) (nat_lt 256 (count_by is_counted ts)) h) deep.0 deep.1
+too_deep_missed ts h (inr many) = lt_not _ _ (or_right (is_deep_within ts (length ts)) (nat_lt 256 (count_by is_counted ts)) h) many
+
+-- ---- what is answered holds
+
+-- what an answer says of a text
+abbrev pub Holds : List ℕ → Result Path PathRefusal → Type 0
+Holds text (Ok p) = Accepts text p
+Holds text (Err e) = Refuses text e × (e ≡ r.Memory → ⊥)
+
+none_some : {A : Type 0} {a : A} → None ≡ Some a → ⊥
+none_some q = cc
+
+supported_holds : (text : List ℕ) (ts : Tokens) (p : Path) → HasTokens text ts → Spells ts p → is_misplaced p ≡ false → (o : Option Name) → unsupported p ≡ o → Holds text (if_supported o p)
+supported_holds text ts p b s m None u = record { tokens = ts; breaks = b; allowed = record { spells = s; placed = m; supported = u } }
+supported_holds text ts p b s m (Some name) u = ((ts, b, (p, s, m, u)), λ q. cc)
+
+placed_holds : (text : List ℕ) (ts : Tokens) (p : Path) → HasTokens text ts → Spells ts p → (c : Bool) → is_misplaced p ≡ c → Holds text (cond c (Err r.Misplaced) (if_supported (unsupported p) p))
+placed_holds text ts p b s true m = ((ts, b, (p, s, m)), λ q. cc)
+placed_holds text ts p b s false m = supported_holds text ts p b s m (unsupported p) refl
+
+spelled_holds : (text : List ℕ) (ts : Tokens) → HasTokens text ts → (IsTooDeep ts → ⊥) → (o : Option Path) → path_at ts ≡ o → Holds text (if_spelled o)
+spelled_holds text ts b shallow None e = ((ts, b, (shallow, λ p d. none_some (sym e ∙ path_full d))), λ q. cc)
+spelled_holds text ts b shallow (Some p) e = placed_holds text ts p b (record { shallow = shallow; tree = path_sound ts p e }) (is_misplaced p) refl
+
+tokens_hold : (text : List ℕ) (ts : Tokens) → HasTokens text ts → (c : Bool) → is_too_deep ts ≡ c → Holds text (cond c (Err r.TooDeep) (if_spelled (path_at ts)))
+tokens_hold text ts b true d = ((ts, b, too_deep_found ts d), λ q. cc)
+tokens_hold text ts b false d = spelled_holds text ts b (too_deep_missed ts d) (path_at ts) refl
+
+pub answer_holds : (text : List ℕ) → Holds text (path_answer text)
+unfolding path_answer lex
+answer_holds text = go (lex text) refl
+  where
+    go : (o : Option Tokens) → lex text ≡ o → Holds text (of_tokens o)
+    go None e = ((λ ts b. none_some (sym e ∙ lex_full b (length text) (omega arith))), λ q. cc)
+    go (Some ts) e = tokens_hold text ts (lex_sound (length text) text ts (omega arith) e) (is_too_deep ts) refl
+
+-- ---- what holds is answered
+
+same_path : (text : List ℕ) (p q : Path) → Accepts text p → Accepts text q → p ≡ q
+same_path text p q a b = some_is (sym (accepted_is text p a) ∙ accepted_is text q b)
+
+pub accepted_answer : (text : List ℕ) (p : Path) → Accepts text p → path_answer text ≡ Ok p
+accepted_answer text p a = go (path_answer text) (answer_holds text)
+  where
+    go : (o : Result Path PathRefusal) → Holds text o → o ≡ Ok p
+    go (Ok q) h = ap Ok (same_path text q p h a)
+    go (Err e) h = absurd (h.1 (laws.accepted text p e a h.0))
+
+pub refused_answer : (text : List ℕ) (e : PathRefusal) → (e ≡ r.Memory → ⊥) → Refuses text e → path_answer text ≡ Err e
+refused_answer text e other f = go (path_answer text) (answer_holds text)
+  where
+    go : (o : Result Path PathRefusal) → Holds text o → o ≡ Err e
+    go (Ok q) h = absurd (other (laws.accepted text q e h f))
+    go (Err d) h = ap Err (laws.refused text d e h.0 f h.1 other)
+
+pub answer_accepted : (text : List ℕ) (p : Path) → path_answer text ≡ Ok p → Accepts text p
+answer_accepted text p h = subst (Holds text) h (answer_holds text)
+
+pub answer_refused : (text : List ℕ) (e : PathRefusal) → path_answer text ≡ Err e → Refuses text e × (e ≡ r.Memory → ⊥)
+answer_refused text e h = subst (Holds text) h (answer_holds text)

@@ -1,0 +1,14 @@
+use Rattle.sj_statement.proofs.Faults as faults
+use Rattle.sj_statement.proofs.law.noted_faults.Goals as goal
+
+pub returns-clause-fault : goal.returns-clause-fault
+returns-clause-fault c = faults.first_fault
+
+pub returns-clause-faultless : goal.returns-clause-faultless
+returns-clause-faultless c = faults.no_fault
+
+pub returns-clause-lack : goal.returns-clause-lack
+returns-clause-lack c = faults.first_lack
+
+pub returns-clause-supported : goal.returns-clause-supported
+returns-clause-supported c = faults.no_lack
