@@ -1,0 +1,4 @@
+pub mod Files
+pub mod Lists
+pub mod Plans
+pub mod Texts

@@ -1,2 +1,9 @@
 pub mod View
 pub mod Gives
+pub mod Noted
+pub mod Cells
+pub mod File
+pub mod Nests
+pub mod Plans
+pub mod Words
+pub mod Split

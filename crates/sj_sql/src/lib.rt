@@ -4,19 +4,41 @@
 //! by `statement_of` in `specs/View.antt`, with lists in place of sequences and linked cells, and without pointers.
 #![tactic(auto)]
 
+mod answer;
+mod call;
+mod column;
+mod common;
+mod depth;
 mod document;
+mod faults;
+mod file;
+mod item;
 mod literal;
 mod meaning;
+mod member;
+mod operators;
+mod optional;
+mod passing;
+mod path;
 mod phrase;
+mod plan;
 mod refusal;
+mod row_member;
+mod row_value;
+mod select;
 mod seq;
 mod single;
+mod table;
 #[cfg(test)]
 mod tests;
 mod tree;
+mod value;
 
+pub use file::{FileFault, Script, Statements, parse_file};
 pub use seq::Seq;
-pub use sj_statement::{Encoding, InOut, IsJsonCall, Passed, Quotes, Siblings, TypeName, ValueDo};
+pub use sj_statement::{
+    BindKind, Encoding, FileKind, InOut, IsJsonCall, Passed, Quotes, Siblings, TypeName, ValueDo,
+};
 pub use tree::{
     Column, Columns, Common, ExistsCall, FormattedColumn, NamedPlan, PlanTree, QueryCall,
     RegularColumn, SMembers, SValue, SValues, Statement, TItem, TMembers, TValue, TValues, Table,

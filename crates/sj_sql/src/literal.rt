@@ -7,7 +7,7 @@ ghost use Rattle.sj_statement.specs.Phrases as phrase;
 use crate::meaning::value_action;
 use crate::phrase::cause;
 use crate::refusal::Refusal;
-use crate::single::{Tokens, name, number_of, passing, word};
+use crate::single::{Tokens, name, number_of, word};
 use sj_base::Text;
 use sj_path::Literal;
 use sj_sql_token::{Keyword, Token};
@@ -69,14 +69,6 @@ pub fn alias(alloc: Global, tokens: Tokens<'_>) -> Result<(Text, Tokens<'_>), Re
         return Err(Refusal::Syntax);
     };
     name(alloc, rest)
-}
-
-/// A name of a table, behind AS or not.
-#[tactic(auto, unfolding(sj_statement::specs::Phrases::table_alias_at))]
-pub fn table_alias(alloc: Global, tokens: Tokens<'_>) -> Result<(Text, Tokens<'_>), Refusal>
-    ensures { Gives (λ x. (x.0, x.1.now)) result (phrase.table_alias_at tokens.now) }
-{
-    name(alloc, passing(Keyword::As, tokens))
 }
 
 /// The name of a path.

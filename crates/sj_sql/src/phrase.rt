@@ -238,3 +238,13 @@ pub fn returning(tokens: Tokens<'_>) -> Option<(TypeName, Tokens<'_>)>
 {
     type_name(word(Keyword::Returning, tokens)?)
 }
+
+/// What follows VARCHAR FORMAT JSON, if it stands first.
+#[tactic(auto, unfolding(sj_statement::specs::Phrases::formatted_at))]
+pub fn formatted_type(tokens: Tokens<'_>) -> Option<Tokens<'_>>
+    ensures { option_copied result ≡ phrase.formatted_at tokens.now }
+{
+    let rest = word(Keyword::Varchar, tokens)?;
+    let rest = word(Keyword::Format, rest)?;
+    word(Keyword::Json, rest)
+}

@@ -16,7 +16,14 @@ use std::alloc::Global;
 /// The tokens that are left of a statement.
 pub type Tokens<'a> = &'a [Token<'a>];
 
-fn same(found: Keyword, wanted: Keyword) -> bool
+/// The tokens that are left in a loop.
+#[derive(Clone, Copy)]
+pub struct Rest<'a> {
+    pub tokens: Tokens<'a>,
+}
+
+/// Whether a keyword is the one that is wanted.
+pub fn same(found: Keyword, wanted: Keyword) -> bool
     ensures { result ≡ keyword.same found wanted }
 {
     if found == wanted { true } else { false }
@@ -157,6 +164,18 @@ pub fn name(alloc: Global, tokens: Tokens<'_>) -> Result<(Text, Tokens<'_>), Ref
         Token::Quoted(name) => Ok((name.to_text(alloc)?, rest)),
         Token::Word(keyword, word) if !is_reserved(*keyword) => Ok((word.to_text(alloc)?, rest)),
         _ => Err(Refusal::Syntax),
+    }
+}
+
+/// What follows a name, if one stands first.
+pub fn skip_name(tokens: Tokens<'_>) -> Option<Tokens<'_>>
+    ensures { option_copied result ≡ option_map (λ x. x.1) (phrase.name_at tokens.now) }
+{
+    let (token, rest) = tokens.split_first()?;
+    match token {
+        Token::Quoted(_) => Some(rest),
+        Token::Word(keyword, _) if !is_reserved(*keyword) => Some(rest),
+        _ => None,
     }
 }
 

@@ -1,6 +1,8 @@
 //! The trees of statements. Where a rule leads back to itself, a repeated part is an enum of linked cells, which is
 //! given up by a loop; any other repeated part is a sequence.
 
+ghost use Rattle.sj_sql.specs.Split.{SplitsValues, SplitsMembers, SplitsRowValues, SplitsRowMembers, SplitsColumns};
+
 use crate::seq::Seq;
 use sj_base::Text;
 use sj_path::{Literal, Path};
@@ -239,12 +241,100 @@ pub enum PlanTree {
     Named(NamedPlan),
 }
 
-/// A plan that names paths. Parentheses and operators nest in it at most as deep as the grammar allows.
-#[derive(Drop)]
+/// A plan that names paths. While it is read it may have any number of operators, which group to the left, so it is given up by a
+/// loop.
 pub enum NamedPlan {
     Path(Text),
     Outer(Text, Box<NamedPlan>),
     Inner(Text, Box<NamedPlan>),
     Union(Box<NamedPlan>, Box<NamedPlan>),
     Cross(Box<NamedPlan>, Box<NamedPlan>),
+}
+
+impl Drop for NamedPlan {
+    fn drop(mut self) {
+        loop {
+            match self {
+                NamedPlan::Path(_) => return,
+                NamedPlan::Outer(_, below) => self = Box::into_inner(below),
+                NamedPlan::Inner(_, below) => self = Box::into_inner(below),
+                NamedPlan::Union(first, _) => self = Box::into_inner(first),
+                NamedPlan::Cross(first, _) => self = Box::into_inner(first),
+            }
+        }
+    }
+}
+
+impl SValues {
+    /// The first value and the others, or nothing where there is no value.
+    pub fn split_first(self) -> Option<(SValue, SValues)>
+        ensures { SplitsValues self result }
+    {
+        match self {
+            SValues::Empty => None,
+            SValues::More(value, others) => {
+                Some((Box::into_inner(value), Box::into_inner(others)))
+            }
+        }
+    }
+}
+
+impl SMembers {
+    /// The key and the value of the first member, and the others, or nothing where there is no member.
+    pub fn split_first(self) -> Option<(SValue, SValue, SMembers)>
+        ensures { SplitsMembers self result }
+    {
+        match self {
+            SMembers::Empty => None,
+            SMembers::More(key, value, others) => Some((
+                Box::into_inner(key),
+                Box::into_inner(value),
+                Box::into_inner(others),
+            )),
+        }
+    }
+}
+
+impl TValues {
+    /// The first value and the others, or nothing where there is no value.
+    pub fn split_first(self) -> Option<(TValue, TValues)>
+        ensures { SplitsRowValues self result }
+    {
+        match self {
+            TValues::Empty => None,
+            TValues::More(value, others) => {
+                Some((Box::into_inner(value), Box::into_inner(others)))
+            }
+        }
+    }
+}
+
+impl TMembers {
+    /// The key and the value of the first member, and the others, or nothing where there is no member.
+    pub fn split_first(self) -> Option<(TValue, TValue, TMembers)>
+        ensures { SplitsRowMembers self result }
+    {
+        match self {
+            TMembers::Empty => None,
+            TMembers::More(key, value, others) => Some((
+                Box::into_inner(key),
+                Box::into_inner(value),
+                Box::into_inner(others),
+            )),
+        }
+    }
+}
+
+impl Columns {
+    /// The first column, and the others if there are any.
+    pub fn split_first(self) -> (Column, Option<Columns>)
+        ensures { SplitsColumns self result }
+    {
+        match self {
+            Columns::Last(column) => (Box::into_inner(column), None),
+            Columns::More(column, others) => {
+                (Box::into_inner(column), Some(Box::into_inner(others)))
+            }
+        }
+    }
 }

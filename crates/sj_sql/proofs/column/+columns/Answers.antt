@@ -1,0 +1,15 @@
+use Rattle.std.proofs.Common.{◌≡◌, suc, ◌-◌, ap, arith}
+use Rattle.sj_statement.specs.Faults.{parsing}
+use Rattle.sj_statement.specs.Reading.{columns_at}
+use Rattle.sj_sql.specs.Noted.{faults_of}
+use Rattle.sj_sql.proofs.column.+columns.Goals as goal
+
+pub returns-then-depth-eq0 : goal.returns-then-depth-eq0
+unfolding columns_at
+returns-then-depth-eq0 t c = let none : c.args.depth ≡ 0 = omega arith in ap (λ n. columns_at parsing n (faults_of c.args.faults) c.args.tokens.now) none
+
+pub returns : goal.returns
+unfolding columns_at
+returns t c =
+    let one : c.args.depth ≡ suc (c.args.depth - 1) = omega arith in
+    rw (ap (λ n. columns_at parsing n (faults_of c.args.faults) c.args.tokens.now) one) c.over.ensures

@@ -1,0 +1,12 @@
+use Rattle.std.proofs.Common.{◌≡◌, ◌-◌, length, ◌∷◌}
+use Rattle.sj_statement.specs.Faults.{parsing}
+use Rattle.sj_statement.specs.Reading.{plain_item_at, items_from}
+use Rattle.sj_sql.specs.Cells.{fronted}
+use Rattle.sj_sql.specs.Noted.{faults_of}
+use Rattle.sj_sql.specs.View.{plain_of}
+use Rattle.sj_sql.proofs.item.plain_items.Given as goal
+
+abbrev pub invariant-loop-turn : goal.invariant-loop-turn
+invariant-loop-turn l =
+    items_from parsing (plain_item_at parsing) (length l.tokens) (faults_of l.fn.faults) l.tokens
+    ≡ fronted ◌∷◌ (plain_of l.items) (items_from parsing (plain_item_at parsing) (l._turn-end - l._turn) (faults_of l.so_far) l.left.tokens.now)

@@ -1,0 +1,19 @@
+use Rattle.std.proofs.Common.{sym, ap, ◌∙◌}
+use Rattle.sj_statement.specs.Grammar.{row}
+use Rattle.sj_statement.specs.Faults.{parsing}
+use Rattle.sj_statement.specs.Reading.{value_at}
+use Rattle.sj_sql.specs.Cells.{row_members_of, row_member_of, more_members}
+use Rattle.sj_sql.specs.Noted.{faults_of}
+use Rattle.sj_sql.proofs.Lists.{goes_on, ends, read, row_members_end, members_read}
+use Rattle.sj_sql.proofs.row_value.Level.members.Goals as goal
+
+pub loop-turn-preserved : goal.loop-turn-preserved
+loop-turn-preserved g c =
+    goes_on more_members _ _ _ (members_read (value_at parsing row c.args.self.now.depth)) _ c.loop-turn._turn (row_members_of c.loop-turn.members) (row_members_of c.put.new.values) (row_member_of c.in_ok-member.member) (faults_of c.loop-turn.so_far) (faults_of c.in_ok-member.noted)
+    c.loop-turn.left.tokens.now c.in_ok-member.after.now c.in-Some.next.now c.loop-turn-test.true c.loop-turn.invariant c.in_ok-member.ensures c.in-Some.ensures (ap row_members_of c.in_ok-put.ensures ∙ row_members_end c.loop-turn.members c.in_ok-member.member)
+
+pub returns-in_default : goal.returns-in_default
+returns-in_default g c =
+    ends more_members _ _ _ (members_read (value_at parsing row c.args.self.now.depth)) _ c.loop-turn._turn (row_members_of c.loop-turn.members) (row_member_of c.in_ok-member.member) (faults_of c.loop-turn.so_far) (faults_of c.in_ok-member.noted)
+    c.loop-turn.left.tokens.now c.in_ok-member.after.now c.loop-turn-test.true c.loop-turn.invariant c.in_ok-member.ensures c.in_default.ensures
+    ∙ ap (read (faults_of c.in_ok-member.noted) c.in_ok-member.after.now) (sym c.in_ok-cells.ensures)

@@ -1,0 +1,44 @@
+-- Function values that read things one level deeper.
+use Rattle.std.specs.Prelude.{ℕ, Result}
+use Rattle.std.specs.declared.alloc.Global.{Global}
+use Rattle.std.specs.Borrow.{Bor}
+use Rattle.sj_statement.specs.Faults.{parsing}
+use Rattle.sj_statement.specs.Grammar.{document, row}
+use Rattle.sj_statement.specs.Phrases.{Tokens}
+use Rattle.sj_statement.specs.Reading.{value_at, columns_at, plan_expr_at}
+use Rattle.sj_sql.specs.declared.faults.Faults.{Faults}
+use Rattle.sj_sql.specs.declared.refusal.Refusal.{Refusal}
+use Rattle.sj_sql.specs.declared.tree.SValue.{SValue}
+use Rattle.sj_sql.specs.declared.tree.TValue.{TValue}
+use Rattle.sj_sql.specs.declared.tree.Columns.{Columns}
+use Rattle.sj_sql.specs.declared.tree.NamedPlan.{NamedPlan}
+use Rattle.sj_sql.specs.Gives.{Gives}
+use Rattle.sj_sql.specs.Noted.{faults_of}
+use Rattle.sj_sql.specs.View.{svalue_of, tvalue_of, columns_of, plan_of}
+
+-- it reads the values of a statement without a table
+pub record Nests (depth : ℕ) (pre : Global → ℕ → Faults → Bor Tokens → Type 0)
+    (post : Global → ℕ → Faults → Bor Tokens → Result (SValue × Faults × Bor Tokens) Refusal → Type 0) : Type 0 where
+  pub callable : (alloc : Global) (faults : Faults) (tokens : Bor Tokens) → pre alloc depth faults tokens
+  pub reads : (alloc : Global) (faults : Faults) (tokens : Bor Tokens) (r : Result (SValue × Faults × Bor Tokens) Refusal) → post alloc depth faults tokens r
+      → Gives (λ x. (svalue_of x.0, faults_of x.1, x.2.now)) r (value_at parsing document depth (faults_of faults) tokens.now)
+
+-- the values of a statement with a table
+pub record RowNests (depth : ℕ) (pre : Global → ℕ → Faults → Bor Tokens → Type 0)
+    (post : Global → ℕ → Faults → Bor Tokens → Result (TValue × Faults × Bor Tokens) Refusal → Type 0) : Type 0 where
+  pub callable : (alloc : Global) (faults : Faults) (tokens : Bor Tokens) → pre alloc depth faults tokens
+  pub reads : (alloc : Global) (faults : Faults) (tokens : Bor Tokens) (r : Result (TValue × Faults × Bor Tokens) Refusal) → post alloc depth faults tokens r
+      → Gives (λ x. (tvalue_of x.0, faults_of x.1, x.2.now)) r (value_at parsing row depth (faults_of faults) tokens.now)
+
+-- the columns of a table
+pub record ColumnNests (depth : ℕ) (pre : Global → ℕ → Faults → Bor Tokens → Type 0)
+    (post : Global → ℕ → Faults → Bor Tokens → Result (Columns × Faults × Bor Tokens) Refusal → Type 0) : Type 0 where
+  pub callable : (alloc : Global) (faults : Faults) (tokens : Bor Tokens) → pre alloc depth faults tokens
+  pub reads : (alloc : Global) (faults : Faults) (tokens : Bor Tokens) (r : Result (Columns × Faults × Bor Tokens) Refusal) → post alloc depth faults tokens r
+      → Gives (λ x. (columns_of x.0, faults_of x.1, x.2.now)) r (columns_at parsing depth (faults_of faults) tokens.now)
+
+-- the plan of a table
+pub record PlanNests (depth : ℕ) (pre : Global → ℕ → Bor Tokens → Type 0) (post : Global → ℕ → Bor Tokens → Result (NamedPlan × Bor Tokens) Refusal → Type 0) : Type 0 where
+  pub callable : (alloc : Global) (tokens : Bor Tokens) → pre alloc depth tokens
+  pub reads : (alloc : Global) (tokens : Bor Tokens) (r : Result (NamedPlan × Bor Tokens) Refusal) → post alloc depth tokens r
+      → Gives (λ x. (plan_of x.0, x.1.now)) r (plan_expr_at depth tokens.now)

@@ -1,0 +1,41 @@
+//! The answer of one statement.
+
+ghost use Rattle.sj_sql.specs.File.{IsAnswered};
+
+use crate::depth::too_deep;
+use crate::refusal::Refusal;
+use crate::select::select;
+use crate::single::Tokens;
+use crate::tree::Statement;
+use sj_statement::FileKind;
+use std::alloc::Global;
+
+/// Why a statement is not taken.
+#[derive(Drop)]
+pub enum Refused {
+    /// The statement is refused.
+    For(FileKind),
+    /// Memory ran out.
+    Memory,
+}
+
+/// The statement that the tokens spell, or the first reason to refuse it: they have no tree, a path text has a fault, or a part is
+/// lacking.
+pub fn answer(alloc: Global, tokens: Tokens<'_>) -> Result<Statement, Refused>
+    ensures { IsAnswered tokens.now result }
+{
+    if too_deep(tokens) {
+        return Err(Refused::For(FileKind::Syntax));
+    }
+    match select(alloc, tokens) {
+        Ok((statement, faults)) => match faults.path {
+            Some(fault) => Err(Refused::For(fault)),
+            None => match faults.lack {
+                Some(name) => Err(Refused::For(FileKind::Unsupported(name))),
+                None => Ok(statement),
+            },
+        },
+        Err(Refusal::Syntax) => Err(Refused::For(FileKind::Syntax)),
+        Err(Refusal::Memory) => Err(Refused::Memory),
+    }
+}

@@ -1,0 +1,87 @@
+//! The functions JSON_EXISTS, JSON_VALUE and JSON_QUERY, behind their words.
+
+ghost use Rattle.std.specs.Prelude.{◌≡◌};
+ghost use Rattle.sj_statement.specs.Faults.{parsing};
+ghost use Rattle.sj_statement.specs.Reading as reading;
+ghost use Rattle.sj_sql.specs.Gives.{Gives};
+ghost use Rattle.sj_sql.specs.Noted.{faults_of};
+ghost use Rattle.sj_sql.specs.View.{svalue_of};
+
+use crate::common::common;
+use crate::faults::Faults;
+use crate::optional::value_action;
+use crate::phrase::{exists_clause, query_clause, quotes_clause, returning, wrapper};
+use crate::refusal::Refusal;
+use crate::single::{Tokens, close, open};
+use crate::tree::{ExistsCall, QueryCall, SValue, ValueCall};
+use sj_sql_token::Keyword;
+use sj_statement::{Quotes, TypeName};
+use sj_value::{ExistsAction, QueryAction, SqlType, Wrapper};
+use std::alloc::Global;
+
+/// JSON_EXISTS.
+#[tactic(auto, unfolding(sj_statement::specs::Reading::exists_from))]
+pub fn exists(
+    alloc: Global,
+    faults: Faults,
+    tokens: Tokens<'_>,
+) -> Result<(SValue, Faults, Tokens<'_>), Refusal>
+    ensures { Gives (λ x. (svalue_of x.0, faults_of x.1, x.2.now)) result (reading.exists_from parsing (faults_of faults) tokens.now) }
+{
+    let rest = open(tokens).ok_or(Refusal::Syntax)?;
+    let (common, faults, rest) = common(alloc, faults, rest)?;
+    let (on_error, rest) = exists_clause(rest).unwrap_or((ExistsAction::False, rest));
+    let rest = close(rest).ok_or(Refusal::Syntax)?;
+    let call = ExistsCall { common, on_error };
+    Ok((SValue::Exists(call), faults, rest))
+}
+
+/// JSON_VALUE.
+#[tactic(auto, unfolding(sj_statement::specs::Reading::value_from))]
+pub fn value(
+    alloc: Global,
+    faults: Faults,
+    tokens: Tokens<'_>,
+) -> Result<(SValue, Faults, Tokens<'_>), Refusal>
+    ensures { Gives (λ x. (svalue_of x.0, faults_of x.1, x.2.now)) result (reading.value_from parsing (faults_of faults) tokens.now) }
+{
+    let rest = open(tokens).ok_or(Refusal::Syntax)?;
+    let (common, faults, rest) = common(alloc, faults, rest)?;
+    let (ty, rest) = returning(rest).unwrap_or((TypeName::Known(SqlType::Varchar), rest));
+    let (on_empty, rest) = value_action(alloc, Keyword::Empty, rest)?;
+    let (on_error, rest) = value_action(alloc, Keyword::Error, rest)?;
+    let rest = close(rest).ok_or(Refusal::Syntax)?;
+    let call = ValueCall {
+        common,
+        ty,
+        on_empty,
+        on_error,
+    };
+    Ok((SValue::Value(call), faults.with_type(ty), rest))
+}
+
+/// JSON_QUERY.
+#[tactic(auto, unfolding(sj_statement::specs::Reading::query_from))]
+pub fn query(
+    alloc: Global,
+    faults: Faults,
+    tokens: Tokens<'_>,
+) -> Result<(SValue, Faults, Tokens<'_>), Refusal>
+    ensures { Gives (λ x. (svalue_of x.0, faults_of x.1, x.2.now)) result (reading.query_from parsing (faults_of faults) tokens.now) }
+{
+    let rest = open(tokens).ok_or(Refusal::Syntax)?;
+    let (common, faults, rest) = common(alloc, faults, rest)?;
+    let (wrapper, rest) = wrapper(rest).unwrap_or((Wrapper::Without, rest));
+    let (quotes, rest) = quotes_clause(rest).unwrap_or((Quotes::Absent, rest));
+    let (on_empty, rest) = query_clause(Keyword::Empty, rest).unwrap_or((QueryAction::Null, rest));
+    let (on_error, rest) = query_clause(Keyword::Error, rest).unwrap_or((QueryAction::Null, rest));
+    let rest = close(rest).ok_or(Refusal::Syntax)?;
+    let call = QueryCall {
+        common,
+        wrapper,
+        quotes,
+        on_empty,
+        on_error,
+    };
+    Ok((SValue::Query(call), faults, rest))
+}

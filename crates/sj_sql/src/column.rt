@@ -1,0 +1,253 @@
+//! The columns of a table, with a function that reads the columns inside them.
+
+ghost use Rattle.std.specs.Prelude.{◌≡◌, IfOk, length};
+ghost use Rattle.sj_statement.specs.Faults.{parsing};
+ghost use Rattle.sj_statement.specs.Reading as reading;
+ghost use Rattle.sj_statement.specs.Tree as t;
+ghost use Rattle.sj_sql.specs.Cells.{onto, column_list_of};
+ghost use Rattle.sj_sql.specs.Gives.{Gives};
+ghost use Rattle.sj_sql.specs.Nests.{ColumnNests};
+ghost use Rattle.sj_sql.specs.Noted.{faults_of};
+ghost use Rattle.sj_sql.specs.View.{column_of, columns_of};
+
+use crate::faults::Faults;
+use crate::optional::{name_of_path, value_action};
+use crate::passing::put;
+use crate::path::{column_path, nested_path, path};
+use crate::phrase::{
+    encoding_clause, formatted_type, query_clause, quotes_clause, type_name, wrapper,
+};
+use crate::refusal::Refusal;
+use crate::seq::Seq;
+use crate::single::{Rest, Tokens, close, comma, name, open, word};
+use crate::tree::{Column, Columns, FormattedColumn, RegularColumn};
+use sj_base::{Memory, Text};
+use sj_sql_token::Keyword;
+use sj_statement::{Encoding, Quotes};
+use sj_value::{QueryAction, Wrapper};
+use std::alloc::Global;
+
+/// A column that is JSON_VALUE, behind its name.
+#[tactic(auto, unfolding(sj_statement::specs::Reading::regular_at))]
+fn regular(
+    alloc: Global,
+    name: Text,
+    faults: Faults,
+    tokens: Tokens<'_>,
+) -> Result<(Column, Faults, Tokens<'_>), Refusal>
+    ensures { Gives (λ x. (column_of x.0, faults_of x.1, x.2.now)) result (reading.regular_at parsing name (faults_of faults) tokens.now) }
+{
+    let Some((ty, rest)) = type_name(tokens) else {
+        return Err(Refusal::Syntax);
+    };
+    let (path, faults, rest) = column_path(alloc, &name, faults.with_type(ty), rest)?;
+    let (on_empty, rest) = value_action(alloc, Keyword::Empty, rest)?;
+    let (on_error, rest) = value_action(alloc, Keyword::Error, rest)?;
+    let column = RegularColumn {
+        name,
+        ty,
+        path,
+        on_empty,
+        on_error,
+    };
+    Ok((Column::Regular(column), faults, rest))
+}
+
+/// A column that is JSON_QUERY, behind its name and type.
+#[tactic(auto, unfolding(sj_statement::specs::Reading::formatted_from))]
+fn formatted(
+    alloc: Global,
+    name: Text,
+    faults: Faults,
+    tokens: Tokens<'_>,
+) -> Result<(Column, Faults, Tokens<'_>), Refusal>
+    ensures { Gives (λ x. (column_of x.0, faults_of x.1, x.2.now)) result (reading.formatted_from parsing name (faults_of faults) tokens.now) }
+{
+    let (encoding, rest) = encoding_clause(tokens).unwrap_or((Encoding::Read, tokens));
+    let (path, faults, rest) = column_path(alloc, &name, faults.with_encoding(encoding), rest)?;
+    let (wrapper, rest) = wrapper(rest).unwrap_or((Wrapper::Without, rest));
+    let (quotes, rest) = quotes_clause(rest).unwrap_or((Quotes::Absent, rest));
+    let (on_empty, rest) = query_clause(Keyword::Empty, rest).unwrap_or((QueryAction::Null, rest));
+    let (on_error, rest) = query_clause(Keyword::Error, rest).unwrap_or((QueryAction::Null, rest));
+    let column = FormattedColumn {
+        name,
+        encoding,
+        path,
+        wrapper,
+        quotes,
+        on_empty,
+        on_error,
+    };
+    Ok((Column::Formatted(column), faults, rest))
+}
+
+/// A column, behind its name.
+#[tactic(auto, unfolding(sj_statement::specs::Reading::named_column_at))]
+fn named_column(
+    alloc: Global,
+    name: Text,
+    faults: Faults,
+    tokens: Tokens<'_>,
+) -> Result<(Column, Faults, Tokens<'_>), Refusal>
+    ensures { Gives (λ x. (column_of x.0, faults_of x.1, x.2.now)) result (reading.named_column_at parsing name (faults_of faults) tokens.now) }
+{
+    if let Some(rest) = word(Keyword::For, tokens) {
+        let rest = word(Keyword::Ordinality, rest).ok_or(Refusal::Syntax)?;
+        return Ok((Column::Ordinality(name), faults, rest));
+    }
+    match formatted_type(tokens) {
+        Some(rest) => formatted(alloc, name, faults, rest),
+        None => regular(alloc, name, faults, tokens),
+    }
+}
+
+fn column_cell(alloc: Global, column: Column, others: Columns) -> Result<Columns, Memory>
+    ensures { IfOk result (λ x. columns_of x ≡ t.More (column_of column) (columns_of others)) }
+{
+    let others = Box::new(alloc, others)?;
+    Ok(Columns::More(Box::new(alloc, column)?, others))
+}
+
+fn last_column_cell(alloc: Global, column: Column) -> Result<Columns, Memory>
+    ensures { IfOk result (λ x. columns_of x ≡ t.Last (column_of column)) }
+{
+    Ok(Columns::Last(Box::new(alloc, column)?))
+}
+
+/// The cells of columns, and of one more.
+fn column_cells(alloc: Global, before: Seq<Column>, last: Column) -> Result<Columns, Memory>
+    ensures { IfOk result (λ x. columns_of x ≡ onto t.More (column_list_of before) (t.Last (column_of last))) }
+{
+    let mut before = before.into_vec();
+    let mut cells = last_column_cell(alloc, last)?;
+    while let Some(column) = before.pop() {
+        cells = column_cell(alloc, column, cells)?;
+    }
+    Ok(cells)
+}
+
+/// What may stand at one level of columns.
+#[derive(Clone, Copy)]
+pub struct Level<F> {
+    pub alloc: Global,
+    /// How deep columns may still nest.
+    pub depth: usize,
+    pub inner: F,
+}
+
+impl<
+    F: Fn(Global, usize, Faults, Tokens<'_>) -> Result<(Columns, Faults, Tokens<'_>), Refusal>,
+> Level<F> {
+    fn inner<'a>(
+        &self,
+        faults: Faults,
+        tokens: Tokens<'a>,
+    ) -> Result<(Columns, Faults, Tokens<'a>), Refusal>
+        requires { ColumnNests self.now.depth (F.pre self.now.inner) (F.post self.now.inner) }
+        ensures { Gives (λ x. (columns_of x.0, faults_of x.1, x.2.now)) result (reading.columns_at parsing self.now.depth (faults_of faults) tokens.now) }
+    {
+        (self.inner)(self.alloc, self.depth, faults, tokens)
+    }
+
+    /// Nested columns, behind NESTED.
+    #[tactic(auto, unfolding(sj_statement::specs::Reading::nested_from))]
+    fn nested<'a>(
+        &self,
+        faults: Faults,
+        tokens: Tokens<'a>,
+    ) -> Result<(Column, Faults, Tokens<'a>), Refusal>
+        requires { ColumnNests self.now.depth (F.pre self.now.inner) (F.post self.now.inner) }
+        ensures { Gives (λ x. (column_of x.0, faults_of x.1, x.2.now)) result
+            (reading.nested_from parsing (reading.columns_at parsing self.now.depth) (faults_of faults) tokens.now) }
+    {
+        let Some((text, rest)) = nested_path(tokens) else {
+            return Err(Refusal::Syntax);
+        };
+        let (path, faults) = path(self.alloc, faults, text)?;
+        let (name, rest) = name_of_path(self.alloc, rest)?;
+        let (columns, faults, rest) = self.inner(faults, rest)?;
+        let nested = Column::Nested(path, name, Box::new(self.alloc, columns)?);
+        Ok((nested, faults, rest))
+    }
+
+    #[tactic(auto, unfolding(sj_statement::specs::Reading::column_at))]
+    fn column<'a>(
+        &self,
+        faults: Faults,
+        tokens: Tokens<'a>,
+    ) -> Result<(Column, Faults, Tokens<'a>), Refusal>
+        requires { ColumnNests self.now.depth (F.pre self.now.inner) (F.post self.now.inner) }
+        ensures { Gives (λ x. (column_of x.0, faults_of x.1, x.2.now)) result
+            (reading.column_at parsing (reading.columns_at parsing self.now.depth) (faults_of faults) tokens.now) }
+    {
+        if let Some(rest) = word(Keyword::Nested, tokens) {
+            return self.nested(faults, rest);
+        }
+        let (name, rest) = name(self.alloc, tokens)?;
+        named_column(self.alloc, name, faults, rest)
+    }
+
+    /// Columns with commas between them.
+    #[tactic(auto, unfolding(sj_statement::specs::Reading::columns_from))]
+    fn columns<'a>(
+        &self,
+        faults: Faults,
+        tokens: Tokens<'a>,
+    ) -> Result<(Columns, Faults, Tokens<'a>), Refusal>
+        requires { ColumnNests self.now.depth (F.pre self.now.inner) (F.post self.now.inner) }
+        ensures { Gives (λ x. (columns_of x.0, faults_of x.1, x.2.now)) result
+            (reading.columns_from parsing (reading.columns_at parsing self.now.depth) (length tokens.now) (faults_of faults) tokens.now) }
+    {
+        let mut columns = Seq::new(self.alloc);
+        let mut so_far = faults;
+        let mut left = Rest { tokens };
+        for _turn in 0..tokens.len() {
+            let (column, noted, after) = self.column(so_far, left.tokens)?;
+            let Some(next) = comma(after) else {
+                let cells = column_cells(self.alloc, columns, column)?;
+                return Ok((cells, noted, after));
+            };
+            put(&mut columns, column)?;
+            so_far = noted;
+            left = Rest { tokens: next };
+        }
+        Err(Refusal::Syntax)
+    }
+
+    #[tactic(auto, unfolding(sj_statement::specs::Reading::columns_over))]
+    fn over<'a>(
+        &self,
+        faults: Faults,
+        tokens: Tokens<'a>,
+    ) -> Result<(Columns, Faults, Tokens<'a>), Refusal>
+        requires { ColumnNests self.now.depth (F.pre self.now.inner) (F.post self.now.inner) }
+        ensures { Gives (λ x. (columns_of x.0, faults_of x.1, x.2.now)) result
+            (reading.columns_over parsing (reading.columns_at parsing self.now.depth) (faults_of faults) tokens.now) }
+    {
+        let rest = word(Keyword::Columns, tokens).ok_or(Refusal::Syntax)?;
+        let rest = open(rest).ok_or(Refusal::Syntax)?;
+        let (columns, faults, rest) = self.columns(faults, rest)?;
+        let rest = close(rest).ok_or(Refusal::Syntax)?;
+        Ok((columns, faults, rest))
+    }
+}
+
+/// Columns, with columns inside one another at most `depth` deep.
+pub fn columns(
+    alloc: Global,
+    depth: usize,
+    faults: Faults,
+    tokens: Tokens<'_>,
+) -> Result<(Columns, Faults, Tokens<'_>), Refusal>
+    ensures { Gives (λ x. (columns_of x.0, faults_of x.1, x.2.now)) result (reading.columns_at parsing depth (faults_of faults) tokens.now) }
+{
+    if depth == 0 {
+        return Err(Refusal::Syntax);
+    }
+    Level {
+        alloc,
+        depth: depth - 1,
+        inner: columns,
+    }
+    .over(faults, tokens)
+}

@@ -1,0 +1,181 @@
+//! Files of statements.
+
+ghost use Rattle.std.specs.Prelude.{◌≡◌, suc, ◌<◌, ◌≤◌, ◌+◌, ◌-◌, ◌^◌, ◌∷◌, ◌++◌, [], length, map, IfOk, OnOk, OnErr, MatchOption, slice_get};
+ghost use Rattle.std.specs.Option.{option_copied};
+ghost use Rattle.sj_sql_token.specs.Tokens.{lexed};
+ghost use Rattle.sj_statement.specs.Answers.{IsFile};
+ghost use Rattle.sj_sql.specs.File.{IsGathered, is_semicolon, fault_of};
+ghost use Rattle.sj_sql.specs.View.{statement_of};
+
+use crate::answer::{Refused, answer};
+use crate::tree::Statement;
+use sj_base::Memory;
+use sj_sql_token::{Next, Token, next_token};
+use sj_statement::FileKind;
+use std::alloc::Global;
+use std::collections::VecDeque;
+use std::marker::Model;
+
+/// The statements of a file in their order, seen as a list.
+#[derive(Drop)]
+pub struct Statements {
+    items: VecDeque<Statement>,
+}
+
+impl Model for Statements {
+    ghost use Rattle.std.specs.Prelude.{List, length, ◌<◌, ◌^◌};
+    ghost use Rattle.std.specs.Coded.{codes};
+    ghost use Rattle.sj_sql.specs.declared.tree.Statement.{Statement};
+    ghost use Rattle.sj_sql.specs.contracts.tree.Statement as statement;
+
+    ghost Value = { List Statement };
+
+    ghost coded = { Prim.hlevel (codes, statement.the_row.coded) };
+
+    ghost view = { λ s. s.items.items };
+
+    ghost invariant = { λ s. length s.items.items < 2 ^ 32 };
+}
+
+impl Statements {
+    fn new(alloc: Global) -> Statements
+        ensures { result ≡ [] }
+    {
+        Statements {
+            items: VecDeque::new(alloc),
+        }
+    }
+
+    fn push(&mut self, statement: Statement) -> Result<(), Memory>
+        requires { length self.old < 2 ^ 32 - 1 }
+        ensures { OnOk result (self.new ≡ self.old ++ statement ∷ []) }
+    {
+        self.items.push_back(statement)?;
+        Ok(())
+    }
+
+    /// How many statements there are.
+    pub fn len(&self) -> u32
+        ensures { result ≡ length self.now }
+    {
+        self.items.len() as u32
+    }
+
+    /// The statement of this number, counted from 0, or nothing past the end.
+    pub fn get(&self, i: u32) -> Option<&Statement>
+        ensures { option_copied result ≡ slice_get self.now i }
+    {
+        self.items.get(i as usize)
+    }
+
+    /// Takes the first statement out, or nothing where none is left. It takes the same time whatever is left.
+    pub fn take_first(&mut self) -> Option<Statement>
+        ensures { MatchOption result ((self.old ≡ []) × (self.new ≡ [])) (λ x. self.old ≡ x ∷ self.new) }
+    {
+        self.items.pop_front()
+    }
+}
+
+/// Why a statement of a file is refused.
+#[derive(Clone, Copy, Debug, PartialEq, Eq)]
+pub struct FileFault {
+    /// Which statement it is, counted from 1.
+    pub statement: u32,
+    pub kind: FileKind,
+}
+
+/// What a file is read as.
+#[derive(Drop)]
+pub struct Script {
+    /// All statements, or those before the first that is refused.
+    pub statements: Statements,
+    /// Why that one is refused.
+    pub fault: Option<FileFault>,
+}
+
+/// What stands at the front of a file.
+enum Gathered<'a> {
+    /// A statement with its semicolon, and what is behind it.
+    Statement(&'a [u8]),
+    /// Nothing: the file ends.
+    End,
+    /// A statement without its semicolon: the file ends.
+    CutOff,
+    /// Tokens of a statement and a piece that is none.
+    Broken,
+}
+
+fn is_semicolon(token: &Token<'_>) -> bool
+    ensures { result ≡ is_semicolon token.now }
+{
+    matches!(token, Token::Semicolon)
+}
+
+/// Puts the tokens of the first statement, up to its semicolon, in place of those that stood there.
+fn gather<'a>(file: &'a [u8], tokens: &mut Vec<Token<'a>>) -> Result<Gathered<'a>, Memory>
+    ensures { IfOk result (λ x. IsGathered file.now tokens.new.items x) }
+{
+    tokens.clear();
+    let mut rest = file;
+    loop {
+        match next_token(rest) {
+            Next::Token(token, behind) => {
+                if is_semicolon(&token) {
+                    return Ok(Gathered::Statement(behind));
+                }
+                tokens.push(token)?;
+                rest = behind;
+            }
+            Next::End => {
+                if tokens.is_empty() {
+                    return Ok(Gathered::End);
+                }
+                return Ok(Gathered::CutOff);
+            }
+            Next::Fault => return Ok(Gathered::Broken),
+        }
+    }
+}
+
+/// The statements before the one that is refused for this reason.
+fn refused(statements: Statements, kind: FileKind) -> Script
+    requires { length statements < 2 ^ 32 - 1 }
+    ensures statements { result.statements ≡ statements }
+    ensures fault { fault_of result.fault ≡ Some (suc (length statements), kind) }
+{
+    let statement = statements.len() + 1;
+    Script {
+        statements,
+        fault: Some(FileFault { statement, kind }),
+    }
+}
+
+/// The statements of a file before the first that is refused, and why that one is refused. It takes time linear in the file.
+pub fn parse_file(alloc: Global, bytes: &[u8]) -> Result<Script, Memory>
+    requires { length bytes.now ≤ 1_048_576 }
+    ensures { IfOk result (λ s. IsFile (lexed bytes.now) (map statement_of s.statements) (fault_of s.fault)) }
+{
+    let mut statements = Statements::new(alloc);
+    let mut tokens = Vec::new(alloc);
+    let mut rest = bytes;
+    loop {
+        match gather(rest, &mut tokens)? {
+            Gathered::Statement(behind) => {
+                match answer(alloc, tokens.as_slice()) {
+                    Ok(statement) => statements.push(statement)?,
+                    Err(Refused::For(kind)) => return Ok(refused(statements, kind)),
+                    Err(Refused::Memory) => return Err(Memory),
+                }
+                rest = behind;
+            }
+            Gathered::End => {
+                return Ok(Script {
+                    statements,
+                    fault: None,
+                });
+            }
+            Gathered::CutOff => return Ok(refused(statements, FileKind::Syntax)),
+            Gathered::Broken => return Ok(refused(statements, FileKind::Lex)),
+        }
+    }
+}

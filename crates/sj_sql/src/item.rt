@@ -1,0 +1,156 @@
+//! The items of a SELECT list.
+
+ghost use Rattle.std.specs.Prelude.{◌≡◌, length};
+ghost use Rattle.sj_statement.specs.Faults.{parsing};
+ghost use Rattle.sj_statement.specs.Reading as reading;
+ghost use Rattle.sj_sql.specs.Gives.{Gives};
+ghost use Rattle.sj_sql.specs.Noted.{faults_of};
+ghost use Rattle.sj_sql.specs.View.{svalue_of, item_of, plain_of, items_of};
+
+use crate::faults::Faults;
+use crate::optional::skip_alias;
+use crate::passing::put;
+use crate::phrase::{nulls_clause, unique_clause};
+use crate::refusal::Refusal;
+use crate::row_value::{Level, row_value};
+use crate::seq::Seq;
+use crate::single::{Rest, Tokens, close, comma, open, word};
+use crate::tree::{SValue, TItem};
+use crate::value::document_value;
+use sj_sql_token::Keyword;
+use sj_value::Nulls;
+use std::alloc::Global;
+
+/// A value without a table, and the name that leaves no trace.
+#[tactic(auto, unfolding(sj_statement::specs::Reading::plain_item_at))]
+fn plain_item(
+    alloc: Global,
+    faults: Faults,
+    tokens: Tokens<'_>,
+) -> Result<(SValue, Faults, Tokens<'_>), Refusal>
+    ensures { Gives (λ x. (svalue_of x.0, faults_of x.1, x.2.now)) result (reading.plain_item_at parsing (faults_of faults) tokens.now) }
+{
+    let (value, faults, rest) = document_value(alloc, tokens.len() + 1, faults, tokens)?;
+    Ok((value, faults, skip_alias(rest)))
+}
+
+/// JSON_ARRAYAGG, behind its word.
+#[tactic(auto, unfolding(sj_statement::specs::Reading::array_agg_from))]
+fn array_agg(
+    alloc: Global,
+    faults: Faults,
+    tokens: Tokens<'_>,
+) -> Result<(TItem, Faults, Tokens<'_>), Refusal>
+    ensures { Gives (λ x. (item_of x.0, faults_of x.1, x.2.now)) result (reading.array_agg_from parsing (faults_of faults) tokens.now) }
+{
+    let rest = open(tokens).ok_or(Refusal::Syntax)?;
+    let (value, faults, rest) = row_value(alloc, rest.len() + 1, faults, rest)?;
+    let (nulls, rest) = nulls_clause(rest).unwrap_or((Nulls::Absent, rest));
+    let rest = close(rest).ok_or(Refusal::Syntax)?;
+    Ok((TItem::ArrayAgg(value, nulls), faults, rest))
+}
+
+/// JSON_OBJECTAGG, behind its word.
+#[tactic(auto, unfolding(sj_statement::specs::Reading::object_agg_from))]
+fn object_agg(
+    alloc: Global,
+    faults: Faults,
+    tokens: Tokens<'_>,
+) -> Result<(TItem, Faults, Tokens<'_>), Refusal>
+    ensures { Gives (λ x. (item_of x.0, faults_of x.1, x.2.now)) result (reading.object_agg_from parsing (faults_of faults) tokens.now) }
+{
+    let rest = open(tokens).ok_or(Refusal::Syntax)?;
+    let level = Level {
+        alloc,
+        depth: rest.len() + 1,
+        inner: row_value,
+    };
+    let (member, faults, rest) = level.member(faults, rest)?;
+    let (nulls, rest) = nulls_clause(rest).unwrap_or((Nulls::Null, rest));
+    let (unique, rest) = unique_clause(rest).unwrap_or((false, rest));
+    let rest = close(rest).ok_or(Refusal::Syntax)?;
+    let item = TItem::ObjectAgg(member.key, member.value, nulls, unique);
+    Ok((item, faults, rest))
+}
+
+/// A value of a row, or an aggregate.
+#[tactic(auto, unfolding(sj_statement::specs::Reading::row_item_at))]
+fn row_item(
+    alloc: Global,
+    faults: Faults,
+    tokens: Tokens<'_>,
+) -> Result<(TItem, Faults, Tokens<'_>), Refusal>
+    ensures { Gives (λ x. (item_of x.0, faults_of x.1, x.2.now)) result (reading.row_item_at parsing (faults_of faults) tokens.now) }
+{
+    if let Some(rest) = word(Keyword::JsonArrayAgg, tokens) {
+        return array_agg(alloc, faults, rest);
+    }
+    if let Some(rest) = word(Keyword::JsonObjectAgg, tokens) {
+        return object_agg(alloc, faults, rest);
+    }
+    let (value, faults, rest) = row_value(alloc, tokens.len() + 1, faults, tokens)?;
+    Ok((TItem::Value(value), faults, rest))
+}
+
+/// An item with a table, and the name that leaves no trace.
+#[tactic(auto, unfolding(sj_statement::specs::Reading::listed_item_at))]
+fn listed_item(
+    alloc: Global,
+    faults: Faults,
+    tokens: Tokens<'_>,
+) -> Result<(TItem, Faults, Tokens<'_>), Refusal>
+    ensures { Gives (λ x. (item_of x.0, faults_of x.1, x.2.now)) result (reading.listed_item_at parsing (faults_of faults) tokens.now) }
+{
+    let (item, faults, rest) = row_item(alloc, faults, tokens)?;
+    Ok((item, faults, skip_alias(rest)))
+}
+
+/// Values without a table, with commas between them.
+#[tactic(auto, unfolding(sj_statement::specs::Reading::items_from))]
+pub fn plain_items(
+    alloc: Global,
+    faults: Faults,
+    tokens: Tokens<'_>,
+) -> Result<(Seq<SValue>, Faults, Tokens<'_>), Refusal>
+    ensures { Gives (λ x. (plain_of x.0, faults_of x.1, x.2.now)) result
+        (reading.items_from parsing (reading.plain_item_at parsing) (length tokens.now) (faults_of faults) tokens.now) }
+{
+    let mut items = Seq::new(alloc);
+    let mut so_far = faults;
+    let mut left = Rest { tokens };
+    for _turn in 0..tokens.len() {
+        let (item, noted, after) = plain_item(alloc, so_far, left.tokens)?;
+        put(&mut items, item)?;
+        let Some(next) = comma(after) else {
+            return Ok((items, noted, after));
+        };
+        so_far = noted;
+        left = Rest { tokens: next };
+    }
+    Err(Refusal::Syntax)
+}
+
+/// Items with a table, with commas between them.
+#[tactic(auto, unfolding(sj_statement::specs::Reading::items_from))]
+pub fn listed_items(
+    alloc: Global,
+    faults: Faults,
+    tokens: Tokens<'_>,
+) -> Result<(Seq<TItem>, Faults, Tokens<'_>), Refusal>
+    ensures { Gives (λ x. (items_of x.0, faults_of x.1, x.2.now)) result
+        (reading.items_from parsing (reading.listed_item_at parsing) (length tokens.now) (faults_of faults) tokens.now) }
+{
+    let mut items = Seq::new(alloc);
+    let mut so_far = faults;
+    let mut left = Rest { tokens };
+    for _turn in 0..tokens.len() {
+        let (item, noted, after) = listed_item(alloc, so_far, left.tokens)?;
+        put(&mut items, item)?;
+        let Some(next) = comma(after) else {
+            return Ok((items, noted, after));
+        };
+        so_far = noted;
+        left = Rest { tokens: next };
+    }
+    Err(Refusal::Syntax)
+}

@@ -1,0 +1,64 @@
+//! Clauses that may be left out, with what they stand for then.
+
+ghost use Rattle.std.specs.Prelude.{◌≡◌, None, option_map};
+ghost use Rattle.std.specs.Option.{option_copied};
+ghost use Rattle.sj_statement.specs.Phrases as phrase;
+ghost use Rattle.sj_statement.specs.Reading as reading;
+ghost use Rattle.sj_statement.specs.declared.clauses.ValueDo.TheVariants as on_value;
+ghost use Rattle.sj_sql.specs.Gives.{Gives};
+
+use crate::literal::{path_name, value_clause};
+use crate::refusal::Refusal;
+use crate::single::{Tokens, passing, skip_name, word};
+use sj_base::Text;
+use sj_sql_token::Keyword;
+use sj_statement::ValueDo;
+use std::alloc::Global;
+
+/// The action of JSON_VALUE for a cause: NULL, unless a clause says another.
+pub fn value_action(
+    alloc: Global,
+    on: Keyword,
+    tokens: Tokens<'_>,
+) -> Result<(ValueDo, Tokens<'_>), Refusal>
+    ensures { Gives (λ x. (x.0, x.1.now)) result (reading.optional (phrase.value_clause_at on) on_value.Null tokens.now) }
+{
+    match value_clause(alloc, on, tokens) {
+        Ok(read) => Ok(read),
+        Err(Refusal::Syntax) => Ok((ValueDo::Null, tokens)),
+        Err(Refusal::Memory) => Err(Refusal::Memory),
+    }
+}
+
+/// The name of a path, if it has one.
+pub fn name_of_path(
+    alloc: Global,
+    tokens: Tokens<'_>,
+) -> Result<(Option<Text>, Tokens<'_>), Refusal>
+    ensures { Gives (λ x. (x.0, x.1.now)) result (reading.optional phrase.path_name_at None tokens.now) }
+{
+    match path_name(alloc, tokens) {
+        Ok(read) => Ok(read),
+        Err(Refusal::Syntax) => Ok((None, tokens)),
+        Err(Refusal::Memory) => Err(Refusal::Memory),
+    }
+}
+
+/// What follows a name behind AS, which leaves no trace.
+#[tactic(auto, unfolding(sj_statement::specs::Phrases::alias_at))]
+pub fn skip_alias(tokens: Tokens<'_>) -> Tokens<'_>
+    ensures { result.now ≡ reading.passed_over phrase.alias_at tokens.now }
+{
+    let Some(rest) = word(Keyword::As, tokens) else {
+        return tokens;
+    };
+    skip_name(rest).unwrap_or(tokens)
+}
+
+/// What follows a name of a table, behind AS or not, which leaves no trace.
+#[tactic(auto, unfolding(sj_statement::specs::Phrases::table_alias_at))]
+pub fn skip_table_alias(tokens: Tokens<'_>) -> Tokens<'_>
+    ensures { result.now ≡ reading.passed_over phrase.table_alias_at tokens.now }
+{
+    skip_name(passing(Keyword::As, tokens)).unwrap_or(tokens)
+}

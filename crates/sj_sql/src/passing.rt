@@ -1,0 +1,54 @@
+//! The variables of a PASSING clause.
+
+ghost use Rattle.std.specs.Prelude.{◌≡◌, ◌++◌, ◌∷◌, [], length, OnOk};
+ghost use Rattle.sj_statement.specs.Phrases as phrase;
+ghost use Rattle.sj_statement.specs.Reading as reading;
+ghost use Rattle.sj_sql.specs.Gives.{Gives};
+
+use crate::literal::passed;
+use crate::refusal::Refusal;
+use crate::seq::Seq;
+use crate::single::{Rest, Tokens, comma, word};
+use sj_base::Memory;
+use sj_sql_token::Keyword;
+use sj_statement::Passed;
+use std::alloc::Global;
+
+/// Puts a value at the end.
+pub fn put<T: Drop>(values: &mut Seq<T>, value: T) -> Result<(), Memory>
+    ensures { OnOk result (values.new ≡ values.old ++ value ∷ []) }
+{
+    if values.len() == u32::MAX {
+        return Err(Memory);
+    }
+    values.push(value)
+}
+
+/// Variables with commas between them.
+#[tactic(auto, unfolding(sj_statement::specs::Reading::list_from))]
+fn variables(alloc: Global, tokens: Tokens<'_>) -> Result<(Seq<Passed>, Tokens<'_>), Refusal>
+    ensures { Gives (λ x. (x.0, x.1.now)) result (reading.list_from phrase.passed_at (length tokens.now) tokens.now) }
+{
+    let mut variables = Seq::new(alloc);
+    let mut left = Rest { tokens };
+    for _turn in 0..tokens.len() {
+        let (variable, after) = passed(alloc, left.tokens)?;
+        put(&mut variables, variable)?;
+        let Some(next) = comma(after) else {
+            return Ok((variables, after));
+        };
+        left = Rest { tokens: next };
+    }
+    Err(Refusal::Syntax)
+}
+
+/// The variables of a PASSING clause, or none where there is no clause.
+#[tactic(auto, unfolding(sj_statement::specs::Reading::passing_at))]
+pub fn passing(alloc: Global, tokens: Tokens<'_>) -> Result<(Seq<Passed>, Tokens<'_>), Refusal>
+    ensures { Gives (λ x. (x.0, x.1.now)) result (reading.passing_at tokens.now) }
+{
+    match word(Keyword::Passing, tokens) {
+        Some(rest) => variables(alloc, rest),
+        None => Ok((Seq::new(alloc), tokens)),
+    }
+}

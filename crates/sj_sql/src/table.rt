@@ -1,0 +1,47 @@
+//! JSON_TABLE.
+
+ghost use Rattle.std.specs.Prelude.{◌≡◌};
+ghost use Rattle.sj_statement.specs.Faults.{parsing};
+ghost use Rattle.sj_statement.specs.Reading as reading;
+ghost use Rattle.sj_sql.specs.Gives.{Gives};
+ghost use Rattle.sj_sql.specs.Noted.{faults_of};
+ghost use Rattle.sj_sql.specs.View.{table_of};
+
+use crate::column::columns;
+use crate::common::row_path;
+use crate::faults::Faults;
+use crate::optional::skip_table_alias;
+use crate::phrase::table_clause;
+use crate::plan::plan;
+use crate::refusal::Refusal;
+use crate::single::{Tokens, close, open, word};
+use crate::tree::Table;
+use sj_sql_token::Keyword;
+use sj_value::TableAction;
+use std::alloc::Global;
+
+/// A table, and the name that leaves no trace.
+#[tactic(auto, unfolding(sj_statement::specs::Reading::table_at))]
+pub fn table(
+    alloc: Global,
+    faults: Faults,
+    tokens: Tokens<'_>,
+) -> Result<(Table, Faults, Tokens<'_>), Refusal>
+    ensures { Gives (λ x. (table_of x.0, faults_of x.1, x.2.now)) result (reading.table_at parsing (faults_of faults) tokens.now) }
+{
+    let rest = word(Keyword::JsonTable, tokens).ok_or(Refusal::Syntax)?;
+    let rest = open(rest).ok_or(Refusal::Syntax)?;
+    let ((common, name), faults, rest) = row_path(alloc, faults, rest)?;
+    let (columns, faults, rest) = columns(alloc, rest.len() + 1, faults, rest)?;
+    let (plan, rest) = plan(alloc, rest)?;
+    let (on_error, rest) = table_clause(rest).unwrap_or((TableAction::Empty, rest));
+    let rest = close(rest).ok_or(Refusal::Syntax)?;
+    let table = Table {
+        common,
+        name,
+        columns,
+        plan,
+        on_error,
+    };
+    Ok((table, faults, skip_table_alias(rest)))
+}
