@@ -1,0 +1,94 @@
+-- A statement that breaks no rule keeps each.
+use Rattle.std.proofs.Common.{◌≡◌, ℕ, ◌≤◌, Bool, true, false, ◌||◌, nat_lt, if◌then◌else◌, List, length, Option, Some, None, refl, sym, ◌∙◌, arith}
+use Rattle.std.specs.List.{list_any}
+use Rattle.std.proofs.lemmas.Bool.Decides.{nat_tests}
+use Rattle.sj_grammar.specs.Tree.{Path}
+use Rattle.sj_statement.specs.declared.refusal.BindKind.{BindKind}
+use Rattle.sj_statement.specs.Tree.{Value, Item, Table, Plain, All, Listed}
+use Rattle.sj_bind.specs.Faults.{either, calls_fault, names_fault, columns_fault, items_fault}
+use Rattle.sj_bind.specs.Fits.{AreListFit, AreItemsNamed}
+use Rattle.sj_bind.specs.Parts.{calls_in_list}
+use Rattle.sj_bind.specs.Plans.{has_plan_mismatch}
+use Rattle.sj_bind.specs.Rules.{bind_fault, call_passes_twice, call_lacks_variable, call_quotes_clash, call_default_fails, passes_twice, table_lacks_variable, column_quotes_clash, column_default_fails, all_columns, unknown_column, aggregate_mixed, key_type}
+use Rattle.sj_bind.specs.Sound.{IsBindable}
+use Rattle.sj_bind.specs.Tables.{column_names, has_too_many, has_column_twice, has_path_name_twice, lacks_path_name}
+use Rattle.sj_bind.proofs.Fitted.{neither, list_is_fit, items_are_named}
+use Rattle.sj_bind.proofs.Groups.{plain_groups, all_groups, listed_groups}
+
+-- where nothing is the first, the test fails and nothing is the rest
+stop_none : (b : Bool) (kind : BindKind) (rest : Option BindKind) → (if b then Some kind else rest) ≡ None → (b ≡ false) × (rest ≡ None)
+stop_none true kind rest h = absurd cc
+stop_none false kind rest h = (refl, h)
+
+either_none : (a b : Option BindKind) → either a b ≡ None → (a ≡ None) × (b ≡ None)
+either_none None b h = (refl, h)
+either_none (Some kind) b h = absurd cc
+
+not_over : (n : ℕ) → nat_lt 1000 n ≡ false → n ≤ 1000
+not_over n h = grind (arith, nat_tests)
+
+pub record IsCleanPlain (xs : List (Value Path)) : Type 0 where
+  pub few : length xs ≤ 1000
+  pub fit : AreListFit xs
+  pub covered : list_any call_lacks_variable (calls_in_list xs) ≡ false
+  pub casts : list_any call_default_fails (calls_in_list xs) ≡ false
+  pub keys : key_type (Plain xs) ≡ false
+
+pub clean_plain : (xs : List (Value Path)) → IsBindable (Plain xs) → bind_fault (Plain xs) ≡ None → IsCleanPlain xs
+clean_plain xs bindable h =
+    let a = stop_none _ _ _ (sym (plain_groups xs) ∙ h) in
+    let b = either_none (calls_fault (calls_in_list xs)) _ a.1 in
+    let twice = stop_none (list_any call_passes_twice (calls_in_list xs)) _ _ b.0 in
+    let lacks = stop_none (list_any call_lacks_variable (calls_in_list xs)) _ _ twice.1 in
+    let clash = stop_none (list_any call_quotes_clash (calls_in_list xs)) _ _ lacks.1 in
+    let casts = stop_none (list_any call_default_fails (calls_in_list xs)) _ _ clash.1 in
+    record { few = not_over (length xs) a.0; fit = list_is_fit xs bindable twice.0 casts.0; covered = lacks.0; casts = casts.0; keys = (stop_none (key_type (Plain xs)) _ _ b.1).0 }
+
+pub record IsCleanTable (t : Table Path) : Type 0 where
+  pub few : has_too_many t ≡ false
+  pub columns_once : has_column_twice t ≡ false
+  pub paths_once : has_path_name_twice t ≡ false
+  pub matched : has_plan_mismatch t ≡ false
+  pub once : passes_twice t.common ≡ false
+  pub covered : table_lacks_variable t ≡ false
+  pub casts : list_any column_default_fails (all_columns t) ≡ false
+
+clean_table : (t : Table Path) → has_too_many t ≡ false → either (names_fault t) (columns_fault t) ≡ None → IsCleanTable t
+clean_table t few h =
+    let b = either_none (names_fault t) (columns_fault t) h in
+    let columns = stop_none (has_column_twice t) _ _ b.0 in
+    let paths = stop_none (has_path_name_twice t) _ _ columns.1 in
+    let named = stop_none (lacks_path_name t) _ _ paths.1 in
+    let matched = stop_none (has_plan_mismatch t) _ _ named.1 in
+    let twice = stop_none (passes_twice t.common) _ _ b.1 in
+    let lacks = stop_none (table_lacks_variable t) _ _ twice.1 in
+    let clash = stop_none (list_any column_quotes_clash (all_columns t)) _ _ lacks.1 in
+    let casts = stop_none (list_any column_default_fails (all_columns t)) _ _ clash.1 in
+    record { few = few; columns_once = columns.0; paths_once = paths.0; matched = matched.0; once = twice.0; covered = lacks.0; casts = casts.0 }
+
+pub clean_all : (t : Table Path) → bind_fault (All t) ≡ None → IsCleanTable t
+clean_all t h =
+    let a = stop_none (has_too_many t) _ _ (sym (all_groups t) ∙ h) in
+    clean_table t a.0 (either_none (either (names_fault t) (columns_fault t)) None a.1).0
+
+pub record IsCleanList (xs : List (Item Path)) (t : Table Path) : Type 0 where
+  pub few : length xs ≤ 1000
+  pub named : AreItemsNamed (column_names t) xs
+  pub known : unknown_column (Listed xs t) ≡ false
+  pub alike : aggregate_mixed (Listed xs t) ≡ false
+  pub keys : key_type (Listed xs t) ≡ false
+  pub table : IsCleanTable t
+
+pub clean_list : (xs : List (Item Path)) (t : Table Path) → bind_fault (Listed xs t) ≡ None → IsCleanList xs t
+clean_list xs t h =
+    let a = stop_none (nat_lt 1000 (length xs) || has_too_many t) _ _ (sym (listed_groups xs t) ∙ h) in
+    let n = neither (nat_lt 1000 (length xs)) (has_too_many t) a.0 in
+    let b = either_none (either (names_fault t) (columns_fault t)) (items_fault xs t) a.1 in
+    let unknown = stop_none (unknown_column (Listed xs t)) _ _ b.1 in
+    let mixed = stop_none (aggregate_mixed (Listed xs t)) _ _ unknown.1 in
+    let keys = stop_none (key_type (Listed xs t)) _ _ mixed.1 in
+    record { few = not_over (length xs) n.0; named = items_are_named (column_names t) xs unknown.0; known = unknown.0; alike = mixed.0; keys = keys.0; table = clean_table t n.1 b.0 }
+
+-- a table has few columns
+pub few_columns : (t : Table Path) → has_too_many t ≡ false → length (column_names t) ≤ 1000
+few_columns t h = not_over (length (column_names t)) (neither (nat_lt 1000 (length (column_names t))) _ h).0

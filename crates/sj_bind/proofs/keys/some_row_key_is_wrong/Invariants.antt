@@ -1,0 +1,12 @@
+use Rattle.std.proofs.Common.{◌≡◌, not, drop}
+use Rattle.std.specs.List.{list_any}
+use Rattle.sj_grammar.specs.Tree.{Path}
+use Rattle.sj_statement.specs.Tree.{Value}
+use Rattle.sj_bind.specs.Names.{names_of}
+use Rattle.sj_bind.specs.PartsView.{row_keys_of}
+use Rattle.sj_bind.specs.Rules.{is_key}
+use Rattle.sj_bind.proofs.keys.some_row_key_is_wrong.Given as goal
+
+-- the keys so far keep the rule
+abbrev pub invariant-loop-key : goal.invariant-loop-key
+invariant-loop-key l = list_any (λ (key : Value Path). not (is_key (names_of l.texts) key)) (row_keys_of (drop l.key-index l.keys)) ≡ list_any (λ (key : Value Path). not (is_key (names_of l.texts) key)) (row_keys_of l.keys)

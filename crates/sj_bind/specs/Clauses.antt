@@ -1,0 +1,130 @@
+-- What the clauses of a function or a column become: a DEFAULT literal by its cast, QUOTES by whether it is OMIT, and PASSING by
+-- its variables.
+use Rattle.std.specs.Prelude.{ℕ, Bool, true, false, ◌&&◌, List, [], ◌∷◌, is_err, unwrap_or}
+use Rattle.std.specs.Result.{result_ok}
+use Rattle.sj_grammar.specs.declared.tree.Literal.{Literal}
+use Rattle.sj_grammar.specs.declared.tree.Literal.TheVariants as literal
+use Rattle.sj_grammar.specs.Tree.{Path}
+use Rattle.sj_path.specs.Vars.{Named}
+use Rattle.sj_item.specs.Items.{ItemValue, made_text, made_number, made_truth, made_null}
+use Rattle.sj_statement.specs.declared.clauses.Passed.{Passed}
+use Rattle.sj_statement.specs.declared.clauses.Quotes.{Quotes}
+use Rattle.sj_statement.specs.declared.clauses.Quotes.TheVariants as quotes
+use Rattle.sj_statement.specs.declared.clauses.TypeName.{TypeName}
+use Rattle.sj_statement.specs.declared.clauses.TypeName.TheVariants.{Known, Approximate, Datetime}
+use Rattle.sj_statement.specs.declared.clauses.ValueDo.{ValueDo}
+use Rattle.sj_statement.specs.declared.clauses.ValueDo.TheVariants as do_
+use Rattle.sj_statement.specs.Tree.{Common}
+use Rattle.sj_value.specs.Casts.{Cast, cast_of}
+use Rattle.sj_value.specs.Types.{IsCastType}
+use Rattle.sj_value.specs.declared.clauses.QueryAction.{QueryAction}
+use Rattle.sj_value.specs.declared.clauses.QuerySpec.{QuerySpec}
+use Rattle.sj_value.specs.declared.clauses.ValueAction.{ValueAction}
+use Rattle.sj_value.specs.declared.clauses.ValueAction.TheVariants as action
+use Rattle.sj_value.specs.declared.clauses.ValueSpec.{ValueSpec}
+use Rattle.sj_value.specs.declared.clauses.Wrapper.{Wrapper}
+use Rattle.sj_value.specs.declared.clauses.Wrapper.TheVariants as wrapper
+use Rattle.sj_value.specs.declared.types.SqlType.{SqlType}
+use Rattle.sj_value.specs.declared.types.SqlType.TheVariants as types
+use Rattle.sj_value.specs.declared.value.SqlValue.{SqlValue}
+use Rattle.sj_value.specs.declared.value.SqlValue.TheVariants as value
+use Rattle.sj_bind.specs.Bound.{PathWith}
+
+-- ---- PASSING
+
+abbrev pub passed_names : List Passed → List (List ℕ)
+passed_names [] = []
+passed_names (p ∷ ps) = p.name ∷ passed_names ps
+
+abbrev pub passed : List Passed → Named
+passed [] = []
+passed (p ∷ ps) = (p.name, p.value) ∷ passed ps
+
+abbrev pub path_with : Common Path → PathWith
+path_with c = record { path = c.path; vars = passed c.passing }
+
+-- ---- types
+
+-- a type to which items can be cast
+abbrev pub IsBindableType : TypeName → Type 0
+IsBindableType (Known ty) = IsCastType ty
+IsBindableType Approximate = ⊥
+IsBindableType Datetime = ⊥
+
+-- the type that a name names; a type that this implementation lacks stands in no bound statement
+abbrev pub sql_type : TypeName → SqlType
+sql_type (Known ty) = ty
+sql_type Approximate = types.Varchar
+sql_type Datetime = types.Varchar
+
+-- VARCHAR and VARCHAR(n)
+abbrev pub is_text_type : SqlType → Bool
+is_text_type types.Varchar = true
+is_text_type (types.VarcharMax n) = true
+is_text_type types.Numeric = false
+is_text_type (types.NumericFixed p s) = false
+is_text_type types.Integer = false
+is_text_type types.Bigint = false
+is_text_type types.Boolean = false
+
+abbrev pub names_text : TypeName → Bool
+names_text (Known ty) = is_text_type ty
+names_text Approximate = false
+names_text Datetime = false
+
+-- ---- DEFAULT
+
+-- a literal as an item
+abbrev pub literal_item : Literal → ItemValue
+literal_item (literal.Text s) = made_text s
+literal_item (literal.Num d) = made_number d
+literal_item (literal.Bool b) = made_truth b
+literal_item literal.Null = made_null
+
+abbrev pub literal_cast : Literal → SqlType → Cast
+literal_cast x ty = cast_of (literal_item x) ty
+
+-- whether it is a DEFAULT literal that cannot be cast to the type
+abbrev pub default_fails : SqlType → ValueDo → Bool
+default_fails ty do_.Error = false
+default_fails ty do_.Null = false
+default_fails ty (do_.Default x) = is_err (literal_cast x ty)
+
+-- the cast of a DEFAULT literal; where it is refused, there is no bound statement
+abbrev pub default_value : Literal → SqlType → SqlValue
+default_value x ty = unwrap_or (result_ok (literal_cast x ty)) value.Null
+
+abbrev pub value_action : SqlType → ValueDo → ValueAction
+value_action ty do_.Error = action.Error
+value_action ty do_.Null = action.Null
+value_action ty (do_.Default x) = action.Default (default_value x ty)
+
+-- the clauses of a JSON_VALUE or of a regular column
+abbrev pub value_clauses : TypeName → ValueDo → ValueDo → ValueSpec
+value_clauses ty on_empty on_error = record { ty = sql_type ty; on_empty = value_action (sql_type ty) on_empty; on_error = value_action (sql_type ty) on_error }
+
+-- ---- QUOTES and WRAPPER
+
+abbrev pub is_omit : Quotes → Bool
+is_omit quotes.Absent = false
+is_omit quotes.Keep = false
+is_omit quotes.Omit = true
+
+-- whether there is a QUOTES clause
+abbrev pub stands : Quotes → Bool
+stands quotes.Absent = false
+stands quotes.Keep = true
+stands quotes.Omit = true
+
+-- WITH WRAPPER, in both its forms
+abbrev pub is_with : Wrapper → Bool
+is_with wrapper.Without = false
+is_with wrapper.Conditional = true
+is_with wrapper.Unconditional = true
+
+abbrev pub quotes_clash : Wrapper → Quotes → Bool
+quotes_clash w q = is_with w && stands q
+
+-- the clauses of a JSON_QUERY or of a column FORMAT JSON
+abbrev pub query_clauses : Wrapper → Quotes → QueryAction → QueryAction → QuerySpec
+query_clauses w q on_empty on_error = record { wrapper = w; omit_quotes = is_omit q; on_empty = on_empty; on_error = on_error }

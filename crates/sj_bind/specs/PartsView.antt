@@ -1,0 +1,44 @@
+-- The parts of a SELECT list, without where they lie in memory.
+use Rattle.std.specs.Prelude.{ℕ, List, [], ◌∷◌}
+use Rattle.std.specs.Borrow.{Bor}
+use Rattle.sj_grammar.specs.Tree.{Path}
+use Rattle.sj_statement.specs.Tree as t
+use Rattle.sj_sql.specs.declared.tree.SValue.{SValue}
+use Rattle.sj_sql.specs.declared.tree.TValue.{TValue}
+use Rattle.sj_sql.specs.declared.tree.Column.{Column}
+use Rattle.sj_path.specs.declared.tree.Path.{Path as ParsedPath}
+use Rattle.sj_path.specs.Tree.{path_of}
+use Rattle.sj_sql.specs.View.{svalue_of, tvalue_of, column_of, exists_of, value_call_of, query_of}
+use Rattle.sj_bind.specs.declared.parts.Call.{Call}
+use Rattle.sj_bind.specs.declared.parts.Call.TheVariants as c
+use Rattle.sj_bind.specs.Parts as p
+
+abbrev pub call_of : Call → p.Call Path
+call_of (c.Exists x) = p.exists_call (exists_of x.now)
+call_of (c.Value x) = p.value_call (value_call_of x.now)
+call_of (c.Query x) = p.query_call (query_of x.now)
+
+abbrev pub calls_of : List Call → List (p.Call Path)
+calls_of [] = []
+calls_of (x ∷ xs) = call_of x ∷ calls_of xs
+
+abbrev pub keys_of : List (Bor SValue) → List (t.Value Path)
+keys_of [] = []
+keys_of (x ∷ xs) = svalue_of x.now ∷ keys_of xs
+
+abbrev pub row_keys_of : List (Bor TValue) → List (t.Value Path)
+row_keys_of [] = []
+row_keys_of (x ∷ xs) = tvalue_of x.now ∷ row_keys_of xs
+
+-- texts that are lent
+abbrev pub texts_of : List (Bor (List ℕ)) → List (List ℕ)
+texts_of [] = []
+texts_of (x ∷ xs) = x.now ∷ texts_of xs
+
+abbrev pub columns_at : List (Bor Column) → List (t.ColumnOf Path)
+columns_at [] = []
+columns_at (x ∷ xs) = column_of x.now ∷ columns_at xs
+
+abbrev pub paths_at : List (Bor ParsedPath) → List Path
+paths_at [] = []
+paths_at (x ∷ xs) = path_of x.now ∷ paths_at xs

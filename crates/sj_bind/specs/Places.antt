@@ -1,0 +1,10 @@
+-- Nested paths where they lie in memory.
+use Rattle.std.specs.Prelude.{ℕ, List, Some}
+use Rattle.sj_grammar.specs.Tree.{Path}
+use Rattle.sj_sql.specs.View.{columns_of}
+use Rattle.sj_bind.specs.declared.table.paths.Place.{Place}
+use Rattle.sj_bind.specs.Paths.{Child}
+
+-- a place as the path of this name
+abbrev pub child_of : List ℕ → Place → Child Path
+child_of name place = record { number = place.number; name = Some name; columns = columns_of place.columns.now }

@@ -1,0 +1,142 @@
+//! The binding of statements.
+
+ghost use Rattle.std.specs.Prelude.{◌≡◌, ◌≤◌, false, length, IfOk};
+ghost use Rattle.sj_statement.specs.Tree as t;
+ghost use Rattle.sj_sql.specs.View.{plain_of, items_of, table_of, statement_of};
+ghost use Rattle.sj_bind.specs.Answer.{Binds};
+ghost use Rattle.sj_bind.specs.Fits.{AreItemsNamed, AreListFit};
+ghost use Rattle.sj_bind.specs.Meaning.{bound_items, bound_list, columns_below};
+ghost use Rattle.sj_bind.specs.Names.{names_of};
+ghost use Rattle.sj_bind.specs.Sound.{IsBindable, IsBindableTable, IsSound};
+ghost use Rattle.sj_bind.specs.Tables.{column_names, has_column_twice};
+ghost use Rattle.sj_bind.specs.View as view;
+
+use crate::bound::{Bound, BoundItem, BoundValue};
+use crate::fault::{all_fault, listed_fault, plain_fault};
+use crate::refusal::BindRefusal;
+use crate::row_values::bind_item;
+use crate::table::{bind_table, column_index};
+use crate::values::bind_value;
+use indexmap::IndexSet;
+use sj_base::Memory;
+use sj_sql::{SValue, Seq, Statement, TItem, Table};
+use std::alloc::Global;
+
+/// Binds a statement, which has no type and no encoding that this implementation lacks, and whose types meet the condition of a
+/// cast. The statement is spent.
+///
+/// # Errors
+/// `Kind` exactly where the statement breaks a rule, with the first that it breaks, and `Memory` where memory ran out.
+#[tactic(auto, using(crate::proofs::Sounds::sound_answer))]
+pub fn bind(alloc: Global, statement: Statement) -> Result<Bound, BindRefusal>
+    requires { IsBindable (statement_of statement) }
+    ensures binds { Binds (statement_of statement) result }
+    ensures sound { IfOk result (λ b. IsSound (view.bound_of b)) }
+{
+    match statement {
+        Statement::Plain(values) => bind_plain(alloc, values),
+        Statement::All(table) => bind_all(alloc, table),
+        Statement::Listed(items, table) => bind_listed(alloc, items, table),
+    }
+}
+
+fn bind_plain(alloc: Global, values: Seq<SValue>) -> Result<Bound, BindRefusal>
+    requires { IsBindable (t.Plain (plain_of values)) }
+    ensures { Binds (t.Plain (plain_of values)) result }
+{
+    if let Some(kind) = plain_fault(alloc, &values)? {
+        return Err(BindRefusal::Kind(kind));
+    }
+    let items = bind_list(alloc, values)?;
+    Ok(Bound { items, table: None })
+}
+
+fn bind_list(alloc: Global, values: Seq<SValue>) -> Result<Seq<BoundItem>, Memory>
+    requires fit { AreListFit (plain_of values) }
+    requires few { length values ≤ 1000 }
+    ensures { IfOk result (λ items. view.items_of items ≡ bound_list (plain_of values)) }
+{
+    let mut items = Seq::new(alloc);
+    for value in values.into_vec() {
+        items.push(BoundItem::Value(bind_value(alloc, value)?))?;
+    }
+    Ok(items)
+}
+
+fn bind_all(alloc: Global, table: Table) -> Result<Bound, BindRefusal>
+    requires { IsBindableTable (table_of table) }
+    ensures { Binds (t.All (table_of table)) result }
+{
+    if let Some(kind) = all_fault(alloc, &table)? {
+        return Err(BindRefusal::Kind(kind));
+    }
+    let items = all_columns(alloc, &table)?;
+    let table = bind_table(alloc, table)?;
+    Ok(Bound {
+        items,
+        table: Some(table),
+    })
+}
+
+fn all_columns(alloc: Global, table: &Table) -> Result<Seq<BoundItem>, Memory>
+    requires once { has_column_twice (table_of table.now) ≡ false }
+    requires few { length (column_names (table_of table.now)) ≤ 1000 }
+    ensures { IfOk result (λ items. view.items_of items ≡ columns_below (length (column_names (table_of table.now)))) }
+{
+    let columns = column_index(alloc, table)?;
+    first_columns(alloc, columns.len() as u32)
+}
+
+fn first_columns(alloc: Global, count: u32) -> Result<Seq<BoundItem>, Memory>
+    requires { count ≤ 1000 }
+    ensures { IfOk result (λ items. view.items_of items ≡ columns_below count) }
+{
+    let mut items = Seq::new(alloc);
+    for number in 0..count {
+        items.push(BoundItem::Value(BoundValue::Column(number)))?;
+    }
+    Ok(items)
+}
+
+fn bind_listed(alloc: Global, items: Seq<TItem>, table: Table) -> Result<Bound, BindRefusal>
+    requires { IsBindableTable (table_of table) }
+    ensures { Binds (t.Listed (items_of items) (table_of table)) result }
+{
+    if let Some(kind) = listed_fault(alloc, &items, &table)? {
+        return Err(BindRefusal::Kind(kind));
+    }
+    let items = bind_beside(alloc, items, &table)?;
+    let table = bind_table(alloc, table)?;
+    Ok(Bound {
+        items,
+        table: Some(table),
+    })
+}
+
+fn bind_beside(alloc: Global, items: Seq<TItem>, table: &Table) -> Result<Seq<BoundItem>, Memory>
+    requires once { has_column_twice (table_of table.now) ≡ false }
+    requires few_columns { length (column_names (table_of table.now)) ≤ 1000 }
+    requires named { AreItemsNamed (column_names (table_of table.now)) (items_of items) }
+    requires few { length items ≤ 1000 }
+    ensures { IfOk result (λ bound. view.items_of bound ≡ bound_items (column_names (table_of table.now)) (items_of items)) }
+{
+    let columns = column_index(alloc, table)?;
+    bind_items(alloc, items, &columns)
+}
+
+fn bind_items(
+    alloc: Global,
+    items: Seq<TItem>,
+    columns: &IndexSet<&str>,
+) -> Result<Seq<BoundItem>, Memory>
+    requires named { AreItemsNamed (names_of columns.now) (items_of items) }
+    requires few_columns { length (names_of columns.now) ≤ 1000 }
+    requires few { length items ≤ 1000 }
+    ensures { IfOk result (λ bound. view.items_of bound ≡ bound_items (names_of columns.now) (items_of items)) }
+{
+    let mut bound = Seq::new(alloc);
+    for item in items.into_vec() {
+        bound.push(bind_item(alloc, item, columns)?)?;
+    }
+    Ok(bound)
+}

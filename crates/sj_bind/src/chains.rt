@@ -1,0 +1,41 @@
+//! Linked cells from a vector, which is walked from its end.
+
+ghost use Rattle.std.specs.Prelude.{◌≡◌, IfOk};
+ghost use Rattle.sj_bind.specs.Bound.{NoValues, NoMembers};
+ghost use Rattle.sj_bind.specs.View.{values_of, members_of};
+ghost use Rattle.sj_bind.specs.Chains.{chained, chained_members};
+
+use crate::bound::{BoundMembers, BoundValue, BoundValues};
+use sj_base::Memory;
+use std::alloc::Global;
+
+/// The values as linked cells, in the same order.
+#[tactic(auto, using(crate::proofs::Chained::chains))]
+pub fn chain_values(alloc: Global, values: Vec<BoundValue>) -> Result<BoundValues, Memory>
+    ensures { IfOk result (λ c. values_of c ≡ chained values.items NoValues) }
+{
+    let mut left = values;
+    let mut chain = BoundValues::Empty;
+    while let Some(value) = left.pop() {
+        chain = BoundValues::More(Box::new(alloc, value)?, Box::new(alloc, chain)?);
+    }
+    Ok(chain)
+}
+
+/// The members as linked cells, in the same order.
+#[tactic(auto, using(crate::proofs::Chained::chains))]
+pub fn chain_members(
+    alloc: Global,
+    members: Vec<(BoundValue, BoundValue)>,
+) -> Result<BoundMembers, Memory>
+    ensures { IfOk result (λ c. members_of c ≡ chained_members members.items NoMembers) }
+{
+    let mut left = members;
+    let mut chain = BoundMembers::Empty;
+    while let Some((key, value)) = left.pop() {
+        let key = Box::new(alloc, key)?;
+        let value = Box::new(alloc, value)?;
+        chain = BoundMembers::More(key, value, Box::new(alloc, chain)?);
+    }
+    Ok(chain)
+}

@@ -1,0 +1,192 @@
+//! The rules, one after another in their order.
+
+ghost use Rattle.std.specs.Prelude.{◌≡◌, ◌||◌, false, not, nat_lt, length, IfOk, All};
+ghost use Rattle.std.specs.List.{list_any};
+ghost use Rattle.sj_statement.specs.Tree as t;
+ghost use Rattle.sj_sql.specs.View.{plain_of, items_of, table_of};
+ghost use Rattle.sj_bind.specs.Faults as group;
+ghost use Rattle.sj_bind.specs.PartsView.{calls_of, row_keys_of};
+ghost use Rattle.sj_bind.specs.Rules as spec;
+ghost use Rattle.sj_bind.specs.Tables as tables;
+ghost use Rattle.sj_bind.specs.Sound.{IsBindable, IsBindableCall, IsBindableTable};
+
+use crate::calls::{some_default_fails, some_lacks_variable, some_passes_twice, some_quotes_clash};
+use crate::columns::table_parts;
+use crate::items::{are_mixed, some_name_is_unknown};
+use crate::keys::{some_key_is_wrong, some_row_key_is_wrong, text_names};
+use crate::parts::{Call, find_all};
+use crate::row_parts::find_all_items;
+use crate::table::{
+    column_index, has_column_twice, has_path_name_twice, has_plan_mismatch, has_too_many,
+    lacks_path_name,
+};
+use crate::table_rules::{
+    some_column_default_fails, some_column_quotes_clash, table_lacks_variable,
+};
+use crate::variables::passes_twice;
+use sj_base::Memory;
+use sj_sql::{SValue, Seq, TItem, TValue, Table};
+use sj_statement::BindKind;
+use std::alloc::Global;
+
+/// The most items that a SELECT list may have.
+pub const MOST_ITEMS: u32 = 1000;
+
+/// The first rule that functions break.
+fn calls_fault(alloc: Global, calls: &[Call<'_>]) -> Result<Option<BindKind>, Memory>
+    requires { All IsBindableCall (calls_of calls.now) }
+    ensures { IfOk result (λ f. f ≡ group.calls_fault (calls_of calls.now)) }
+{
+    if some_passes_twice(alloc, calls)? {
+        return Ok(Some(BindKind::VariableTwice));
+    }
+    if some_lacks_variable(alloc, calls)? {
+        return Ok(Some(BindKind::UnknownVariable));
+    }
+    if some_quotes_clash(calls) {
+        return Ok(Some(BindKind::QuotesWithWrapper));
+    }
+    if some_default_fails(alloc, calls)? {
+        return Ok(Some(BindKind::DefaultCast));
+    }
+    Ok(None)
+}
+
+/// The first rule that a list without a table breaks.
+#[tactic(auto, using(crate::proofs::Groups::groups))]
+pub fn plain_fault(alloc: Global, values: &Seq<SValue>) -> Result<Option<BindKind>, Memory>
+    requires { IsBindable (t.Plain (plain_of values.now)) }
+    ensures { IfOk result (λ f. f ≡ spec.bind_fault (t.Plain (plain_of values.now))) }
+{
+    if values.len() > MOST_ITEMS {
+        return Ok(Some(BindKind::TooMany));
+    }
+    let parts = find_all(alloc, values.as_slice())?;
+    let fault = calls_fault(alloc, parts.calls.as_slice())?;
+    if fault.is_some() {
+        return Ok(fault);
+    }
+    if some_key_is_wrong(parts.keys.as_slice()) {
+        return Ok(Some(BindKind::KeyType));
+    }
+    Ok(None)
+}
+
+/// The first rule on names and the plan that a table breaks.
+fn names_fault(alloc: Global, table: &Table) -> Result<Option<BindKind>, Memory>
+    requires { tables.has_too_many (table_of table.now) ≡ false }
+    ensures { IfOk result (λ f. f ≡ group.names_fault (table_of table.now)) }
+{
+    if has_column_twice(alloc, table)? {
+        return Ok(Some(BindKind::ColumnTwice));
+    }
+    if has_path_name_twice(alloc, table)? {
+        return Ok(Some(BindKind::PathNameTwice));
+    }
+    if lacks_path_name(table) {
+        return Ok(Some(BindKind::PathNameMissing));
+    }
+    if has_plan_mismatch(table) {
+        return Ok(Some(BindKind::PlanMismatch));
+    }
+    Ok(None)
+}
+
+/// The first rule on variables and columns that a table breaks.
+fn columns_fault(alloc: Global, table: &Table) -> Result<Option<BindKind>, Memory>
+    requires { IsBindableTable (table_of table.now) }
+    ensures { IfOk result (λ f. f ≡ group.columns_fault (table_of table.now)) }
+{
+    if passes_twice(alloc, &table.common)? {
+        return Ok(Some(BindKind::VariableTwice));
+    }
+    let parts = table_parts(alloc, table)?;
+    if table_lacks_variable(alloc, table, &parts)? {
+        return Ok(Some(BindKind::UnknownVariable));
+    }
+    if some_column_quotes_clash(parts.columns.as_slice()) {
+        return Ok(Some(BindKind::QuotesWithWrapper));
+    }
+    if some_column_default_fails(alloc, parts.columns.as_slice())? {
+        return Ok(Some(BindKind::DefaultCast));
+    }
+    Ok(None)
+}
+
+/// The first rule that `SELECT *` breaks.
+#[tactic(auto, using(crate::proofs::Groups::groups))]
+pub fn all_fault(alloc: Global, table: &Table) -> Result<Option<BindKind>, Memory>
+    requires { IsBindableTable (table_of table.now) }
+    ensures { IfOk result (λ f. f ≡ spec.bind_fault (t.All (table_of table.now))) }
+{
+    if has_too_many(table) {
+        return Ok(Some(BindKind::TooMany));
+    }
+    table_fault(alloc, table)
+}
+
+fn table_fault(alloc: Global, table: &Table) -> Result<Option<BindKind>, Memory>
+    requires bindable { IsBindableTable (table_of table.now) }
+    requires few { tables.has_too_many (table_of table.now) ≡ false }
+    ensures { IfOk result (λ f. f ≡ group.either (group.names_fault (table_of table.now)) (group.columns_fault (table_of table.now))) }
+{
+    let fault = names_fault(alloc, table)?;
+    if fault.is_some() {
+        return Ok(fault);
+    }
+    columns_fault(alloc, table)
+}
+
+fn some_key_is_no_text(alloc: Global, keys: &[&TValue], table: &Table) -> Result<bool, Memory>
+    ensures { IfOk result (λ b. b ≡ list_any (λ key. not (spec.is_key (spec.text_names (spec.all_columns (table_of table.now))) key)) (row_keys_of keys.now)) }
+{
+    let parts = table_parts(alloc, table)?;
+    let texts = text_names(alloc, parts.columns.as_slice())?;
+    Ok(some_row_key_is_wrong(keys, &texts))
+}
+
+/// The first rule on the list that it breaks beside a table.
+fn items_fault(alloc: Global, items: &[TItem], table: &Table) -> Result<Option<BindKind>, Memory>
+    requires { tables.has_column_twice (table_of table.now) ≡ false }
+    ensures { IfOk result (λ f. f ≡ group.items_fault (items_of items.now) (table_of table.now)) }
+{
+    let parts = find_all_items(alloc, items)?;
+    let columns = column_index(alloc, table)?;
+    if some_name_is_unknown(parts.names.as_slice(), &columns) {
+        return Ok(Some(BindKind::UnknownColumn));
+    }
+    if are_mixed(items) {
+        return Ok(Some(BindKind::AggregateMixed));
+    }
+    if some_key_is_no_text(alloc, parts.keys.as_slice(), table)? {
+        return Ok(Some(BindKind::KeyType));
+    }
+    Ok(None)
+}
+
+#[tactic(auto, using(crate::proofs::Groups::groups))]
+fn has_too_many_parts(items: &Seq<TItem>, table: &Table) -> bool
+    ensures { result ≡ (nat_lt 1000 (length (items_of items.now)) || tables.has_too_many (table_of table.now)) }
+{
+    items.len() > MOST_ITEMS || has_too_many(table)
+}
+
+/// The first rule that a list with a table breaks.
+#[tactic(auto, using(crate::proofs::Groups::groups))]
+pub fn listed_fault(
+    alloc: Global,
+    items: &Seq<TItem>,
+    table: &Table,
+) -> Result<Option<BindKind>, Memory>
+    requires { IsBindableTable (table_of table.now) }
+    ensures { IfOk result (λ f. f ≡ spec.bind_fault (t.Listed (items_of items.now) (table_of table.now))) }
+{
+    if has_too_many_parts(items, table) {
+        return Ok(Some(BindKind::TooMany));
+    }
+    let fault = table_fault(alloc, table)?;
+    if fault.is_some() {
+        return Ok(fault);
+    }
+    items_fault(alloc, items.as_slice(), table)
+}

@@ -1,0 +1,118 @@
+//! The binding of values of a SELECT list with a table.
+
+ghost use Rattle.std.specs.Prelude.{◌≡◌, ◌≤◌, true, IfOk, length};
+ghost use Rattle.sj_sql.specs.View.{tvalue_of, tvalues_of, tmembers_of, item_of};
+ghost use Rattle.sj_bind.specs.View as view;
+ghost use Rattle.sj_bind.specs.Fits.{AreNamed, AreAllNamed, AreMembersNamed, IsItemNamed};
+ghost use Rattle.sj_bind.specs.Meaning.{column_number, bound_value, bound_values, bound_members, bound_item};
+ghost use Rattle.sj_bind.specs.Names.{names_of};
+ghost use Rattle.sj_bind.specs.Rules.{is_among};
+
+use crate::bound::{BoundItem, BoundMembers, BoundValue, BoundValues};
+use crate::chains::{chain_members, chain_values};
+use indexmap::IndexSet;
+use sj_base::Memory;
+use sj_sql::{TItem, TMembers, TValue, TValues};
+use std::alloc::Global;
+
+/// The number of the column with this name.
+fn number_of(columns: &IndexSet<&str>, name: &str) -> u32
+    requires known { is_among (names_of columns.now) name.now ≡ true }
+    requires few { length (names_of columns.now) ≤ 1000 }
+    ensures { result ≡ column_number (names_of columns.now) name.now }
+{
+    match columns.get_index_of(name) {
+        Some(number) => number as u32,
+        None => unreachable!(),
+    }
+}
+
+/// A bound value.
+#[cycle(bind_row_values)]
+#[tactic(auto, using(crate::proofs::Chained::chains))]
+fn bind_row_value(
+    alloc: Global,
+    value: TValue,
+    columns: &IndexSet<&str>,
+) -> Result<BoundValue, Memory>
+    requires known { AreNamed (names_of columns.now) (tvalue_of value) }
+    requires few { length (names_of columns.now) ≤ 1000 }
+    ensures { IfOk result (λ b. view.value_of b ≡ bound_value (names_of columns.now) (tvalue_of value)) }
+{
+    match value {
+        TValue::Lit(literal) => Ok(BoundValue::Lit(literal)),
+        TValue::Column(name) => Ok(BoundValue::Column(number_of(columns, name.as_str()))),
+        TValue::Object(members, nulls, unique) => {
+            let members = bind_row_members(alloc, members, columns)?;
+            Ok(BoundValue::Object(members, nulls, unique))
+        }
+        TValue::Array(values, nulls) => {
+            let values = bind_row_values(alloc, values, columns)?;
+            Ok(BoundValue::Array(values, nulls))
+        }
+    }
+}
+
+#[cycle(bind_row_values)]
+#[tactic(auto, using(crate::proofs::Chained::chains))]
+fn bind_row_values(
+    alloc: Global,
+    values: TValues,
+    columns: &IndexSet<&str>,
+) -> Result<BoundValues, Memory>
+    requires known { AreAllNamed (names_of columns.now) (tvalues_of values) }
+    requires few { length (names_of columns.now) ≤ 1000 }
+    ensures { IfOk result (λ b. view.values_of b ≡ bound_values (names_of columns.now) (tvalues_of values)) }
+{
+    let mut rest = values;
+    let mut bound = Vec::new(alloc);
+    while let Some((value, others)) = rest.split_first() {
+        bound.push(bind_row_value(alloc, value, columns)?)?;
+        rest = others;
+    }
+    chain_values(alloc, bound)
+}
+
+#[cycle(bind_row_values)]
+#[tactic(auto, using(crate::proofs::Chained::chains))]
+fn bind_row_members(
+    alloc: Global,
+    members: TMembers,
+    columns: &IndexSet<&str>,
+) -> Result<BoundMembers, Memory>
+    requires known { AreMembersNamed (names_of columns.now) (tmembers_of members) }
+    requires few { length (names_of columns.now) ≤ 1000 }
+    ensures { IfOk result (λ b. view.members_of b ≡ bound_members (names_of columns.now) (tmembers_of members)) }
+{
+    let mut rest = members;
+    let mut bound = Vec::new(alloc);
+    while let Some((key, value, others)) = rest.split_first() {
+        let key = bind_row_value(alloc, key, columns)?;
+        bound.push((key, bind_row_value(alloc, value, columns)?))?;
+        rest = others;
+    }
+    chain_members(alloc, bound)
+}
+
+/// A bound item.
+pub fn bind_item(alloc: Global, item: TItem, columns: &IndexSet<&str>) -> Result<BoundItem, Memory>
+    requires known { IsItemNamed (names_of columns.now) (item_of item) }
+    requires few { length (names_of columns.now) ≤ 1000 }
+    ensures { IfOk result (λ b. view.item_of b ≡ bound_item (names_of columns.now) (item_of item)) }
+{
+    match item {
+        TItem::Value(value) => {
+            let value = bind_row_value(alloc, value, columns)?;
+            Ok(BoundItem::Value(value))
+        }
+        TItem::ArrayAgg(value, nulls) => {
+            let value = bind_row_value(alloc, value, columns)?;
+            Ok(BoundItem::ArrayAgg(value, nulls))
+        }
+        TItem::ObjectAgg(key, value, nulls, unique) => {
+            let key = bind_row_value(alloc, key, columns)?;
+            let value = bind_row_value(alloc, value, columns)?;
+            Ok(BoundItem::ObjectAgg(key, value, nulls, unique))
+        }
+    }
+}

@@ -1,0 +1,117 @@
+//! The rules on the variables and the columns of a table.
+
+ghost use Rattle.std.specs.Prelude.{◌≡◌, IfOk, All};
+ghost use Rattle.std.specs.List.{list_any};
+ghost use Rattle.sj_path.specs.Tree.{path_of};
+ghost use Rattle.sj_sql.specs.View.{column_of, table_of};
+ghost use Rattle.sj_bind.specs.Names.{names_of};
+ghost use Rattle.sj_bind.specs.PartsView.{columns_at, paths_at};
+ghost use Rattle.sj_bind.specs.Rules as spec;
+ghost use Rattle.sj_bind.specs.Sound.{IsBindableColumn};
+ghost use Rattle.sj_bind.specs.Variables.{column_misses, misses};
+
+use crate::calls::defaults_fail;
+use crate::clauses::quotes_clash;
+use crate::columns::TableParts;
+use crate::covered::covers;
+use crate::variables::variable_names;
+use indexmap::IndexSet;
+use sj_base::Memory;
+use sj_path::Path;
+use sj_sql::{Column, Table};
+use std::alloc::Global;
+
+fn some_path_misses(names: &IndexSet<&str>, paths: &[&Path]) -> bool
+    ensures { result ≡ list_any (misses (names_of names.now)) (paths_at paths.now) }
+{
+    for path in paths {
+        if !covers(names, path) {
+            return true;
+        }
+    }
+    false
+}
+
+fn one_column_misses(names: &IndexSet<&str>, column: &Column) -> bool
+    ensures { result ≡ column_misses (names_of names.now) (column_of column.now) }
+{
+    match column {
+        Column::Ordinality(_) | Column::Nested(_, _, _) => false,
+        Column::Regular(column) => !covers(names, &column.path),
+        Column::Formatted(column) => !covers(names, &column.path),
+    }
+}
+
+fn some_column_misses(names: &IndexSet<&str>, columns: &[&Column]) -> bool
+    ensures { result ≡ list_any (column_misses (names_of names.now)) (columns_at columns.now) }
+{
+    for column in columns {
+        if one_column_misses(names, column) {
+            return true;
+        }
+    }
+    false
+}
+
+/// Whether the row path, a nested path or the path of a column has a variable that the PASSING clause does not name.
+pub fn table_lacks_variable(
+    alloc: Global,
+    table: &Table,
+    parts: &TableParts<'_>,
+) -> Result<bool, Memory>
+    requires columns { columns_at parts.now.columns.items ≡ spec.all_columns (table_of table.now) }
+    requires paths { paths_at parts.now.paths.items ≡ spec.all_paths (table_of table.now) }
+    ensures { IfOk result (λ b. b ≡ spec.table_lacks_variable (table_of table.now)) }
+{
+    let names = variable_names(alloc, table.common.passing.as_slice())?;
+    if some_path_misses(&names, parts.paths.as_slice()) {
+        return Ok(true);
+    }
+    Ok(some_column_misses(&names, parts.columns.as_slice()))
+}
+
+fn column_quotes_clash(column: &Column) -> bool
+    ensures { result ≡ spec.column_quotes_clash (column_of column.now) }
+{
+    match column {
+        Column::Ordinality(_) | Column::Regular(_) | Column::Nested(_, _, _) => false,
+        Column::Formatted(column) => quotes_clash(column.wrapper, column.quotes),
+    }
+}
+
+/// Whether a QUOTES clause of a column stands beside WITH WRAPPER.
+pub fn some_column_quotes_clash(columns: &[&Column]) -> bool
+    ensures { result ≡ list_any spec.column_quotes_clash (columns_at columns.now) }
+{
+    for column in columns {
+        if column_quotes_clash(column) {
+            return true;
+        }
+    }
+    false
+}
+
+fn column_default_fails(alloc: Global, column: &Column) -> Result<bool, Memory>
+    requires { IsBindableColumn (column_of column.now) }
+    ensures { IfOk result (λ b. b ≡ spec.column_default_fails (column_of column.now)) }
+{
+    match column {
+        Column::Ordinality(_) | Column::Formatted(_) | Column::Nested(_, _, _) => Ok(false),
+        Column::Regular(column) => {
+            defaults_fail(alloc, column.ty, &column.on_empty, &column.on_error)
+        }
+    }
+}
+
+/// Whether a DEFAULT literal of a column cannot be cast to its type.
+pub fn some_column_default_fails(alloc: Global, columns: &[&Column]) -> Result<bool, Memory>
+    requires { All IsBindableColumn (columns_at columns.now) }
+    ensures { IfOk result (λ b. b ≡ list_any spec.column_default_fails (columns_at columns.now)) }
+{
+    for column in columns {
+        if column_default_fails(alloc, column)? {
+            return Ok(true);
+        }
+    }
+    Ok(false)
+}
