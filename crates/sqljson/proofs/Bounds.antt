@@ -1,19 +1,21 @@
 -- How much every run has written, and when it stops at the limit of an input.
-use Rattle.std.proofs.Common.{◌≡◌, ◌⊎◌, inl, inr, ℕ, ◌+◌, ◌-◌, ◌≤◌, ◌^◌, List, [], ◌++◌, length, take, drop, Option, None, Some, Result, Ok, Err, IfSome, IfOk, refl, sym, ◌∙◌, ap, subst, arith, length-append}
+use Rattle.std.proofs.Common.{◌≡◌, ◌⊎◌, inl, inr, ℕ, ◌+◌, ◌-◌, List, [], length, take, drop, Option, None, Some, Ok, IfSome, IfOk, refl, sym, ◌∙◌, ap, subst, arith, length-append}
 use Rattle.std.proofs.lemmas.List.{take-append-drop, append-nil}
 use Rattle.std.specs.Io.KnownBytes.{Consumes}
-use Rattle.sj_base.specs.Outside.{Files, Rose}
+use Rattle.sj_base.specs.Outside.{Rose}
 use Rattle.sqljson.specs.declared.status.Status.{Status}
 use Rattle.sqljson.specs.declared.status.Status.TheVariants.{Done, Usage, Refused, ShelfFault, ReadFault, WriteFault, Memory, InputLimit, FileTooLong}
 use Rattle.sj_grammar.specs.Tree.{Path}
 use Rattle.sqljson.specs.Output.{output, whole_output}
 use Rattle.sqljson.specs.Sides.{InputSide, OutputSide, Grew}
 use Rattle.sqljson.specs.Stream.{IsPrefix, IsWhy, Streamed, WroteLeast, WroteWhole, StepsWithin, max_piece, max_input}
-use Rattle.sqljson.specs.File.{ShelfSide, verdict, file_shown}
-use Rattle.sqljson.specs.Ran.{Ran, EndsSo, RanOver, Idle}
+use Rattle.sqljson.specs.File.{ShelfSide, Form, running, checking, file_run, file_shown}
+use Rattle.sqljson.specs.Verdict.{Runs}
+use Rattle.sqljson.specs.Ran.{Ran, EndsSo, ChecksSo, RanOver, Idle}
 use Rattle.sqljson.proofs.Writing.{grew_none}
 use Rattle.sqljson.proofs.Streaming.{whole_output-append, output-end, prefix_trans, consumes_none, told}
-use Rattle.sqljson.proofs.Running.{by_left, by_verdict, same_file}
+use Rattle.sqljson.proofs.Running.{by_left, same_file, no_name}
+use Rattle.sqljson.proofs.Verdicts.{one_run}
 
 -- ---- at least
 
@@ -62,14 +64,14 @@ idle_least K i i' o o' idle = record {
 }
 
 over_least : (name : List ℕ) (s s' : ShelfSide) (i i' : InputSide) (o o' : OutputSide) (status : Status) (file : List ℕ) (K : List Path) →
-    file_shown s.files (Some name) ≡ Some file → verdict file ≡ Ok K → RanOver name s s' i i' o o' status → WroteLeast K i i' o o'
+    file_shown s.files (Some name) ≡ Some file → Runs file K → RanOver name s s' i i' o o' status → WroteLeast K i i' o o'
 over_least name s s' i i' o o' status file K shown accepted r =
     let same : r.file ≡ file = same_file s.files name file r.file shown r.holds.is in
-    let these : r.statements ≡ K = cc (r.accepted, ap verdict same, accepted) in
+    let these : r.statements ≡ K = one_run file r.statements K (subst (λ (f : List ℕ). Runs f r.statements) same r.accepted) accepted in
     subst (λ (k : List Path). WroteLeast k i i' o o') these (streamed_least r.statements i i' o o' status r.streamed)
 
 ends_least : (name : List ℕ) (s s' : ShelfSide) (i i' : InputSide) (o o' : OutputSide) (status : Status) (file : List ℕ) (K : List Path) →
-    file_shown s.files (Some name) ≡ Some file → verdict file ≡ Ok K → EndsSo name s s' i i' o o' status → WroteLeast K i i' o o'
+    file_shown s.files (Some name) ≡ Some file → Runs file K → EndsSo name s s' i i' o o' status → WroteLeast K i i' o o'
 ends_least name s s' i i' o o' ShelfFault file K shown accepted e = idle_least K i i' o o' e.2
 ends_least name s s' i i' o o' FileTooLong file K shown accepted e = idle_least K i i' o o' e.2
 ends_least name s s' i i' o o' (Refused k kind) file K shown accepted e = idle_least K i i' o o' e.1
@@ -81,16 +83,17 @@ ends_least name s s' i i' o o' WriteFault file K shown accepted e = over_least n
 ends_least name s s' i i' o o' InputLimit file K shown accepted e = over_least name s s' i i' o o' InputLimit file K shown accepted e
 ends_least name s s' i i' o o' Usage file K shown accepted e = absurd e
 
-words_least : (named : Option (List ℕ)) (s s' : ShelfSide) (i i' : InputSide) (o o' : OutputSide) (status : Status) (file : List ℕ) (K : List Path) →
-    file_shown s.files named ≡ Some file → verdict file ≡ Ok K → Ran named s s' i i' o o' status → WroteLeast K i i' o o'
-words_least None s s' i i' o o' status file K shown accepted r = idle_least K i i' o o' r.2
-words_least (Some name) s s' i i' o o' status file K shown accepted r = ends_least name s s' i i' o o' status file K shown accepted r
+words_least : (f : Option Form) (s s' : ShelfSide) (i i' : InputSide) (o o' : OutputSide) (status : Status) (file : List ℕ) (K : List Path) →
+    file_shown s.files (file_run f) ≡ Some file → Runs file K → Ran f s s' i i' o o' status → WroteLeast K i i' o o'
+words_least None s s' i i' o o' status file K shown accepted r = absurd (no_name s.files file shown)
+words_least (Some (running name)) s s' i i' o o' status file K shown accepted r = ends_least name s s' i i' o o' status file K shown accepted r
+words_least (Some (checking name)) s s' i i' o o' status file K shown accepted r = absurd (no_name s.files file shown)
 
 -- however a run ended, it had written the lines whose LF stands before the last piece of the bytes taken
-pub ran_least : (named : Option (List ℕ)) (s s' : ShelfSide) (i i' : InputSide) (o o' : OutputSide) (status : Status) → Ran named s s' i i' o o' status →
-    IfSome (file_shown s.files named) (λ file. IfOk (verdict file) (λ K. WroteLeast K i i' o o'))
-ran_least named s s' i i' o o' status r =
-    by_left (file_shown s.files named) _ (λ file shown. by_verdict (verdict file) _ (λ K accepted. words_least named s s' i i' o o' status file K shown accepted r))
+pub ran_least : (f : Option Form) (s s' : ShelfSide) (i i' : InputSide) (o o' : OutputSide) (status : Status) → Ran f s s' i i' o o' status →
+    IfSome (file_shown s.files (file_run f)) (λ file. ((K : List Path) → Runs file K → WroteLeast K i i' o o'))
+ran_least f s s' i i' o o' status r =
+    by_left (file_shown s.files (file_run f)) _ (λ file shown K accepted. words_least f s s' i i' o o' status file K shown accepted r)
 
 -- ---- steps
 
@@ -98,14 +101,14 @@ idle_within : (K : List Path) (i i' : InputSide) (o o' : OutputSide) → Idle i 
 idle_within K i i' o o' idle = subst (λ (p : InputSide). StepsWithin K i p) (sym idle.input) (record { bytes = []; consumed = consumes_none i.left; costs = omega arith })
 
 over_within : (name : List ℕ) (s s' : ShelfSide) (i i' : InputSide) (o o' : OutputSide) (status : Status) (file : List ℕ) (K : List Path) →
-    file_shown s.files (Some name) ≡ Some file → verdict file ≡ Ok K → RanOver name s s' i i' o o' status → StepsWithin K i i'
+    file_shown s.files (Some name) ≡ Some file → Runs file K → RanOver name s s' i i' o o' status → StepsWithin K i i'
 over_within name s s' i i' o o' status file K shown accepted r =
     let same : r.file ≡ file = same_file s.files name file r.file shown r.holds.is in
-    let these : r.statements ≡ K = cc (r.accepted, ap verdict same, accepted) in
+    let these : r.statements ≡ K = one_run file r.statements K (subst (λ (f : List ℕ). Runs f r.statements) same r.accepted) accepted in
     subst (λ (k : List Path). StepsWithin k i i') these (record { bytes = r.streamed.bytes; consumed = r.streamed.consumed; costs = r.streamed.costs })
 
 ends_within : (name : List ℕ) (s s' : ShelfSide) (i i' : InputSide) (o o' : OutputSide) (status : Status) (file : List ℕ) (K : List Path) →
-    file_shown s.files (Some name) ≡ Some file → verdict file ≡ Ok K → EndsSo name s s' i i' o o' status → StepsWithin K i i'
+    file_shown s.files (Some name) ≡ Some file → Runs file K → EndsSo name s s' i i' o o' status → StepsWithin K i i'
 ends_within name s s' i i' o o' ShelfFault file K shown accepted e = idle_within K i i' o o' e.2
 ends_within name s s' i i' o o' FileTooLong file K shown accepted e = idle_within K i i' o o' e.2
 ends_within name s s' i i' o o' (Refused k kind) file K shown accepted e = idle_within K i i' o o' e.1
@@ -117,16 +120,17 @@ ends_within name s s' i i' o o' WriteFault file K shown accepted e = over_within
 ends_within name s s' i i' o o' InputLimit file K shown accepted e = over_within name s s' i i' o o' InputLimit file K shown accepted e
 ends_within name s s' i i' o o' Usage file K shown accepted e = absurd e
 
-words_within : (named : Option (List ℕ)) (s s' : ShelfSide) (i i' : InputSide) (o o' : OutputSide) (status : Status) (file : List ℕ) (K : List Path) →
-    file_shown s.files named ≡ Some file → verdict file ≡ Ok K → Ran named s s' i i' o o' status → StepsWithin K i i'
-words_within None s s' i i' o o' status file K shown accepted r = idle_within K i i' o o' r.2
-words_within (Some name) s s' i i' o o' status file K shown accepted r = ends_within name s s' i i' o o' status file K shown accepted r
+words_within : (f : Option Form) (s s' : ShelfSide) (i i' : InputSide) (o o' : OutputSide) (status : Status) (file : List ℕ) (K : List Path) →
+    file_shown s.files (file_run f) ≡ Some file → Runs file K → Ran f s s' i i' o o' status → StepsWithin K i i'
+words_within None s s' i i' o o' status file K shown accepted r = absurd (no_name s.files file shown)
+words_within (Some (running name)) s s' i i' o o' status file K shown accepted r = ends_within name s s' i i' o o' status file K shown accepted r
+words_within (Some (checking name)) s s' i i' o o' status file K shown accepted r = absurd (no_name s.files file shown)
 
 -- however a run ended, its steps are within what the lines of the bytes taken allow
-pub ran_within : (named : Option (List ℕ)) (s s' : ShelfSide) (i i' : InputSide) (o o' : OutputSide) (status : Status) → Ran named s s' i i' o o' status →
-    IfSome (file_shown s.files named) (λ file. IfOk (verdict file) (λ K. StepsWithin K i i'))
-ran_within named s s' i i' o o' status r =
-    by_left (file_shown s.files named) _ (λ file shown. by_verdict (verdict file) _ (λ K accepted. words_within named s s' i i' o o' status file K shown accepted r))
+pub ran_within : (f : Option Form) (s s' : ShelfSide) (i i' : InputSide) (o o' : OutputSide) (status : Status) → Ran f s s' i i' o o' status →
+    IfSome (file_shown s.files (file_run f)) (λ file. ((K : List Path) → Runs file K → StepsWithin K i i'))
+ran_within f s s' i i' o o' status r =
+    by_left (file_shown s.files (file_run f)) _ (λ file shown K accepted. words_within f s s' i i' o o' status file K shown accepted r)
 
 -- ---- whole lines alone
 
@@ -134,31 +138,33 @@ whole : (K : List Path) (i i' : InputSide) (o o' : OutputSide) (status : Status)
 whole K i i' o o' status s is = record { bytes = s.bytes; consumed = s.consumed; grew = subst (Grew o o') is s.grew }
 
 over_whole : (name : List ℕ) (s s' : ShelfSide) (i i' : InputSide) (o o' : OutputSide) (status : Status) (file : List ℕ) (K : List Path) →
-    file_shown s.files (Some name) ≡ Some file → verdict file ≡ Ok K → (r : RanOver name s s' i i' o o' status) → r.streamed.text ≡ whole_output r.statements r.streamed.bytes → WroteWhole K i i' o o'
+    file_shown s.files (Some name) ≡ Some file → Runs file K → (r : RanOver name s s' i i' o o' status) → r.streamed.text ≡ whole_output r.statements r.streamed.bytes → WroteWhole K i i' o o'
 over_whole name s s' i i' o o' status file K shown accepted r is =
     let same : r.file ≡ file = same_file s.files name file r.file shown r.holds.is in
-    let these : r.statements ≡ K = cc (r.accepted, ap verdict same, accepted) in
+    let these : r.statements ≡ K = one_run file r.statements K (subst (λ (f : List ℕ). Runs f r.statements) same r.accepted) accepted in
     subst (λ (k : List Path). WroteWhole k i i' o o') these (whole r.statements i i' o o' status r.streamed is)
 
-words_read_fault : (named : Option (List ℕ)) (s s' : ShelfSide) (i i' : InputSide) (o o' : OutputSide) (file : List ℕ) (K : List Path) →
-    file_shown s.files named ≡ Some file → verdict file ≡ Ok K → Ran named s s' i i' o o' ReadFault → WroteWhole K i i' o o'
-words_read_fault None s s' i i' o o' file K shown accepted r = absurd (cc r.0)
-words_read_fault (Some name) s s' i i' o o' file K shown accepted r = over_whole name s s' i i' o o' ReadFault file K shown accepted r r.streamed.why.0
+words_read_fault : (f : Option Form) (s s' : ShelfSide) (i i' : InputSide) (o o' : OutputSide) (file : List ℕ) (K : List Path) →
+    file_shown s.files (file_run f) ≡ Some file → Runs file K → Ran f s s' i i' o o' ReadFault → WroteWhole K i i' o o'
+words_read_fault None s s' i i' o o' file K shown accepted r = absurd (no_name s.files file shown)
+words_read_fault (Some (running name)) s s' i i' o o' file K shown accepted r = over_whole name s s' i i' o o' ReadFault file K shown accepted r r.streamed.why.0
+words_read_fault (Some (checking name)) s s' i i' o o' file K shown accepted r = absurd (no_name s.files file shown)
 
-words_limit : (named : Option (List ℕ)) (s s' : ShelfSide) (i i' : InputSide) (o o' : OutputSide) (file : List ℕ) (K : List Path) →
-    file_shown s.files named ≡ Some file → verdict file ≡ Ok K → Ran named s s' i i' o o' InputLimit → WroteWhole K i i' o o'
-words_limit None s s' i i' o o' file K shown accepted r = absurd (cc r.0)
-words_limit (Some name) s s' i i' o o' file K shown accepted r = over_whole name s s' i i' o o' InputLimit file K shown accepted r r.streamed.why.0
+words_limit : (f : Option Form) (s s' : ShelfSide) (i i' : InputSide) (o o' : OutputSide) (file : List ℕ) (K : List Path) →
+    file_shown s.files (file_run f) ≡ Some file → Runs file K → Ran f s s' i i' o o' InputLimit → WroteWhole K i i' o o'
+words_limit None s s' i i' o o' file K shown accepted r = absurd (no_name s.files file shown)
+words_limit (Some (running name)) s s' i i' o o' file K shown accepted r = over_whole name s s' i i' o o' InputLimit file K shown accepted r r.streamed.why.0
+words_limit (Some (checking name)) s s' i i' o o' file K shown accepted r = absurd (no_name s.files file shown)
 
-pub ran_read_fault : (named : Option (List ℕ)) (s s' : ShelfSide) (i i' : InputSide) (o o' : OutputSide) (status : Status) → Ran named s s' i i' o o' status → status ≡ ReadFault →
-    IfSome (file_shown s.files named) (λ file. IfOk (verdict file) (λ K. WroteWhole K i i' o o'))
-ran_read_fault named s s' i i' o o' status r is =
-    by_left (file_shown s.files named) _ (λ file shown. by_verdict (verdict file) _ (λ K accepted. words_read_fault named s s' i i' o o' file K shown accepted (subst (Ran named s s' i i' o o') is r)))
+pub ran_read_fault : (f : Option Form) (s s' : ShelfSide) (i i' : InputSide) (o o' : OutputSide) (status : Status) → Ran f s s' i i' o o' status → status ≡ ReadFault →
+    IfSome (file_shown s.files (file_run f)) (λ file. ((K : List Path) → Runs file K → WroteWhole K i i' o o'))
+ran_read_fault f s s' i i' o o' status r is =
+    by_left (file_shown s.files (file_run f)) _ (λ file shown K accepted. words_read_fault f s s' i i' o o' file K shown accepted (subst (Ran f s s' i i' o o') is r))
 
-pub ran_limit : (named : Option (List ℕ)) (s s' : ShelfSide) (i i' : InputSide) (o o' : OutputSide) (status : Status) → Ran named s s' i i' o o' status → status ≡ InputLimit →
-    IfSome (file_shown s.files named) (λ file. IfOk (verdict file) (λ K. WroteWhole K i i' o o'))
-ran_limit named s s' i i' o o' status r is =
-    by_left (file_shown s.files named) _ (λ file shown. by_verdict (verdict file) _ (λ K accepted. words_limit named s s' i i' o o' file K shown accepted (subst (Ran named s s' i i' o o') is r)))
+pub ran_limit : (f : Option Form) (s s' : ShelfSide) (i i' : InputSide) (o o' : OutputSide) (status : Status) → Ran f s s' i i' o o' status → status ≡ InputLimit →
+    IfSome (file_shown s.files (file_run f)) (λ file. ((K : List Path) → Runs file K → WroteWhole K i i' o o'))
+ran_limit f s s' i i' o o' status r is =
+    by_left (file_shown s.files (file_run f)) _ (λ file shown K accepted. words_limit f s s' i i' o o' file K shown accepted (subst (Ran f s s' i i' o o') is r))
 
 -- ---- the limit of an input
 
@@ -202,13 +208,32 @@ ends_limit name s s' i i' o o' WriteFault all rest e is is' len read write = lim
 ends_limit name s s' i i' o o' InputLimit all rest e is is' len read write = inl refl
 ends_limit name s s' i i' o o' Usage all rest e is is' len read write = absurd e
 
-words_find_limit : (named : Option (List ℕ)) (s s' : ShelfSide) (i i' : InputSide) (o o' : OutputSide) (status : Status) (all rest : List ℕ) → Ran named s s' i i' o o' status → i.left ≡ Some all → i'.left ≡ Some rest
+-- a check reads no input
+same_below : (i i' : InputSide) (all rest : List ℕ) → i' ≡ i → i.left ≡ Some all → i'.left ≡ Some rest → length all ≡ length rest + max_input → ⊥
+same_below i i' all rest same is is' len =
+    let these : all ≡ rest = cc (same, is, is') in
+    omega (arith, ap length these, len)
+
+checks_below : (name : List ℕ) (s s' : ShelfSide) (i i' : InputSide) (o o' : OutputSide) (status : Status) (all rest : List ℕ) → ChecksSo name s s' i i' o o' status → i.left ≡ Some all → i'.left ≡ Some rest
+    → length all ≡ length rest + max_input → ⊥
+checks_below name s s' i i' o o' ShelfFault all rest e is is' len = idle_below i i' o o' all rest e.2 is is' len
+checks_below name s s' i i' o o' FileTooLong all rest e is is' len = idle_below i i' o o' all rest e.2 is is' len
+checks_below name s s' i i' o o' (Refused k kind) all rest e is is' len = idle_below i i' o o' all rest e.1 is is' len
+checks_below name s s' i i' o o' Memory all rest e is is' len = idle_below i i' o o' all rest e is is' len
+checks_below name s s' i i' o o' Done all rest e is is' len = same_below i i' all rest e.0.input is is' len
+checks_below name s s' i i' o o' WriteFault all rest e is is' len = same_below i i' all rest e.0.input is is' len
+checks_below name s s' i i' o o' ReadFault all rest e is is' len = absurd e
+checks_below name s s' i i' o o' InputLimit all rest e is is' len = absurd e
+checks_below name s s' i i' o o' Usage all rest e is is' len = absurd e
+
+words_find_limit : (f : Option Form) (s s' : ShelfSide) (i i' : InputSide) (o o' : OutputSide) (status : Status) (all rest : List ℕ) → Ran f s s' i i' o o' status → i.left ≡ Some all → i'.left ≡ Some rest
     → length all ≡ length rest + max_input → (Rose i.faults i'.faults → ⊥) → (Rose o.faults o'.faults → ⊥) → IsLimitOrMemory status
 words_find_limit None s s' i i' o o' status all rest r is is' len read write = absurd (idle_below i i' o o' all rest r.2 is is' len)
-words_find_limit (Some name) s s' i i' o o' status all rest r is is' len read write = ends_limit name s s' i i' o o' status all rest r is is' len read write
+words_find_limit (Some (running name)) s s' i i' o o' status all rest r is is' len read write = ends_limit name s s' i i' o o' status all rest r is is' len read write
+words_find_limit (Some (checking name)) s s' i i' o o' status all rest r is is' len read write = absurd (checks_below name s s' i i' o o' status all rest r is is' len)
 
 -- where as many bytes were taken as an input may have, and no call failed, the run stops at the limit
-pub ran_finds_limit : (named : Option (List ℕ)) (s s' : ShelfSide) (i i' : InputSide) (o o' : OutputSide) (status : Status) → Ran named s s' i i' o o' status
+pub ran_finds_limit : (f : Option Form) (s s' : ShelfSide) (i i' : InputSide) (o o' : OutputSide) (status : Status) → Ran f s s' i i' o o' status
     → (Rose i.faults i'.faults → ⊥) → (Rose o.faults o'.faults → ⊥) → IfSome i.left (λ all. IfSome i'.left (λ rest. length all ≡ length rest + max_input → IsLimitOrMemory status))
-ran_finds_limit named s s' i i' o o' status r read write =
-    by_left i.left _ (λ all is. by_left i'.left _ (λ rest is' len. words_find_limit named s s' i i' o o' status all rest r is is' len read write))
+ran_finds_limit f s s' i i' o o' status r read write =
+    by_left i.left _ (λ all is. by_left i'.left _ (λ rest is' len. words_find_limit f s s' i i' o o' status all rest r is is' len read write))

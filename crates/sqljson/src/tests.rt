@@ -1,7 +1,8 @@
 // Runs over the objects in memory.
 use crate::run::run;
-use crate::status::{FileKind, Status};
+use crate::status::Status;
 use sj_base::{MemShelf, MemSink, MemSource, Steps, Tally, Text};
+use sj_sql::FileKind;
 use std::alloc::Global;
 use std::test::Fail;
 
@@ -185,12 +186,31 @@ fn endings_and_messages(rt: HostRuntime) -> Result<(), Fail> {
         ),
         (
             Setup {
-                words: &["check", "f"],
+                words: &["selfrun", "f"],
                 ..plain(AB, three, 0)
             },
             Status::Usage,
             "",
             usage,
+        ),
+        (
+            Setup {
+                words: &["check", "f"],
+                ..plain(AB, three, 0)
+            },
+            Status::Done,
+            "accepted 1\n",
+            "",
+        ),
+        (
+            Setup {
+                words: &["check", "f"],
+                room: 5,
+                ..plain(AB, three, 0)
+            },
+            Status::WriteFault,
+            "accep",
+            "output failed\n",
         ),
         (
             Setup {
@@ -250,6 +270,129 @@ fn endings_and_messages(rt: HostRuntime) -> Result<(), Fail> {
         assert_eq!(rt; ran.status, status);
         assert_eq!(rt; ran.out.as_slice(), out.as_bytes());
         assert_eq!(rt; ran.notes.as_slice(), note.as_bytes());
+    }
+    Ok(())
+}
+
+/// Checks a file, and gives the number of its statements or the message.
+fn checked(alloc: Global, file: &[u8]) -> Result<Vec<u8>, Fail> {
+    let setup = Setup {
+        words: &["check", "f"],
+        ..plain(file, b"", 0)
+    };
+    let ran = run_on(alloc, &setup)?;
+    let told = if ran.status == Status::Done {
+        ran.out
+    } else {
+        ran.notes
+    };
+    Ok(told)
+}
+
+// Files that are accepted, and what is told of those that are not.
+#[test]
+fn checked_files(rt: HostRuntime) -> Result<(), Fail> {
+    let alloc = rt.alloc();
+    let cases: [(&[u8], &str); 26] = [
+        (b"", "accepted 0\n"),
+        (
+            b"SELECT JSON_OBJECT('a' VALUE 1, 'b' VALUE NULL), JSON_ARRAY(1, NULL, 'x', TRUE), JSON_OBJECT(KEY 'k' VALUE JSON_ARRAY(1.50)); SELECT JSON_OBJECT('a' : 1, 'a' : 2 WITH UNIQUE KEYS); SELECT JSON_OBJECT(JSON_VALUE(doc,'$.none') VALUE 1);",
+            "accepted 3\n",
+        ),
+        (
+            b"SELECT * FROM JSON_TABLE(doc,'lax $' AS r COLUMNS (NESTED PATH 'lax $.x[*]' AS x COLUMNS (a INTEGER PATH 'lax $'), NESTED 'lax $.y[*]' AS y COLUMNS (b VARCHAR PATH 'lax $')) PLAN (r OUTER (x CROSS y)));",
+            "accepted 1\n",
+        ),
+        (b"SELECT 1", "statement 1: syntax error\n"),
+        (b"SELECT 'a;", "statement 1: lexical error\n"),
+        (
+            b"SELECT 1; SELECT JSON_EXISTS(doc,'$[');",
+            "statement 2: path: syntax error\n",
+        ),
+        (
+            b"SELECT JSON_EXISTS(doc,'$ + #');",
+            "statement 1: path: lexical error\n",
+        ),
+        (
+            b"SELECT JSON_EXISTS(doc,'$ + @');",
+            "statement 1: path: misplaced @ or last\n",
+        ),
+        (
+            b"SELECT JSON_EXISTS(doc,'$.a.double()');",
+            "statement 1: unsupported double\n",
+        ),
+        (
+            b"SELECT JSON_VALUE(doc,'$.a' RETURNING FLOAT);",
+            "statement 1: unsupported approximate type\n",
+        ),
+        (
+            b"SELECT JSON_EXISTS(doc,'$.a ? (@ == $x)');",
+            "statement 1: unknown variable\n",
+        ),
+        (
+            b"SELECT b FROM JSON_TABLE(doc,'$' COLUMNS (a VARCHAR));",
+            "statement 1: unknown column\n",
+        ),
+        (
+            b"SELECT * FROM JSON_TABLE(doc,'$' COLUMNS (a VARCHAR, a INTEGER));",
+            "statement 1: column named twice\n",
+        ),
+        (
+            b"SELECT JSON_VALUE(doc,'$' RETURNING INTEGER DEFAULT 'x' ON EMPTY);",
+            "statement 1: default cannot be cast\n",
+        ),
+        (
+            b"SELECT JSON_QUERY(doc,'$' WITH WRAPPER KEEP QUOTES);",
+            "statement 1: QUOTES with WRAPPER\n",
+        ),
+        (
+            b"SELECT JSON_OBJECT(1 VALUE 2);",
+            "statement 1: key is not a text\n",
+        ),
+        (
+            b"SELECT * FROM JSON_TABLE(doc,'$' AS r COLUMNS (NESTED '$.x' AS x COLUMNS (a VARCHAR)) PLAN (r));",
+            "statement 1: plan does not match the paths\n",
+        ),
+        (
+            b"SELECT JSON_ARRAYAGG(a), a FROM JSON_TABLE(doc,'$' COLUMNS (a VARCHAR));",
+            "statement 1: aggregate beside a plain value\n",
+        ),
+        (
+            b"SELECT JSON_EXISTS(doc, '$' PASSING 1 AS x, 2 AS x);",
+            "statement 1: variable passed twice\n",
+        ),
+        (
+            b"SELECT * FROM JSON_TABLE(doc,'$' AS r COLUMNS (NESTED '$.x' AS r COLUMNS (a VARCHAR)));",
+            "statement 1: path named twice\n",
+        ),
+        (
+            b"SELECT * FROM JSON_TABLE(doc,'$' AS r COLUMNS (NESTED '$.x' COLUMNS (a VARCHAR)) PLAN (r));",
+            "statement 1: path without a name\n",
+        ),
+        (
+            b"SELECT 1; SELECT JSON_OBJECT(1 VALUE 2); SELECT 'a;",
+            "statement 2: key is not a text\n",
+        ),
+        (
+            b"SELECT JSON_OBJECT(doc IS JSON VALUE 1);",
+            "statement 1: key is not a text\n",
+        ),
+        (
+            b"SELECT JSON_OBJECT('k' VALUE doc IS JSON WITH UNIQUE KEYS);",
+            "accepted 1\n",
+        ),
+        (
+            b"SELECT JSON_EXISTS(doc FORMAT JSON ENCODING UTF16, '$');",
+            "statement 1: unsupported encoding\n",
+        ),
+        (
+            b"SELECT JSON_EXISTS(doc,'$ ? (@ like_regex \"a\")');",
+            "statement 1: unsupported like_regex\n",
+        ),
+    ];
+    for (file, told) in cases {
+        let answer = checked(alloc, file)?;
+        assert_eq!(rt; answer.as_slice(), told.as_bytes());
     }
     Ok(())
 }

@@ -1,0 +1,9 @@
+use Rattle.sqljson.proofs.Taken.{refused_answer, form_missing, path_found, path_there}
+use Rattle.std.proofs.Common.{rules}
+use Rattle.sqljson.proofs.verdict.path_to_run.Goals as goal
+
+pub returns-in_err-bound : goal.returns-in_err-bound
+returns-in_err-bound c = search (refused_answer, rules)
+
+pub returns-then-not-runs : goal.returns-then-not-runs
+returns-then-not-runs c = search (form_missing, rules)

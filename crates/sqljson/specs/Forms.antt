@@ -1,0 +1,8 @@
+-- What the program takes the words for, as what they ask for.
+use Rattle.sqljson.specs.declared.file.Form.{Form}
+use Rattle.sqljson.specs.declared.file.Form.TheVariants as f
+use Rattle.sqljson.specs.File as w
+
+abbrev pub form_value : Form → w.Form
+form_value (f.Run name) = w.running name.now
+form_value (f.Check name) = w.checking name.now

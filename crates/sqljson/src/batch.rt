@@ -1,0 +1,110 @@
+// Lines that are read together, before their rows are made.
+ghost use Rattle.std.specs.Prelude.{◌≡◌, ◌+◌, ◌++◌, ◌∷◌, [], false, OnOk, IfOk};
+ghost use Rattle.sj_rows.specs.Line.{line_seen};
+ghost use Rattle.sj_json.specs.Document.{document};
+ghost use Rattle.sqljson.specs.Batch.{read_line, ReadOn};
+
+use sj_base::Memory;
+use sj_doc::Doc;
+use sj_read::{ReadRefusal, read_over};
+use sj_rows::{Line, Lines, is_blank};
+use std::alloc::Global;
+
+/// How many lines are read before their rows are made: the cursors of the statements, which are made for the documents that
+/// are there, serve all of them.
+const LINES_TOGETHER: usize = 16;
+
+/// A line that is not blank: its number, and its document where it is JSON.
+#[derive(Drop)]
+pub(crate) struct ReadLine {
+    pub(crate) number: u64,
+    pub(crate) doc: Option<Doc>,
+}
+
+/// Whether lines may wait behind those that were read.
+#[derive(Clone, Copy)]
+pub(crate) enum Behind {
+    Nothing,
+    Perhaps,
+}
+
+/// The lines that were read last, and documents of earlier lines whose memory the next ones take.
+#[derive(Drop)]
+pub(crate) struct Batch {
+    lines: Vec<ReadLine>,
+    spare: Vec<Doc>,
+}
+
+impl Batch {
+    /// No lines. It takes no memory.
+    pub(crate) fn new(alloc: Global) -> Batch {
+        Batch {
+            lines: Vec::new(alloc),
+            spare: Vec::new(alloc),
+        }
+    }
+
+    /// The lines that were read last.
+    pub(crate) fn lines(&self) -> &[ReadLine]
+        ensures { result.now ≡ self.now.lines.items }
+    {
+        self.lines.as_slice()
+    }
+
+    #[tactic(auto, using(crate::proofs::Batches::read_none, crate::proofs::Batches::read_next, crate::proofs::Batches::read_all, crate::proofs::Batches::read_some))]
+    /// Reads the next of the lines that wait, in place of those that were read before.
+    pub(crate) fn read_on(&mut self, alloc: Global, waiting: &mut Lines) -> Result<Behind, Memory>
+        ensures { IfOk result (λ behind. ReadOn waiting.old waiting.new self.new.lines.items behind) }
+    {
+        self.clear()?;
+        while self.lines.len() < LINES_TOGETHER {
+            let number = waiting.number() + 1;
+            let Some(line) = waiting.next_line() else {
+                return Ok(Behind::Nothing);
+            };
+            self.read_line(alloc, number, line)?;
+        }
+        Ok(Behind::Perhaps)
+    }
+
+    /// Sets the lines aside. The document of the first is the first to be taken again, so that the memory of a long line,
+    /// which stands first in its piece, is taken once.
+    fn clear(&mut self) -> Result<(), Memory>
+        ensures { OnOk result (self.new.lines.items ≡ []) }
+    {
+        while let Some(line) = self.lines.pop() {
+            if let Some(doc) = line.doc {
+                self.spare.push(doc)?;
+            }
+        }
+        Ok(())
+    }
+
+    /// Reads a line behind the others, unless it is blank.
+    fn read_line(&mut self, alloc: Global, number: u64, line: Line<'_>) -> Result<(), Memory>
+        ensures { OnOk result (self.new.lines.items ≡ self.old.lines.items ++ read_line number (line_seen line.entry)) }
+    {
+        let doc = match line {
+            Line::TooLong => None,
+            Line::Bytes(bytes) => {
+                if is_blank(bytes) {
+                    return Ok(());
+                }
+                document_of(alloc, bytes, self.spare.pop())?
+            }
+        };
+        self.lines.push(ReadLine { number, doc })?;
+        Ok(())
+    }
+}
+
+/// The document of a line, made in the memory of an earlier one, and none where the line is not JSON.
+fn document_of(alloc: Global, line: &[u8], earlier: Option<Doc>) -> Result<Option<Doc>, Memory>
+    ensures { IfOk result (λ doc. doc ≡ document line.now) }
+{
+    match read_over(alloc, earlier, line) {
+        Ok(doc) => Ok(Some(doc)),
+        Err(ReadRefusal::NotJson) => Ok(None),
+        Err(ReadRefusal::Memory) => Err(Memory),
+    }
+}
