@@ -27,6 +27,7 @@ def check_edges(tally, program):
         (folder / "member.sql").write_bytes(MEMBER)
         check_words(tally, program, folder)
         check_files(tally, program, folder)
+        check_checks(tally, program, folder)
         check_lines(tally, program, folder)
         check_cuts(tally, program, folder)
         check_faults(tally, program, folder)
@@ -34,9 +35,28 @@ def check_edges(tally, program):
 
 def check_words(tally, program, folder):
     """Words that are no command of the program are refused, and nothing is read or written."""
-    for words in [[], ["run"], ["run", ""], ["run", "-x"], ["run", "root.sql", "more"], ["RUN", "root.sql"], ["root.sql"]]:
+    for words in [[], ["run"], ["run", ""], ["run", "-x"], ["run", "root.sql", "more"], ["RUN", "root.sql"], ["check", "-x"], ["root.sql"]]:
         ended = program.run(words, b"true\n", folder)
         tally.check(f"the words {words}", difference(Ended(1, note=USAGE), ended))
+
+
+def check_checks(tally, program, folder):
+    """A file is checked without input, and refused with the number of the first statement that is."""
+    many = b"SELECT JSON_VALUE(doc, '$.a' RETURNING NUMERIC(10,2) DEFAULT 0 ON EMPTY), doc IS JSON OBJECT;\n" * 1000
+    broken = b"SELECT 1; SELECT JSON_OBJECT(1 VALUE 2); SELECT 'a"
+    cases = [
+        ("a thousand statements", many, Ended(0, b"accepted 1000\n")),
+        ("a file of spaces", b" " * LONGEST_FILE, Ended(0, b"accepted 0\n")),
+        ("a space more", b" " * (LONGEST_FILE + 1), Ended(8, note=b"statement file too long\n")),
+        ("a broken rule before a broken string", broken, Ended(2, note=b"statement 2: key is not a text\n")),
+        ("many open parentheses", b"SELECT " + b"(" * (LONGEST_FILE - 8) + b";", Ended(2, note=b"statement 1: syntax error\n")),
+        ("many commas", b"SELECT 1" + b"," * (LONGEST_FILE - 9) + b";", Ended(2, note=b"statement 1: syntax error\n")),
+        ("many values", b"SELECT JSON_ARRAY(1" + b",1" * 500_000 + b");", Ended(0, b"accepted 1\n")),
+        ("one string", b"SELECT '" + b"a" * (LONGEST_FILE - 10) + b"';", Ended(0, b"accepted 1\n")),
+    ]
+    for name, file, wanted in cases:
+        (folder / "checked.sql").write_bytes(file)
+        tally.check(f"a check of {name}", difference(wanted, program.run(["check", "checked.sql"], b"true\n", folder)))
 
 
 def check_files(tally, program, folder):
