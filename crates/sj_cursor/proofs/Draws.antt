@@ -156,6 +156,14 @@ turn_near t0 w w' t t' v g x a0 a b c d n k p q =
     let drawn : Nears t0 a0 (join (g x) (each t' g)) c = nears_trans _ _ _ _ _ _ walked (each_item t t' g x b c p) in
     nears_trans _ _ _ _ _ _ drawn (join_near (g x) v (each t' g) c d q)
 
+-- what was left of an item is at its end, and the next one is given as it is
+pub turn_item : (t0 w w' t t' : Trace) (g : ItemValue → Trace) (x : ItemValue) (a0 a b c : ℕ)
+    → Nears t0 a0 (join w (each t g)) a → Draws w ends w' a b → Draws t (gives x) t' b c → g x ≡ only x
+    → Draws t0 (gives x) (join w' (each t' g)) a0 c
+turn_item t0 w w' t t' g x a0 a b c n k p e =
+    let near : Nears t0 a0 (join (only x) (each t' g)) c = turn_near t0 w w' t t' (only x) g x a0 a b c c n k p (nears_is _ _ _ _ (sym e) (omega arith)) in
+    rw (left_end w w' a b k) (draws_after _ _ _ _ _ _ _ near (item_drawn zero (each t' g) x c c (omega arith)))
+
 -- both are at their ends, or the input has a fault
 pub turn_answer : (t0 w w' t t' : Trace) (g : ItemValue → Trace) (r : PullValue) (a0 a b c : ℕ)
     → Nears t0 a0 (join w (each t g)) a → Draws w ends w' a b → ((x : ItemValue) → r ≡ gives x → ⊥) → Draws t r t' b c

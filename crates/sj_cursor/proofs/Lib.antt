@@ -11,3 +11,4 @@ mod Decided
 mod Pulls
 mod Parts
 mod Connectives
+mod Unopened

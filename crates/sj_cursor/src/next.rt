@@ -1,9 +1,11 @@
 // The items of a path, one at a time.
-ghost use Rattle.std.specs.Prelude.{◌≡◌, ◌≤◌};
+ghost use Rattle.std.specs.Prelude.{◌≡◌, ◌≤◌, false};
 ghost use Rattle.sj_base.specs.Outside.{raised};
+ghost use Rattle.sj_grammar.specs.declared.tree.Mode.{Mode as PathMode};
 ghost use Rattle.sj_item.specs.Items.{ItemValue, item_value, pull_value};
 ghost use Rattle.sj_item.specs.Pairs.{items_compare};
-ghost use Rattle.sj_step.specs.Trace.{Trace, pay, stop};
+ghost use Rattle.sj_step.specs.Reach.{unwrap};
+ghost use Rattle.sj_step.specs.Trace.{Trace, pay, stop, only};
 ghost use Rattle.sj_step.specs.Walk.{walk_left};
 ghost use Rattle.sj_method.specs.Numbers.{binary_of};
 ghost use Rattle.sj_cursor.specs.Cells.{env_value, opened, beside_truth, is_lax};
@@ -33,6 +35,7 @@ use crate::one::initial_item;
 use crate::row::{Beside, Row, Rows, is_early};
 use sj_base::{Ledger, State, Steps};
 use sj_decimal::Decimal;
+use sj_doc::Kind;
 use sj_item::{Exact, Item, Pull, Truth};
 use sj_method::binary;
 use sj_path::{Arith, Mode};
@@ -50,6 +53,29 @@ impl<'d> Cell<'d> {
             Cell::Each(each) => each.next(env, steps),
             Cell::Binary(binary) => binary.next(env, steps),
         }
+    }
+}
+
+// Whether an item is an array that may be unwrapped. Any other item is taken as it is.
+fn may_open(how: Opening, item: &Item<'_>) -> bool
+    ensures { result ≡ false → (mode : PathMode) → opened how mode (item_value item.now) ≡ only (item_value item.now) }
+{
+    match how {
+        Opening::AsItIs => false,
+        Opening::Unwrapped => is_array(item),
+    }
+}
+
+#[tactic(auto, using(crate::proofs::Unopened::unopened, crate::proofs::Unopened::made_unopened))]
+fn is_array(item: &Item<'_>) -> bool
+    ensures { result ≡ false → (mode : PathMode) → unwrap mode (item_value item.now) ≡ only (item_value item.now) }
+{
+    match item {
+        Item::Node(node) => match node.kind() {
+            Kind::Array => true,
+            _ => false,
+        },
+        _ => false,
     }
 }
 
@@ -75,7 +101,13 @@ impl<'d> Operand<'d> {
                 answer => return answer,
             }
             match self.cell.next(env, steps) {
-                Pull::Item(item) => self.opened = open(how, env.mode, item),
+                Pull::Item(item) => {
+                    // Most items are no arrays: these are given without a walk.
+                    if !may_open(how, &item) {
+                        return Pull::Item(item);
+                    }
+                    self.opened = open(how, env.mode, item);
+                }
                 answer => return answer,
             }
         }

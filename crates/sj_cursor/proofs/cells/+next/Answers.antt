@@ -4,7 +4,7 @@ use Rattle.sj_item.specs.Items.{pull_value}
 use Rattle.sj_step.specs.Trace.{count}
 use Rattle.sj_cursor.specs.Left.{core, left, doing, doing_on, doing_nodes, operand_core, operand_left, each_core, binary_core, comparison_core, parts_core, bounds_core, doing_opening, done}
 use Rattle.sj_cursor.specs.declared.cells.Opening.TheVariants.{Unwrapped}
-use Rattle.sj_cursor.proofs.Draws.{draws_after, draws_takes, join_answer, join_over, nears_none, loop_answer, turn_near, turn_answer, count_draws, nears_trans}
+use Rattle.sj_cursor.proofs.Draws.{draws_after, draws_takes, join_answer, join_over, nears_none, loop_answer, turn_near, turn_item, turn_answer, count_draws, nears_trans}
 use Rattle.sj_cursor.proofs.Pulls.{no_end, no_item}
 use Rattle.sj_cursor.proofs.Looks.{looking_from, looking_on, looking_enough, looking_end, looking_fault, exists_decides, single_answer, single_price, end_answer, end_price}
 use Rattle.sj_cursor.proofs.Pairs.{row_from, row_item, row_stop, row_end, row_fault, rows_from, rows_item, rows_stop, rows_end, rows_fault}
@@ -21,6 +21,10 @@ Operand::next-returns-in_default g t c = record {
   answers = loop_answer _ _ _ _ _ _ _ _ c.items.invariant.near (no_end _ c.in_default.not-End) (draws_takes _ _ _ _ _ c.next.ensures);
   same = c.items.invariant.same;
 }
+
+pub Operand::next-returns-then-not-may_open-clause-answers : goal.Operand::next-returns-then-not-may_open-clause-answers
+Operand::next-returns-then-not-may_open-clause-answers g t c =
+    turn_item _ _ _ _ _ _ _ _ _ _ _ c.items.invariant.near (draws_takes _ _ _ _ _ c.in-End.ensures) (rw c.deref_mut.ensures.value at c.in-Item.ensures.answers) (c.may_open.ensures c.if-not-may_open.true _)
 
 pub Operand::next-items-smaller : goal.Operand::next-items-smaller
 Operand::next-items-smaller g t c = count_draws _ _ _ _ _ (rw c.deref_mut.ensures.value at c.in-Item.ensures.answers)
