@@ -1,5 +1,5 @@
 // One accessor on one item, resumable.
-ghost use Rattle.std.specs.Prelude.{◌≡◌};
+ghost use Rattle.std.specs.Prelude.{◌≡◌, true};
 ghost use Rattle.sj_item.specs.Items.{item_value, pull_value};
 ghost use Rattle.sj_step.specs.Reach.{reach_value};
 ghost use Rattle.sj_step.specs.Reach.{reach as reach_of};
@@ -38,8 +38,28 @@ pub(crate) enum Left<'d> {
 impl<'d> Walk<'d> {
     /// The next item or, where none is left, the end. The counter rises by one for each child of a node that is handed out on the
     /// way. An end and a fault come again, without a step.
-    #[tactic(auto, unfolding(crate::specs::Walk::walk_left))]
     pub fn next<L: Ledger>(&mut self, steps: &mut Steps<L>) -> Pull<'d>
+        ensures { Takes (walk_left self.old) (pull_value result) (walk_left self.new) steps.old steps.new }
+    {
+        // Most walks that are asked are at their end: this is told first, before room is made for what the others need.
+        if self.is_ended() {
+            return Pull::End;
+        }
+        self.advance(steps)
+    }
+
+    #[tactic(auto, unfolding(crate::specs::Walk::walk_left))]
+    fn is_ended(&self) -> bool
+        ensures { result ≡ true → walk_left self.now ≡ stop }
+    {
+        match self.left {
+            Left::Ended => true,
+            _ => false,
+        }
+    }
+
+    #[tactic(auto, unfolding(crate::specs::Walk::walk_left))]
+    fn advance<L: Ledger>(&mut self, steps: &mut Steps<L>) -> Pull<'d>
         ensures { Takes (walk_left self.old) (pull_value result) (walk_left self.new) steps.old steps.new }
     {
         match &mut self.left {
