@@ -1,0 +1,2 @@
+SELECT JSON_EXISTS(doc, 'lax $.a');
+SELECT JSON_EXISTS(doc, 'lax $.b);
