@@ -37,8 +37,8 @@ exists_alone (Exists c) = plain_exists c.common.passing c.on_error c.common.path
 exists_alone (ValueOf c) = None
 exists_alone (Query c) = None
 exists_alone (IsJson c) = None
-exists_alone (Object members nulls unique) = None
-exists_alone (Array values nulls) = None
+exists_alone (Object _ _ unique) = None
+exists_alone (Array _ _) = None
 
 -- THE FORM that is run: SELECT of one such JSON_EXISTS. Its path stands for the statement.
 abbrev pub run_form : Statement Path → Option Path
