@@ -1,5 +1,5 @@
 -- How much every run has written, and when it stops at the limit of an input.
-use Rattle.std.proofs.Common.{◌≡◌, ◌⊎◌, inl, inr, ℕ, ◌+◌, ◌-◌, List, [], length, take, drop, Option, None, Some, Ok, IfSome, IfOk, refl, sym, ◌∙◌, ap, subst, arith, length-append}
+use Rattle.std.proofs.Common.{◌≡◌, ◌⊎◌, inl, inr, ℕ, ◌+◌, ◌-◌, List, [], length, take, drop, Option, None, Some, IfSome, refl, sym, ◌∙◌, ap, subst, arith, length-append}
 use Rattle.std.proofs.lemmas.List.{take-append-drop, append-nil}
 use Rattle.std.specs.Io.KnownBytes.{Consumes}
 use Rattle.sj_base.specs.Outside.{Rose}

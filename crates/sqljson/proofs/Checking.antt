@@ -1,5 +1,5 @@
 -- What follows of how a run ended, for each of the forms.
-use Rattle.std.proofs.Common.{◌≡◌, ◌⊎◌, inl, inr, ℕ, ◌+◌, ◌<◌, ◌≤◌, List, [], ◌∷◌, ◌++◌, length, Option, None, Some, Result, Ok, Err, IsOk, IfSome, codes, decimal, refl, sym, ◌∙◌, ap, subst, arith, length-append}
+use Rattle.std.proofs.Common.{◌≡◌, ◌⊎◌, inl, inr, ℕ, ◌<◌, ◌≤◌, List, [], ◌∷◌, ◌++◌, length, Option, None, Some, Result, Ok, Err, IsOk, IfSome, codes, decimal, refl, sym, ◌∙◌, ap, subst, arith, length-append}
 use Rattle.std.proofs.lemmas.List.{append-nil}
 use Rattle.std.specs.Io.KnownBytes.{Consumes, IsAtEnd}
 use Rattle.sj_base.specs.Outside.{Files, Rose}
@@ -12,8 +12,8 @@ use Rattle.sqljson.specs.Output.{output}
 use Rattle.sqljson.specs.Sides.{InputSide, OutputSide, Grew, Wrote}
 use Rattle.sqljson.specs.Notes.{joined}
 use Rattle.sqljson.specs.Refusals.{AreChecked}
-use Rattle.sqljson.specs.Stream.{IsFrontOf, Streamed, max_input}
-use Rattle.sqljson.specs.File.{ShelfSide, Form, running, checking, file_run, file_checked, IsFile, IsTooLong, Holds, file_shown, max_file}
+use Rattle.sqljson.specs.Stream.{IsFrontOf, max_input}
+use Rattle.sqljson.specs.File.{ShelfSide, Form, running, checking, file_run, file_checked, IsTooLong, Holds, file_shown, max_file}
 use Rattle.sqljson.specs.Verdict.{IsVerdict, run_answer, check_answer, Runs, Checks}
 use Rattle.sqljson.specs.Ran.{Ran, EndsSo, ChecksSo, RanOver, RefusedFile, Told, Idle, accepted_text}
 use Rattle.sqljson.proofs.Writing.{grew_none}

@@ -1,7 +1,6 @@
 -- What one statement is taken for.
-use Rattle.std.proofs.Common.{◌≡◌, ◌≢◌, ℕ, List, [], ◌∷◌, ◌++◌, length, get_or, Option, None, Some, is_some, true, false, Result, Ok, Err, option_map, refl, sym, ◌∙◌, ap, arith}
+use Rattle.std.proofs.Common.{◌≡◌, ◌≢◌, List, [], ◌∷◌, ◌++◌, length, get_or, Option, None, Some, is_some, true, false, Result, Ok, Err, option_map, refl, sym, ◌∙◌, ap, arith}
 use Rattle.sj_grammar.specs.Tree.{Path}
-use Rattle.sj_grammar.specs.declared.tree.Literal.{Literal}
 use Rattle.sj_path.specs.Tree.{path_of}
 use Rattle.sj_path.specs.declared.tree.Path.{Path as PathHeld}
 use Rattle.sj_value.specs.declared.clauses.ExistsAction.{ExistsAction}
@@ -10,7 +9,7 @@ use Rattle.sj_statement.specs.declared.clauses.Passed.{Passed}
 use Rattle.sj_statement.specs.declared.refusal.BindKind.{BindKind}
 use Rattle.sj_statement.specs.declared.refusal.FileKind.{FileKind}
 use Rattle.sj_statement.specs.declared.refusal.FileKind.TheVariants.{Syntax, Bind}
-use Rattle.sj_statement.specs.Tree.{Value, Lit, Column, Exists, ValueOf, Query, IsJson, Object, Array, Statement, Plain, All, Listed}
+use Rattle.sj_statement.specs.Tree.{Lit, Column, Exists, ValueOf, Query, IsJson, Object, Array, Statement, Plain, All, Listed}
 use Rattle.sj_sql.specs.declared.tree.SValue.{SValue}
 use Rattle.sj_sql.specs.View.{svalue_of, plain_of}
 use Rattle.sj_bind.specs.Bound as b

@@ -1,7 +1,5 @@
-use Rattle.std.proofs.Common.{rules, ◌≡◌, ◌+◌, List, [], ◌∷◌, ◌++◌, length, map, sym, ◌∙◌, ap, refl, subst, arith, length-append}
+use Rattle.std.proofs.Common.{rules, [], ◌∷◌, ◌++◌, length, map, ap, refl, subst, arith, length-append}
 use Rattle.std.proofs.lemmas.List.Elements.{All-tail}
-use Rattle.sj_grammar.specs.Tree.{Path}
-use Rattle.sj_statement.specs.Tree.{Statement}
 use Rattle.std.specs.List.{All}
 use Rattle.sj_sql_token.specs.Tokens.{lexed}
 use Rattle.sj_sql.specs.File.{fault_of}

@@ -1,4 +1,4 @@
-use Rattle.std.proofs.Common.{◌≡◌, ◌+◌, ◌<◌, ◌^◌, List, length, map}
+use Rattle.std.proofs.Common.{◌≡◌, ◌+◌, List, length, map}
 use Rattle.sj_grammar.specs.Tree.{Path}
 use Rattle.sj_statement.specs.Tree.{Statement}
 use Rattle.sj_sql.specs.File.{fault_of}

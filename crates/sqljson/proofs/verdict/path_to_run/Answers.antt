@@ -1,4 +1,4 @@
-use Rattle.sqljson.proofs.Taken.{refused_answer, form_missing, path_found, path_there}
+use Rattle.sqljson.proofs.Taken.{refused_answer, form_missing}
 use Rattle.std.proofs.Common.{rules}
 use Rattle.sqljson.proofs.verdict.path_to_run.Goals as goal
 

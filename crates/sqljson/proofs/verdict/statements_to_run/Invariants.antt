@@ -1,4 +1,4 @@
-use Rattle.std.proofs.Common.{◌≡◌, ◌+◌, ◌<◌, ◌^◌, length, map}
+use Rattle.std.proofs.Common.{◌≡◌, ◌+◌, length, map}
 use Rattle.sj_path.specs.Tree.{path_of}
 use Rattle.sj_sql.specs.File.{fault_of}
 use Rattle.sj_sql.specs.View.{statement_of}
