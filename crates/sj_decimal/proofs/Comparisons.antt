@@ -18,6 +18,9 @@ ranks_scaled Greater x y p some h = mul-lt-mul_of_pos_right {m = y} {n = x} {k =
 nat_cmp_scaled : (x y p : ℕ) → 0 < p → nat_cmp (x * p) (y * p) ≡ nat_cmp x y
 nat_cmp_scaled x y p some = sym (nat_cmp_is (x * p) (y * p) (nat_cmp x y) (ranks_scaled (nat_cmp x y) x y p some (ranks x y)))
 
+pub same_scale : (m j n k : ℕ) → j ≡ k → nat_cmp m n ≡ nat_cmp (m * 10 ^ k) (n * 10 ^ j)
+same_scale m j n k h = sym (nat_cmp_scaled m n (10 ^ j) (power_pos j)) ∙ ap (λ e. nat_cmp (m * 10 ^ e) (n * 10 ^ j)) h
+
 split_power : (m j k : ℕ) → j ≤ k → m * 10 ^ (k - j) * 10 ^ j ≡ m * 10 ^ k
 split_power m j k h =
     mul_assoc m (10 ^ (k - j)) (10 ^ j) ∙ ap (λ e. m * e) (sym (pow-add 10 (k - j) j)) ∙ ap (λ e. m * 10 ^ e) (omega (arith, h))

@@ -14,6 +14,12 @@ power_small k h = power_le k 38 h
 pub power_fits : (k : ℕ) → k ≤ 38 → 10 ^ k < 2 ^ 128
 power_fits k h = lt_of_le_of_lt (power_small k h) (lit< tt)
 
+-- a number of 64 bits with at most 18 zeros behind it is below the limit
+pub short_product : (m k : ℕ) → m ≤ 18446744073709551615 → k ≤ 18 → m * 10 ^ k < 10 ^ 38
+short_product m k small few =
+    let most : m * 10 ^ k ≤ 18446744073709551615 * 10 ^ 18 = mul-le-mul small (power_le k 18 few) in
+    lt_of_le_of_lt most (lit< tt)
+
 -- a number other than 0 has more than 38 digits with more than 38 zeros after it
 pub scaled_too_far : (m k : ℕ) → 0 < m → 38 ≤ k → 10 ^ 38 ≤ m * 10 ^ k
 scaled_too_far m k h far =

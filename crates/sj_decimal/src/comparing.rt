@@ -100,7 +100,10 @@ fn compare_magnitudes(left: u128, left_scale: u32, right: u128, right_scale: u32
     requires right { right < 10 ^ 38 }
     ensures { result ≡ nat_cmp (left * 10 ^ right_scale) (right * 10 ^ left_scale) }
 {
-    if left_scale <= right_scale {
+    if left_scale == right_scale {
+        return left.cmp(&right);
+    }
+    if left_scale < right_scale {
         match scaled(left, right_scale - left_scale) {
             Some(left) => left.cmp(&right),
             None => Ordering::Greater,

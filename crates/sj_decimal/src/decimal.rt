@@ -1,10 +1,10 @@
 //! The type of exact decimals.
-ghost use Rattle.std.specs.Prelude.{◌≡◌, IfSome};
+ghost use Rattle.std.specs.Prelude.{◌≡◌, ◌≤◌, IfSome};
 ghost use Rattle.std.specs.Option.{SomeIff};
 ghost use Rattle.sj_decimal.specs.Signed.{signed};
 ghost use Rattle.sj_decimal.specs.Normal.{normal, IsExact, IsDecimal, IsSameNumber};
 
-use crate::magnitude::{LIMIT, MAX_SCALE, reduce};
+use crate::magnitude::{LIMIT, MAX_SCALE, reduce, reduce_short};
 use std::marker::Model;
 
 /// An exact decimal: a whole number of at most 38 digits over a power of ten from 1 to 10^38, in normal form.
@@ -13,9 +13,10 @@ use std::marker::Model;
 /// they stand for the same number.
 #[derive(Clone, Copy)]
 pub struct Decimal {
-    pub(crate) negative: bool,
+    // the widest first, so that no room is lost between them
     pub(crate) magnitude: u128,
     pub(crate) scale: u32,
+    pub(crate) negative: bool,
 }
 
 impl Model for Decimal {
@@ -29,25 +30,26 @@ impl Model for Decimal {
 
     ghost invariant = { λ d. IsDecimal (signed d.negative d.magnitude, d.scale) × IsSignOf d.negative d.magnitude };
 
-    ghost inverse = { λ d. record { negative = is_negative d.0; magnitude = unsigned_abs d.0; scale = d.1 } };
+    ghost inverse = { λ d. record { magnitude = unsigned_abs d.0; scale = d.1; negative = is_negative d.0 } };
 
     ghost inverse_ok = { λ d h i. record {
-      negative = is_negative-signed d.negative d.magnitude h.1 i;
       magnitude = unsigned_abs-signed d.negative d.magnitude i;
       scale = d.scale;
+      negative = is_negative-signed d.negative d.magnitude h.1 i;
     } };
 }
 
 impl Decimal {
     /// The decimal with this sign and magnitude, which are in normal form but for the sign of zero.
+    #[inline]
     pub(crate) fn exact(negative: bool, magnitude: u128, scale: u32) -> Decimal
         requires { IsDecimal (signed negative magnitude, scale) }
         ensures { result ≡ (signed negative magnitude, scale) }
     {
         Decimal {
-            negative: negative && magnitude != 0,
             magnitude,
             scale,
+            negative: negative && magnitude != 0,
         }
     }
 
@@ -73,7 +75,30 @@ impl Decimal {
         Decimal::normalized(c < 0, c.unsigned_abs(), s)
     }
 
+    /// The decimal `magnitude / 10^scale` with this sign. A magnitude of 64 bits is below 10^38, so it is exact.
+    #[inline(always)]
+    pub fn from_short(negative: bool, magnitude: u64, scale: u32) -> Decimal
+        requires { scale ≤ 38 }
+        ensures exact { IsExact (signed negative magnitude, scale) }
+        ensures value { result ≡ normal (signed negative magnitude, scale) }
+        ensures decimal { IsDecimal result }
+    {
+        let (magnitude, scale) = reduce_short(magnitude, scale);
+        Decimal::exact(negative, magnitude as u128, scale)
+    }
+
+    /// The decimal with this coefficient and this scale, which are in normal form, as those of `parts` are. It costs nothing
+    /// but the sign.
+    #[inline]
+    pub fn from_normal(coefficient: i128, scale: u32) -> Decimal
+        requires { IsDecimal (coefficient, scale) }
+        ensures { result ≡ (coefficient, scale) }
+    {
+        Decimal::exact(coefficient < 0, coefficient.unsigned_abs(), scale)
+    }
+
     /// The coefficient and the scale, in normal form: the number is the first over 10 to the power of the second.
+    #[inline]
     pub fn parts(self) -> (i128, u32)
         ensures value { result ≡ self }
         ensures decimal { IsDecimal self }

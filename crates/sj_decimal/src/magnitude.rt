@@ -9,8 +9,23 @@ pub(crate) const LIMIT: u128 = 100_000_000_000_000_000_000_000_000_000_000_000_0
 /// The most decimals that an exact number has.
 pub(crate) const MAX_SCALE: u32 = 38;
 
+// A magnitude of 64 bits with so many zeros behind it is below the limit.
+const SHORT_SCALE: u32 = 18;
+
 /// `magnitude / 10^scale` in normal form.
 pub(crate) fn reduce(magnitude: u128, scale: u32) -> (u128, u32)
+    ensures { result ≡ reduced magnitude scale }
+{
+    if magnitude > u64::MAX as u128 {
+        return reduce_long(magnitude, scale);
+    }
+    let (left, places) = reduce_short(magnitude as u64, scale);
+    (left as u128, places)
+}
+
+// Most magnitudes fit 64 bits, where a processor divides by 10 without a call.
+#[inline(always)]
+pub(crate) fn reduce_short(magnitude: u64, scale: u32) -> (u64, u32)
     ensures { result ≡ reduced magnitude scale }
 {
     if magnitude == 0 {
@@ -23,6 +38,20 @@ pub(crate) fn reduce(magnitude: u128, scale: u32) -> (u128, u32)
         places -= 1;
     }
     (left, places)
+}
+
+#[inline(never)]
+fn reduce_long(magnitude: u128, scale: u32) -> (u128, u32)
+    requires { 0 < magnitude }
+    ensures { result ≡ reduced magnitude scale }
+{
+    let mut long = magnitude;
+    let mut places = scale;
+    while places > 0 && long % 10 == 0 {
+        long /= 10;
+        places -= 1;
+    }
+    (long, places)
 }
 
 /// `10^places`.
@@ -39,8 +68,18 @@ pub(crate) fn power_of_ten(places: u32) -> u128
 pub(crate) fn scaled(magnitude: u128, places: u32) -> Option<u128>
     ensures { SomeIff result (magnitude * 10 ^ places < 10 ^ 38) (magnitude * 10 ^ places) }
 {
+    if places == 0 {
+        return if magnitude < LIMIT {
+            Some(magnitude)
+        } else {
+            None
+        };
+    }
     if magnitude == 0 {
         return Some(0);
+    }
+    if magnitude <= u64::MAX as u128 && places <= SHORT_SCALE {
+        return Some(magnitude * power_of_ten(places));
     }
     if places > MAX_SCALE {
         return None;

@@ -135,6 +135,9 @@ fn parts_and_signs(rt: HostRuntime) -> Result<(), Fail> {
     assert_eq!(rt; number.neg().text().as_str(), "1.5");
     assert_eq!(rt; number.abs().text().as_str(), "1.5");
     assert_eq!(rt; number.to_whole(), -1);
+    let (coefficient, scale) = number.parts();
+    assert_eq!(rt; Decimal::from_normal(coefficient, scale), number);
+    assert_eq!(rt; Decimal::from_short(true, 1500, 3), number);
     assert!(rt; Decimal::from_parts(1, 39).is_none());
     assert!(rt; number < number.neg());
     assert_ne!(rt; Compare::Lt, Compare::Ge);

@@ -144,7 +144,7 @@ impl DocBuilder {
     }
 
     /// A string.
-    #[inline]
+    #[inline(always)]
     pub fn text(&mut self, s: &str) -> Result<(), Memory>
         requires wanted { TakesValue self.old.0 }
         requires room { node_total self.old < 2 ^ 25 }
@@ -163,7 +163,7 @@ impl DocBuilder {
     }
 
     /// An exact number.
-    #[inline]
+    #[inline(always)]
     pub fn exact(&mut self, n: Decimal) -> Result<(), Memory>
         requires wanted { TakesValue self.old.0 }
         requires room { node_total self.old < 2 ^ 25 }
@@ -204,7 +204,7 @@ impl DocBuilder {
     }
 
     /// The key of the next member.
-    #[inline]
+    #[inline(always)]
     pub fn key(&mut self, s: &str) -> Result<(), Memory>
         requires wanted { TakesKey self.old.0 }
         ensures ok { OnOk result (self.new ≡ with_key s.now self.old) }
@@ -294,7 +294,7 @@ impl DocBuilder {
     }
 
     /// What may come next.
-    #[inline]
+    #[inline(always)]
     pub fn wants(&self) -> Want
         ensures { result ≡ want_of self.now.0 }
     {

@@ -35,6 +35,6 @@ no_end_want (elements ts) qs h e = refl
 no_end_want (pairs ms k) qs h e = refl
 
 -- a refusal in the middle
-pub refused : (limit : ℕ) (r : ReadRefusal) (m : Mode) (s : State) (text : List ℕ) (at : ℕ) (new : State) → Turns limit (Err r) m s text at new → r ≡ NotJson → run limit m s (drop at text) ≡ None
-refused limit NotJson m s text at new h e = h
-refused limit Memory m s text at new h e = cc
+pub refused : (limit : ℕ) (r : ReadRefusal) (m : Mode) (s : State) (text : List ℕ) (at : ℕ) (n : coded.Mode) (new : State) → Turns limit n (Err r) m s text at new → r ≡ NotJson → run limit m s (drop at text) ≡ None
+refused limit NotJson m s text at n new h e = h
+refused limit Memory m s text at n new h e = cc

@@ -1,3 +1,4 @@
+pub mod Ascii
 pub mod Scanned
 pub mod Steps
 pub mod Numerals

@@ -1,8 +1,8 @@
 -- Steps of the reader of bytes, as the code takes them.
-use Rattle.std.proofs.Common.{◌≡◌, ◌≢◌, ℕ, ◌+◌, ◌-◌, ◌<◌, ◌≤◌, List, [], ◌∷◌, ◌++◌, length, take, drop, get_or, Bool, true, false, cond, ◌==◌, nat_lt, Option, Some, None, Result, Ok, Err, option_and_then, MatchResult, OnOk, codes, refl, sym, ap, ◌∙◌, subst, arith, inl, inr}
+use Rattle.std.proofs.Common.{◌≡◌, ◌≢◌, ℕ, ◌+◌, ◌-◌, ◌<◌, ◌≤◌, List, [], ◌∷◌, ◌++◌, length, take, drop, get_or, Bool, true, false, cond, ◌==◌, nat_lt, Option, Some, None, Result, Ok, Err, option_and_then, MatchResult, OnOk, codes, refl, sym, ap, ◌∙◌, subst, arith, ◌⊎◌, inl, inr}
 use Rattle.std.proofs.lemmas.List.{drop_more, drop-drop, take-append-drop, length-drop, length-append}
 use Rattle.std.proofs.lemmas.Bool.Decides.{eqb_tells}
-use borrow.Author.Tests.{lt-ltb, le-ltb}
+use borrow.Author.Tests.{lt-ltb, le-ltb, eqb-true, eqb-false}
 use Rattle.sj_decimal.specs.Number.{begins_number}
 use Rattle.sj_json.specs.Tree.{Tree, null, truth, string, below}
 use Rattle.sj_json.specs.Building.{Part, top, elements, pairs, State, TakesValue, TakesKey, TakesClose, put, put_key, with_value, with_key, with_open, with_close}
@@ -19,7 +19,7 @@ use Rattle.sj_read.specs.declared.reader.ReadRefusal.{ReadRefusal}
 use Rattle.sj_read.specs.declared.reader.ReadRefusal.TheVariants.{NotJson, Memory}
 use Rattle.sj_read.specs.Scans.{EndsPlain}
 use Rattle.sj_read.specs.Strings.{FindsString, NoString}
-use Rattle.sj_read.specs.Turns.{mode_of, HasValue, FirstElement, Ready, Went, Turns}
+use Rattle.sj_read.specs.Turns.{mode_of, closes_at, HasValue, FirstElement, Ready, Went, Turns}
 
 pub cond_no : {A : Type 0} (b : Bool) (x y : A) → b ≡ false → cond b x y ≡ y
 cond_no b x y e = ap (λ (c : Bool). cond c x y) e
@@ -168,10 +168,17 @@ plain_string text from end h = record { reads = λ limit k s. string_goes limit 
 
 -- ---- calls of the builder
 
-pub after_call : {A E : Type 0} (limit : ℕ) (d : Result A E) (r : Result (coded.Mode × ℕ) ReadRefusal) (n : coded.Mode) (to : ℕ) (m : Mode) (s : State) (text : List ℕ) (at : ℕ) (new t : State)
-    → MatchResult d (λ _. r ≡ Ok (n, to)) (λ _. r ≡ Err Memory) → OnOk d (new ≡ t) → Went limit m s text at n to t → Turns limit r m s text at new
-after_call limit (Ok x) r n to m s text at new t h e w = subst (λ z. Turns limit z m s text at new) (sym h) (subst (Went limit m s text at n to) (sym e) w)
-after_call limit (Err x) r n to m s text at new t h e w = subst (λ z. Turns limit z m s text at new) (sym h) tt
+pub after_call : {A E : Type 0} (limit : ℕ) (d : Result A E) (r : Result ℕ ReadRefusal) (n : coded.Mode) (to : ℕ) (m : Mode) (s : State) (text : List ℕ) (at : ℕ) (new t : State)
+    → MatchResult d (λ _. r ≡ Ok to) (λ _. r ≡ Err Memory) → OnOk d (new ≡ t) → Went limit m s text at n to t → Turns limit n r m s text at new
+after_call limit (Ok x) r n to m s text at new t h e w = subst (λ z. Turns limit n z m s text at new) (sym h) (subst (Went limit m s text at n to) (sym e) w)
+after_call limit (Err x) r n to m s text at new t h e w = subst (λ z. Turns limit n z m s text at new) (sym h) tt
+
+-- two steps, one after the other
+pub onward : (limit : ℕ) (m : Mode) (s : State) (text : List ℕ) (at : ℕ) (n : coded.Mode) (to : ℕ) (t : State) → Went limit m s text at n to t
+    → (k : coded.Mode) (r : Result ℕ ReadRefusal) (new : State) → Turns limit k r (mode_of n) t text to new → Turns limit k r m s text at new
+onward limit m s text at n to t w k (Ok end) new v = record { same = w.same ∙ v.same; later = omega (arith, w.later, v.later); within = v.within; ready = v.ready; room = v.room }
+onward limit m s text at n to t w k (Err NotJson) new v = w.same ∙ v
+onward limit m s text at n to t w k (Err Memory) new v = tt
 
 -- what a value or a key that begins at the place leads to
 module _ (limit : ℕ) (s : State) (text : List ℕ) (at c : ℕ) (h : at < length text) (e : get_or text at 0 ≡ c) (room : node_total s ≤ at) where
@@ -306,10 +313,10 @@ same_run limit m n s text at c h e f =
     ap (run limit m s) cells ∙ ap (option_and_then (λ (q : Mode × State). run limit q.0 q.1 (drop (at + 1) text))) f ∙ sym (ap (run limit n s) cells)
 
 pub moved : (limit : ℕ) (m n : Mode) (s : State) (text : List ℕ) (at c : ℕ) → at < length text → get_or text at 0 ≡ c → turn limit m s c ≡ turn limit n s c
-    → (r : Result (coded.Mode × ℕ) ReadRefusal) (new : State) → Turns limit r n s text at new → Turns limit r m s text at new
-moved limit m n s text at c h e f (Ok x) new w = record { same = same_run limit m n s text at c h e f ∙ w.same; later = w.later; within = w.within; ready = w.ready; room = w.room }
-moved limit m n s text at c h e f (Err NotJson) new w = same_run limit m n s text at c h e f ∙ w
-moved limit m n s text at c h e f (Err Memory) new w = tt
+    → (k : coded.Mode) (r : Result ℕ ReadRefusal) (new : State) → Turns limit k r n s text at new → Turns limit k r m s text at new
+moved limit m n s text at c h e f k (Ok x) new w = record { same = same_run limit m n s text at c h e f ∙ w.same; later = w.later; within = w.within; ready = w.ready; room = w.room }
+moved limit m n s text at c h e f k (Err NotJson) new w = same_run limit m n s text at c h e f ∙ w
+moved limit m n s text at c h e f k (Err Memory) new w = tt
 
 pub colon_turn : (limit : ℕ) (s : State) (c : ℕ) → c ≡ 58 → turn limit colon s c ≡ Some (value, s)
 colon_turn limit s c e = subst (λ (x : ℕ). turn limit colon s x ≡ Some (value, s)) (sym e) refl
@@ -322,3 +329,23 @@ key_closes (top o) h = absurd h
 key_closes (elements ts) h = absurd h
 key_closes (pairs ms None) h = tt
 key_closes (pairs ms (Some k)) h = absurd h
+
+-- ---- right behind the bracket that opens a container
+
+pub closes_first : (limit : ℕ) (n : coded.Mode) (s : State) (c : ℕ) → closes_at n c ≡ true → Ready (mode_of n) s → (turn limit (mode_of n) s c ≡ close_turn s) × TakesClose s.0
+closes_first limit modes.Value s c h ready = cc
+closes_first limit modes.ValueOrClose s c h ready = (first_close limit s c (eqb-true c 93 h), first_closes s.0 ready)
+closes_first limit modes.Key s c h ready = cc
+closes_first limit modes.KeyOrClose s c h ready = (first_close_key limit s c (eqb-true c 125 h), key_closes s.0 ready)
+closes_first limit modes.Colon s c h ready = cc
+closes_first limit modes.AfterValue s c h ready = cc
+
+pub opens_value : (limit : ℕ) (n : coded.Mode) (s : State) (c : ℕ) → (n ≡ modes.Value) ⊎ (n ≡ modes.ValueOrClose) → is_blank c ≡ false → closes_at n c ≡ false → turn limit (mode_of n) s c ≡ turn limit value s c
+opens_value limit n s c (inl e) b h = ap (λ (m : coded.Mode). turn limit (mode_of m) s c) e
+opens_value limit n s c (inr e) b h =
+    ap (λ (m : coded.Mode). turn limit (mode_of m) s c) e ∙ first_value_turn limit s c b (eqb-false c 93 (sym (ap (λ (m : coded.Mode). closes_at m c) e) ∙ h))
+
+pub opens_key : (limit : ℕ) (n : coded.Mode) (s : State) (c : ℕ) → (n ≡ modes.Key) ⊎ (n ≡ modes.KeyOrClose) → is_blank c ≡ false → closes_at n c ≡ false → turn limit (mode_of n) s c ≡ turn limit key s c
+opens_key limit n s c (inl e) b h = ap (λ (m : coded.Mode). turn limit (mode_of m) s c) e
+opens_key limit n s c (inr e) b h =
+    ap (λ (m : coded.Mode). turn limit (mode_of m) s c) e ∙ first_key_turn limit s c b (eqb-false c 125 (sym (ap (λ (m : coded.Mode). closes_at m c) e) ∙ h))

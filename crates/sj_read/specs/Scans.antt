@@ -7,6 +7,14 @@ use Rattle.sj_json.specs.Strings.{IsPlain}
 abbrev pub is_stop : ℕ → Bool
 is_stop x = (x == 34) || (x == 92) || nat_lt x 32
 
+-- a byte that no ASCII text has
+abbrev pub is_high : ℕ → Bool
+is_high x = nat_lt 127 x
+
+-- the bytes from the one place up to the other are ASCII
+abbrev pub AsciiBetween : List ℕ → ℕ → ℕ → Type 0
+AsciiBetween bytes from end = (k : ℕ) → from ≤ k → k < end → get_or bytes k 0 < 128
+
 -- plain text from the place on, up to a quotation mark
 pub record EndsPlain (bytes : List ℕ) (from : ℕ) (end : ℕ) : Type 0 where
   pub later : from ≤ end

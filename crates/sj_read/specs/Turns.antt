@@ -1,5 +1,5 @@
 -- What a step of the reader does, against the reader of bytes.
-use Rattle.std.specs.Prelude.{◌≡◌, ℕ, ◌<◌, ◌≤◌, List, length, drop, Some, None, Result, Ok, Err, ⊤}
+use Rattle.std.specs.Prelude.{◌≡◌, ℕ, ◌<◌, ◌≤◌, ◌==◌, List, length, drop, Bool, false, Some, None, Result, Ok, Err, ⊤}
 use Rattle.sj_json.specs.Building.{Part, top, elements, pairs, State, TakesValue, TakesKey}
 use Rattle.sj_json.specs.Machine as machine
 use Rattle.sj_json.specs.Machine.{run}
@@ -16,6 +16,15 @@ mode_of Key = machine.key
 mode_of KeyOrClose = machine.key_or_close
 mode_of Colon = machine.colon
 mode_of AfterValue = machine.after_value
+
+-- a container closes right behind the bracket that opens it
+abbrev pub closes_at : Mode → ℕ → Bool
+closes_at Value c = false
+closes_at ValueOrClose c = c == 93
+closes_at Key c = false
+closes_at KeyOrClose c = c == 125
+closes_at Colon c = false
+closes_at AfterValue c = false
 
 -- a value or a key has just come to its end
 abbrev pub HasValue : Part → Type 0
@@ -54,7 +63,8 @@ pub record Went (limit : ℕ) (m : machine.Mode) (s : State) (text : List ℕ) (
   pub ready : Ready (mode_of n) t
   pub room : node_total t ≤ to
 
-abbrev pub Turns : ℕ → Result (Mode × ℕ) ReadRefusal → machine.Mode → State → List ℕ → ℕ → State → Type 0
-Turns limit (Ok r) m s text at t = Went limit m s text at r.0 r.1 t
-Turns limit (Err NotJson) m s text at t = run limit m s (drop at text) ≡ None
-Turns limit (Err Memory) m s text at t = ⊤
+-- a step that leads to the mode n, if to any
+abbrev pub Turns : ℕ → Mode → Result ℕ ReadRefusal → machine.Mode → State → List ℕ → ℕ → State → Type 0
+Turns limit n (Ok to) m s text at t = Went limit m s text at n to t
+Turns limit n (Err NotJson) m s text at t = run limit m s (drop at text) ≡ None
+Turns limit n (Err Memory) m s text at t = ⊤

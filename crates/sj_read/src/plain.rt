@@ -17,6 +17,15 @@ fn stops_in_32(v: u8x32) -> u64
 }
 
 #[inline(always)]
+fn stops_in_16(v: u8x16) -> u64
+    ensures { result ≡ mask_l (map is_stop v) }
+{
+    (v.simd_eq(u8x16::splat(b'"'))
+        | v.simd_eq(u8x16::splat(b'\\'))
+        | v.simd_lt(u8x16::splat(0x20))).to_bitmask()
+}
+
+#[inline(always)]
 fn stops_in_8(v: u8x8) -> u64
     ensures { result ≡ mask_l (map is_stop v) }
 {
@@ -55,9 +64,9 @@ fn plain_end_of_31(text: &[u8], from: usize) -> usize
     plain_end_of_7(text, i)
 }
 
-// The first quotation mark, backslash or control character from the place on, or the length.
-#[inline(always)]
-pub(crate) fn plain_end(text: &[u8], from: usize) -> usize
+// Text that is longer than most.
+#[inline(never)]
+fn long_plain_end(text: &[u8], from: usize) -> usize
     requires { from ≤ length text.now }
     ensures value { result ≡ from + prefix_len is_plain (drop from text.now) }
     ensures bound { result ≤ length text.now }
@@ -71,4 +80,21 @@ pub(crate) fn plain_end(text: &[u8], from: usize) -> usize
         i += 32;
     }
     plain_end_of_31(text, i)
+}
+
+// The first quotation mark, backslash or control character from the place on, or the length.
+#[inline(always)]
+pub(crate) fn plain_end(text: &[u8], from: usize) -> usize
+    requires { from ≤ length text.now }
+    ensures value { result ≡ from + prefix_len is_plain (drop from text.now) }
+    ensures bound { result ≤ length text.now }
+{
+    if text.len() - from < 16 {
+        return plain_end_of_31(text, from);
+    }
+    let found = stops_in_16(u8x16::from_slice(&text[from..]));
+    if found != 0 {
+        return from + found.trailing_zeros() as usize;
+    }
+    long_plain_end(text, from + 16)
 }

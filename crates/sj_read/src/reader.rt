@@ -1,5 +1,5 @@
 // The reader: a loop over the tokens that drives a `DocBuilder`.
-ghost use Rattle.std.specs.Prelude.{◌≡◌, ℕ, List, ◌+◌, ◌-◌, ◌<◌, ◌≤◌, length, take, drop, get_or, slice_index, true, false, IfSome, MatchResult, IfOk, Ok, Err};
+ghost use Rattle.std.specs.Prelude.{◌≡◌, ◌≢◌, ℕ, List, ◌+◌, ◌-◌, ◌<◌, ◌≤◌, length, take, drop, get_or, slice_index, true, false, IfSome, MatchResult, IfOk, Ok, Err};
 ghost use Rattle.sj_decimal.specs.Number.{begins_number as beginning_byte};
 ghost use Rattle.sj_json.specs.Tree.{Tree};
 ghost use Rattle.sj_json.specs.Building.{State, fresh};
@@ -7,11 +7,12 @@ ghost use Rattle.sj_json.specs.Spelling.{is_blank as blank_byte, SpellsText, IsJ
 ghost use Rattle.sj_json.specs.Machine.{value as value_mode, key as key_mode, after_value as after_mode};
 ghost use Rattle.sj_doc.specs.Builders.{node_total};
 ghost use Rattle.sj_read.specs.Scans.{EndsPlain};
-ghost use Rattle.sj_read.specs.Turns.{mode_of, Ready, TakesOneKey, Turns};
+ghost use Rattle.sj_read.specs.Turns.{mode_of, closes_at, Ready, TakesOneKey, Turns};
 
-use crate::scan::{begins_number, follows, is_blank, number_end, string_end};
+use crate::scan::{begins_number, follows, is_blank, number_end, string_end, token_at};
 use crate::short::short_number;
 use crate::unescape::unescape;
+use crate::utf8::text_of;
 use sj_base::Memory;
 use sj_decimal::{Decimal, Parsed};
 use sj_doc::{Doc, DocBuilder, Want};
@@ -46,16 +47,29 @@ pub(crate) enum Mode {
     AfterValue,
 }
 
-type Turn = Result<(Mode, usize), ReadRefusal>;
+// Where to go on.
+type Turn = Result<usize, ReadRefusal>;
 
 // A call of the builder, and where to go on if it had memory.
 #[inline(always)]
-fn after(done: Result<(), Memory>, mode: Mode, to: usize) -> Turn
-    ensures { MatchResult done (λ _. result ≡ Ok (mode, to)) (λ _. result ≡ Err ReadRefusal.Memory) }
+fn after(done: Result<(), Memory>, to: usize) -> Turn
+    ensures { MatchResult done (λ _. result ≡ Ok to) (λ _. result ≡ Err ReadRefusal.Memory) }
 {
     match done {
-        Ok(()) => Ok((mode, to)),
+        Ok(()) => Ok(to),
         Err(_) => Err(ReadRefusal::Memory),
+    }
+}
+
+// The answer of a function that is called and not inlined, which lies in memory. Put together anew, it leaves the answers of
+// the other ways in registers.
+#[inline(always)]
+fn anew(turn: Turn) -> Turn
+    ensures { result ≡ turn }
+{
+    match turn {
+        Ok(to) => Ok(to),
+        Err(refusal) => Err(refusal),
     }
 }
 
@@ -86,10 +100,10 @@ fn escaped_value(
     requires quote { c ≡ 34 }
     requires ready { Ready value_mode builder.old }
     requires room { node_total builder.old ≤ at }
-    ensures { Turns MAX_DEPTH result value_mode builder.old text.now at builder.new }
+    ensures { Turns MAX_DEPTH Mode.AfterValue result value_mode builder.old text.now at builder.new }
 {
     match unescape(text, at + 1, buffer) {
-        Ok(Some(end)) => after(builder.text(buffer.as_str()), Mode::AfterValue, end + 1),
+        Ok(Some(end)) => after(builder.text(buffer.as_str()), end + 1),
         Ok(None) => Err(ReadRefusal::NotJson),
         Err(_) => Err(ReadRefusal::Memory),
     }
@@ -103,10 +117,10 @@ fn escaped_key(builder: &mut DocBuilder, buffer: &mut String, text: &str, at: us
     requires quote { c ≡ 34 }
     requires ready { Ready key_mode builder.old }
     requires room { node_total builder.old ≤ at }
-    ensures { Turns MAX_DEPTH result key_mode builder.old text.now at builder.new }
+    ensures { Turns MAX_DEPTH Mode.Colon result key_mode builder.old text.now at builder.new }
 {
     match unescape(text, at + 1, buffer) {
-        Ok(Some(end)) => after(builder.key(buffer.as_str()), Mode::Colon, end + 1),
+        Ok(Some(end)) => after(builder.key(buffer.as_str()), end + 1),
         Ok(None) => Err(ReadRefusal::NotJson),
         Err(_) => Err(ReadRefusal::Memory),
     }
@@ -120,76 +134,67 @@ fn any_number(builder: &mut DocBuilder, text: &str, at: usize, c: u8) -> Turn
     requires begins { beginning_byte c ≡ true }
     requires ready { Ready value_mode builder.old }
     requires room { node_total builder.old ≤ at }
-    ensures { Turns MAX_DEPTH result value_mode builder.old text.now at builder.new }
+    ensures { Turns MAX_DEPTH Mode.AfterValue result value_mode builder.old text.now at builder.new }
 {
     let end = number_end(text.as_bytes(), at + 1);
     let spelling = &text[at..end];
     match Decimal::parse(spelling.as_bytes()) {
-        Parsed::Exact(n) => after(builder.exact(n), Mode::AfterValue, end),
-        Parsed::Wide => after(builder.wide(spelling), Mode::AfterValue, end),
+        Parsed::Exact(n) => after(builder.exact(n), end),
+        Parsed::Wide => after(builder.wide(spelling), end),
         Parsed::NotNumber => Err(ReadRefusal::NotJson),
     }
 }
 
 // The same, where few numbers need the general way.
+#[inline(always)]
 fn number(builder: &mut DocBuilder, text: &str, at: usize, c: u8) -> Turn
     requires within { (at < length text.now) × (length text.now ≤ MAX_LENGTH) }
     requires here { slice_index text.now at ≡ c }
     requires begins { beginning_byte c ≡ true }
     requires ready { Ready value_mode builder.old }
     requires room { node_total builder.old ≤ at }
-    ensures { Turns MAX_DEPTH result value_mode builder.old text.now at builder.new }
+    ensures { Turns MAX_DEPTH Mode.AfterValue result value_mode builder.old text.now at builder.new }
 {
     match short_number(text.as_bytes(), at, c) {
-        Some(short) => after(builder.exact(short.value), Mode::AfterValue, short.end),
-        None => any_number(builder, text, at, c),
+        Some(short) => after(builder.exact(short.decimal(c == b'-')), short.end),
+        None => anew(any_number(builder, text, at, c)),
     }
 }
 
-// The value that begins with the byte c at the place.
+// The value that begins with the byte c at the place, where that opens no container.
 #[inline(always)]
-fn value(builder: &mut DocBuilder, buffer: &mut String, text: &str, at: usize, c: u8) -> Turn
+fn scalar(builder: &mut DocBuilder, buffer: &mut String, text: &str, at: usize, c: u8) -> Turn
     requires within { (at < length text.now) × (length text.now ≤ MAX_LENGTH) }
     requires here { slice_index text.now at ≡ c }
     requires not_blank { blank_byte c ≡ false }
+    requires no_array { c ≢ 91 }
+    requires no_object { c ≢ 123 }
     requires ready { Ready value_mode builder.old }
     requires room { node_total builder.old ≤ at }
-    ensures { Turns MAX_DEPTH result value_mode builder.old text.now at builder.new }
+    ensures { Turns MAX_DEPTH Mode.AfterValue result value_mode builder.old text.now at builder.new }
 {
     match c {
         b'"' => match string_text(text, at + 1) {
-            Some((s, end)) => after(builder.text(s), Mode::AfterValue, end + 1),
-            None => escaped_value(builder, buffer, text, at, c),
+            Some((s, end)) => after(builder.text(s), end + 1),
+            None => anew(escaped_value(builder, buffer, text, at, c)),
         },
-        b'[' => {
-            if builder.depth() >= MAX_DEPTH {
-                return Err(ReadRefusal::NotJson);
-            }
-            after(builder.open_array(), Mode::ValueOrClose, at + 1)
-        }
-        b'{' => {
-            if builder.depth() >= MAX_DEPTH {
-                return Err(ReadRefusal::NotJson);
-            }
-            after(builder.open_object(), Mode::KeyOrClose, at + 1)
-        }
         b'n' => {
             if !follows(text.as_bytes(), at + 1, b"ull") {
                 return Err(ReadRefusal::NotJson);
             }
-            after(builder.null(), Mode::AfterValue, at + 4)
+            after(builder.null(), at + 4)
         }
         b't' => {
             if !follows(text.as_bytes(), at + 1, b"rue") {
                 return Err(ReadRefusal::NotJson);
             }
-            after(builder.truth(true), Mode::AfterValue, at + 4)
+            after(builder.truth(true), at + 4)
         }
         b'f' => {
             if !follows(text.as_bytes(), at + 1, b"alse") {
                 return Err(ReadRefusal::NotJson);
             }
-            after(builder.truth(false), Mode::AfterValue, at + 5)
+            after(builder.truth(false), at + 5)
         }
         _ => {
             if !begins_number(c) {
@@ -200,96 +205,211 @@ fn value(builder: &mut DocBuilder, buffer: &mut String, text: &str, at: usize, c
     }
 }
 
+// The scalar that begins with the byte c at the place, and the separator if it stands right behind. One turn for the two is
+// faster than two turns.
+#[inline(always)]
+fn scalar_and_separator(
+    builder: &mut DocBuilder,
+    buffer: &mut String,
+    mode: &mut Mode,
+    text: &str,
+    at: usize,
+    c: u8,
+) -> Turn
+    requires within { (at < length text.now) × (length text.now ≤ MAX_LENGTH) }
+    requires here { slice_index text.now at ≡ c }
+    requires not_blank { blank_byte c ≡ false }
+    requires no_array { c ≢ 91 }
+    requires no_object { c ≢ 123 }
+    requires ready { Ready value_mode builder.old }
+    requires room { node_total builder.old ≤ at }
+    ensures { Turns MAX_DEPTH mode.new result value_mode builder.old text.now at builder.new }
+{
+    match scalar(builder, buffer, text, at, c) {
+        Ok(end) => match token_at(text.as_bytes(), end) {
+            Some(next) => separator(builder, mode, text, end, next),
+            None => {
+                *mode = Mode::AfterValue;
+                Ok(end)
+            }
+        },
+        Err(refusal) => Err(refusal),
+    }
+}
+
+// The value that begins with the byte c at the place: the bracket that opens it, or a scalar and what stands right
+// behind it.
+#[inline(always)]
+fn value(
+    builder: &mut DocBuilder,
+    buffer: &mut String,
+    mode: &mut Mode,
+    text: &str,
+    at: usize,
+    c: u8,
+) -> Turn
+    requires within { (at < length text.now) × (length text.now ≤ MAX_LENGTH) }
+    requires here { slice_index text.now at ≡ c }
+    requires not_blank { blank_byte c ≡ false }
+    requires ready { Ready value_mode builder.old }
+    requires room { node_total builder.old ≤ at }
+    ensures { Turns MAX_DEPTH mode.new result value_mode builder.old text.now at builder.new }
+{
+    match c {
+        b'[' => {
+            if builder.depth() >= MAX_DEPTH {
+                return Err(ReadRefusal::NotJson);
+            }
+            *mode = Mode::ValueOrClose;
+            after(builder.open_array(), at + 1)
+        }
+        b'{' => {
+            if builder.depth() >= MAX_DEPTH {
+                return Err(ReadRefusal::NotJson);
+            }
+            *mode = Mode::KeyOrClose;
+            after(builder.open_object(), at + 1)
+        }
+        _ => scalar_and_separator(builder, buffer, mode, text, at, c),
+    }
+}
+
 // The key that begins with the byte c at the place.
 #[inline(always)]
-fn key(builder: &mut DocBuilder, buffer: &mut String, text: &str, at: usize, c: u8) -> Turn
+fn quoted_key(builder: &mut DocBuilder, buffer: &mut String, text: &str, at: usize, c: u8) -> Turn
     requires within { (at < length text.now) × (length text.now ≤ MAX_LENGTH) }
     requires here { slice_index text.now at ≡ c }
     requires not_blank { blank_byte c ≡ false }
     requires ready { Ready key_mode builder.old }
     requires room { node_total builder.old ≤ at }
-    ensures { Turns MAX_DEPTH result key_mode builder.old text.now at builder.new }
+    ensures { Turns MAX_DEPTH Mode.Colon result key_mode builder.old text.now at builder.new }
 {
     if c != b'"' {
         return Err(ReadRefusal::NotJson);
     }
     match string_text(text, at + 1) {
-        Some((s, end)) => after(builder.key(s), Mode::Colon, end + 1),
-        None => escaped_key(builder, buffer, text, at, c),
+        Some((s, end)) => after(builder.key(s), end + 1),
+        None => anew(escaped_key(builder, buffer, text, at, c)),
+    }
+}
+
+// The same, and the colon if it stands right behind.
+#[inline(always)]
+fn key(
+    builder: &mut DocBuilder,
+    buffer: &mut String,
+    mode: &mut Mode,
+    text: &str,
+    at: usize,
+    c: u8,
+) -> Turn
+    requires within { (at < length text.now) × (length text.now ≤ MAX_LENGTH) }
+    requires here { slice_index text.now at ≡ c }
+    requires not_blank { blank_byte c ≡ false }
+    requires ready { Ready key_mode builder.old }
+    requires room { node_total builder.old ≤ at }
+    ensures { Turns MAX_DEPTH mode.new result key_mode builder.old text.now at builder.new }
+{
+    match quoted_key(builder, buffer, text, at, c) {
+        Ok(end) => match token_at(text.as_bytes(), end) {
+            Some(b':') => {
+                *mode = Mode::Value;
+                Ok(end + 1)
+            }
+            _ => {
+                *mode = Mode::Colon;
+                Ok(end)
+            }
+        },
+        Err(refusal) => Err(refusal),
     }
 }
 
 // A comma or a closing bracket.
 #[inline(always)]
-fn separator(builder: &mut DocBuilder, text: &str, at: usize, c: u8) -> Turn
+fn separator(builder: &mut DocBuilder, mode: &mut Mode, text: &str, at: usize, c: u8) -> Turn
     requires within { (at < length text.now) × (length text.now ≤ MAX_LENGTH) }
     requires here { slice_index text.now at ≡ c }
     requires not_blank { blank_byte c ≡ false }
     requires ready { Ready after_mode builder.old }
     requires room { node_total builder.old ≤ at }
-    ensures { Turns MAX_DEPTH result after_mode builder.old text.now at builder.new }
+    ensures { Turns MAX_DEPTH mode.new result after_mode builder.old text.now at builder.new }
 {
     match builder.wants() {
         Want::ValueOrClose => {
             if c == b',' {
-                return Ok((Mode::Value, at + 1));
+                *mode = Mode::Value;
+                return Ok(at + 1);
             }
             if c != b']' {
                 return Err(ReadRefusal::NotJson);
             }
             builder.close();
-            Ok((Mode::AfterValue, at + 1))
+            *mode = Mode::AfterValue;
+            Ok(at + 1)
         }
         Want::KeyOrClose => {
             if c == b',' {
-                return Ok((Mode::Key, at + 1));
+                *mode = Mode::Key;
+                return Ok(at + 1);
             }
             if c != b'}' {
                 return Err(ReadRefusal::NotJson);
             }
             builder.close();
-            Ok((Mode::AfterValue, at + 1))
+            *mode = Mode::AfterValue;
+            Ok(at + 1)
         }
         _ => Err(ReadRefusal::NotJson),
     }
 }
 
-// One token, or one byte of white space.
+// Whether c closes a container right behind the bracket that opens it.
 #[inline(always)]
-fn turn(builder: &mut DocBuilder, buffer: &mut String, mode: Mode, text: &str, at: usize) -> Turn
+fn closes_empty(mode: Mode, c: u8) -> bool
+    ensures { result ≡ closes_at mode c }
+{
+    match mode {
+        Mode::ValueOrClose => c == b']',
+        Mode::KeyOrClose => c == b'}',
+        _ => false,
+    }
+}
+
+// What stands at the place, or one byte of white space.
+#[inline(always)]
+fn turn(
+    builder: &mut DocBuilder,
+    buffer: &mut String,
+    mode: &mut Mode,
+    text: &str,
+    at: usize,
+) -> Turn
     requires within { (at < length text.now) × (length text.now ≤ MAX_LENGTH) }
-    requires ready { Ready (mode_of mode) builder.old }
+    requires ready { Ready (mode_of mode.old) builder.old }
     requires room { node_total builder.old ≤ at }
-    ensures { Turns MAX_DEPTH result (mode_of mode) builder.old text.now at builder.new }
+    ensures { Turns MAX_DEPTH mode.new result (mode_of mode.old) builder.old text.now at builder.new }
 {
     let c = text.as_bytes()[at];
     if is_blank(c) {
-        return Ok((mode, at + 1));
+        return Ok(at + 1);
     }
-    match mode {
-        Mode::Value => value(builder, buffer, text, at, c),
-        Mode::ValueOrClose => {
-            if c != b']' {
-                return value(builder, buffer, text, at, c);
-            }
-            builder.close();
-            Ok((Mode::AfterValue, at + 1))
-        }
-        Mode::Key => key(builder, buffer, text, at, c),
-        Mode::KeyOrClose => {
-            if c != b'}' {
-                return key(builder, buffer, text, at, c);
-            }
-            builder.close();
-            Ok((Mode::AfterValue, at + 1))
-        }
+    if closes_empty(*mode, c) {
+        builder.close();
+        *mode = Mode::AfterValue;
+        return Ok(at + 1);
+    }
+    match *mode {
+        Mode::Value | Mode::ValueOrClose => value(builder, buffer, mode, text, at, c),
+        Mode::Key | Mode::KeyOrClose => key(builder, buffer, mode, text, at, c),
         Mode::Colon => {
             if c != b':' {
                 return Err(ReadRefusal::NotJson);
             }
-            Ok((Mode::Value, at + 1))
+            *mode = Mode::Value;
+            Ok(at + 1)
         }
-        Mode::AfterValue => separator(builder, text, at, c),
+        Mode::AfterValue => separator(builder, mode, text, at, c),
     }
 }
 
@@ -326,20 +446,16 @@ fn read_into(alloc: Global, builder: DocBuilder, line: &[u8]) -> Result<Doc, Rea
     if line.len() > MAX_LENGTH {
         return Err(ReadRefusal::NotJson);
     }
-    let text = match simdutf8::compat::from_utf8(line) {
-        Ok(text) => text,
-        Err(_) => return Err(ReadRefusal::NotJson),
+    let Some(text) = text_of(line) else {
+        return Err(ReadRefusal::NotJson);
     };
     let mut builder = builder;
     let mut buffer = String::new(alloc);
     let mut mode = Mode::Value;
     let mut at = 0;
     while at < text.len() {
-        match turn(&mut builder, &mut buffer, mode, text, at) {
-            Ok((next, to)) => {
-                mode = next;
-                at = to;
-            }
+        match turn(&mut builder, &mut buffer, &mut mode, text, at) {
+            Ok(to) => at = to,
             Err(refusal) => return Err(refusal),
         }
     }

@@ -1,5 +1,5 @@
 // Parts of a text.
-ghost use Rattle.std.specs.Prelude.{◌≡◌, ℕ, List, ◌++◌, ◌+◌, ◌-◌, ◌<◌, ◌≤◌, length, take, drop, IfSome};
+ghost use Rattle.std.specs.Prelude.{◌≡◌, ℕ, List, ◌++◌, ◌+◌, ◌-◌, ◌<◌, ◌≤◌, length, take, drop, slice_index, false, IfSome};
 ghost use Rattle.std.specs.Bool.{MatchBool};
 ghost use Rattle.std.specs.List.{prefix_len};
 ghost use Rattle.sj_decimal.specs.Number.{begins_number as beginning_byte, is_number_byte as number_byte};
@@ -14,6 +14,17 @@ pub(crate) fn is_blank(c: u8) -> bool
     ensures { result ≡ blank_byte c }
 {
     c == 32 || c == 9 || c == 10 || c == 13
+}
+
+// The byte at the place, if it is no white space.
+#[inline(always)]
+pub(crate) fn token_at(bytes: &[u8], at: usize) -> Option<u8>
+    ensures { IfSome result (λ c. (at < length bytes.now) × (slice_index bytes.now at ≡ c) × (blank_byte c ≡ false)) }
+{
+    if at >= bytes.len() || is_blank(bytes[at]) {
+        return None;
+    }
+    Some(bytes[at])
 }
 
 // A byte with which a number may begin.

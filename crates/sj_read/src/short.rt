@@ -1,8 +1,8 @@
 // Numbers of few digits and without an exponent, which most numbers are. They are read in one pass.
-ghost use Rattle.std.specs.Prelude.{◌≡◌, ◌<◌, ◌≤◌, ◌^◌, ◌-◌, length, drop, take, slice_index, true, false, IfSome};
+ghost use Rattle.std.specs.Prelude.{◌≡◌, ◌<◌, ◌≤◌, ◌^◌, ◌-◌, ◌==◌, length, drop, take, slice_index, true, false, IfSome};
 ghost use Rattle.std.specs.List.{prefix_len};
 ghost use Rattle.sj_decimal.specs.Signed.{signed};
-ghost use Rattle.sj_decimal.specs.Normal.{normal, IsExact};
+ghost use Rattle.sj_decimal.specs.Normal.{normal};
 ghost use Rattle.sj_decimal.specs.Number.{begins_number, is_number_byte as number_byte};
 ghost use Rattle.sj_read.specs.Shorts.{ReadsDigits, ReadsWhole, ReadsFraction, ReadsShort};
 
@@ -10,11 +10,29 @@ use crate::reader::MAX_LENGTH;
 use crate::scan::is_number_byte;
 use sj_decimal::Decimal;
 
-// An exact number, and the place behind it.
+// A number without its sign: what its digits write, where those of the fraction begin, with the point if there is one, and
+// the place behind it.
 #[derive(Clone, Copy)]
 pub(crate) struct ShortNumber {
-    pub(crate) value: Decimal,
+    pub(crate) magnitude: u64,
+    pub(crate) point: usize,
     pub(crate) end: usize,
+}
+
+// A number of 64 bits with so many decimals is exact.
+const MAX_DECIMALS: usize = 38;
+
+impl ShortNumber {
+    #[inline(always)]
+    pub(crate) fn decimal(self, negative: bool) -> Decimal
+        requires order { self.point ≤ self.end }
+        requires decimals { self.end - self.point - 1 ≤ 38 }
+        ensures { result ≡ normal (signed negative self.magnitude, self.end - self.point - 1) }
+    {
+        // the point is no digit
+        let scale = (self.end - self.point).saturating_sub(1) as u32;
+        Decimal::from_short(negative, self.magnitude, scale)
+    }
 }
 
 // A digit more makes a number below 10^18 of each number below this one.
@@ -78,32 +96,25 @@ fn fraction_digits(bytes: &[u8], point: usize, whole: u64) -> Option<(u64, usize
     }
 }
 
-// The number of this sign and magnitude over 10 to the power of the scale.
-#[inline(always)]
-fn short_decimal(negative: bool, magnitude: u64, scale: u32) -> Option<Decimal>
-    ensures { IfSome result (λ d. IsExact (signed negative magnitude, scale) × (d ≡ normal (signed negative magnitude, scale))) }
-{
-    let magnitude = magnitude as i128;
-    Decimal::from_parts(if negative { -magnitude } else { magnitude }, scale)
-}
-
 // The number that begins with the byte c at the place, if it is such a number.
 #[inline(always)]
 pub(crate) fn short_number(bytes: &[u8], at: usize, c: u8) -> Option<ShortNumber>
     requires within { (at < length bytes.now) × (length bytes.now ≤ MAX_LENGTH) }
     requires here { slice_index bytes.now at ≡ c }
     requires begins { begins_number c ≡ true }
-    ensures { IfSome result (λ r. ReadsShort bytes.now at r.end r.value) }
+    ensures reads { IfSome result (λ r. ReadsShort bytes.now at r.end (normal (signed (c == 45) r.magnitude, r.end - r.point - 1))) }
+    ensures order { IfSome result (λ r. r.point ≤ r.end) }
+    ensures decimals { IfSome result (λ r. r.end - r.point - 1 ≤ 38) }
 {
-    let negative = c == b'-';
-    let from = if negative { at + 1 } else { at };
+    let from = if c == b'-' { at + 1 } else { at };
     let (whole, point) = whole_digits(bytes, from)?;
-    let (value, end) = fraction_digits(bytes, point, whole)?;
-    if goes_on(bytes, end) {
+    let (magnitude, end) = fraction_digits(bytes, point, whole)?;
+    if end - point > MAX_DECIMALS + 1 || goes_on(bytes, end) {
         return None;
     }
-    // the point is no digit
-    let scale = (end - point).saturating_sub(1) as u32;
-    let value = short_decimal(negative, value, scale)?;
-    Some(ShortNumber { value, end })
+    Some(ShortNumber {
+        magnitude,
+        point,
+        end,
+    })
 }

@@ -24,7 +24,7 @@ fn reads_exactly_json(rt: HostRuntime) -> Result<(), Fail> {
             assert_eq!(rt; is_read(rt.alloc(), line.as_bytes())?, json, "{line:?}");
         }
     }
-    let bytes: [(&[u8], bool); 26] = [
+    let bytes: [(&[u8], bool); 30] = [
         (b"", false),
         (b" ", false),
         (b" \t\r\ntrue\n", true),
@@ -46,6 +46,19 @@ fn reads_exactly_json(rt: HostRuntime) -> Result<(), Fail> {
         (b"\"\xed\xa0\x80\"", false),
         (b"\"\xf4\x90\x80\x80\"", false),
         (b"\"\xf4\x8f\xbf\xbf\"", true),
+        (
+            b"\"0123456789012345678901234567890123456789\xc3\xa9\"",
+            true,
+        ),
+        (b"\"0123456789012345678901234567890123456789\xc3\"", false),
+        (
+            b"\"\xc3\xa9\xc3\xa9\xc3\xa9\xc3\xa9\xc3\xa9\xc3\xa9\xc3\xa9 \xe2\x82\xac\"",
+            true,
+        ),
+        (
+            b"\"\xc3\xa9\xc3\xa9\xc3\xa9\xc3\xa9\xc3\xa9\xc3\xa9\xc3\xa9 \xe2\x82\"",
+            false,
+        ),
         (b"\"a\0b\"", false),
         (b"\"a\tb\"", false),
         (b"\"a\nb\"", false),

@@ -1,6 +1,12 @@
-use Rattle.std.proofs.Common.{◌≡◌, ◌≤◌, ◌*◌, ◌^◌, arith}
-use Rattle.sj_decimal.proofs.Powers.{scaled_too_far, past_quotient}
+use Rattle.std.proofs.Common.{ap, ◌≡◌, ◌≤◌, ◌*◌, ◌^◌, arith}
+use Rattle.sj_decimal.proofs.Powers.{short_product, scaled_too_far, past_quotient}
 use Rattle.sj_decimal.proofs.magnitude.scaled.Goals as goal
+
+pub returns-then-places-le-SHORT_SCALE : goal.returns-then-places-le-SHORT_SCALE
+returns-then-places-le-SHORT_SCALE c = (
+  short_product c.args.magnitude c.args.places c.if-magnitude.true c.if-places-le-SHORT_SCALE.true,
+  ap (λ p. c.args.magnitude * p) c.power_of_ten.ensures.value,
+)
 
 pub returns-then-places-gt-MAX_SCALE : goal.returns-then-places-gt-MAX_SCALE
 returns-then-places-gt-MAX_SCALE c h =

@@ -1,20 +1,19 @@
-use Rattle.std.proofs.Common.{ℕ, ◌+◌, ◌-◌, take, drop, List, sym, subst}
-use Rattle.sj_json.specs.Building.{with_key}
-use Rattle.sj_json.specs.Machine.{key}
+use Rattle.std.proofs.Common.{◌≡◌, ◌+◌, ◌<◌, ℕ, length, get_or, List, Ok, refl, ap, sym, ◌∙◌, arith}
+use Rattle.sj_json.specs.Machine.{key, colon}
 use Rattle.sj_read.specs.declared.reader.TheConstants.{MAX_DEPTH}
 use Rattle.sj_read.specs.declared.reader.Mode.TheVariants as modes
-use Rattle.sj_read.specs.Turns.{Went}
-use Rattle.sj_read.proofs.Steps.{after_call, key_value, plain_string, no_key}
+use Rattle.sj_read.proofs.Steps.{one_byte, onward, colon_turn}
 use Rattle.sj_read.proofs.reader.key.Goals as goal
 
-pub returns-then-c-ne34 : goal.returns-then-c-ne34
-returns-then-c-ne34 c = no_key MAX_DEPTH c.args.builder.now c.args.text.now c.args.at c.args.c c.requires.within.0 c.requires.here c.requires.room c.requires.not_blank c.if-c-ne34.true
-
-pub returns-in-Some : goal.returns-in-Some
-returns-in-Some c =
-    let s = c.args.builder.now in
+pub returns-in-Some-eq58 : goal.returns-in-Some-eq58
+returns-in-Some-eq58 c =
     let t = c.args.text.now in
-    let w = key_value MAX_DEPTH s t c.args.at c.args.c c.requires.within.0 c.requires.here c.requires.room c.requires.ready c.if-c-ne34.false c.in-Some.end (take (c.in-Some.end - (c.args.at + 1)) (drop (c.args.at + 1) t)) (plain_string t (c.args.at + 1) c.in-Some.end c.in-Some.ensures.0) in
-    let v : Went MAX_DEPTH key s t c.args.at modes.Colon (c.in-Some.end + 1) (with_key c.in-Some.s.now s) =
-    subst (λ (y : List ℕ). Went MAX_DEPTH key s t c.args.at modes.Colon (c.in-Some.end + 1) (with_key y s)) (sym c.in-Some.ensures.1) w in
-    after_call MAX_DEPTH c.key.result c.after.result modes.Colon (c.in-Some.end + 1) key s t c.args.at c.key.new.self (with_key c.in-Some.s.now s) c.after.ensures c.key.ensures.ok v
+    let end = c.in-Ok.end in
+    let s = c.quoted_key.new.builder in
+    let w = c.in-Ok.ensures in
+    let same = c.as_bytes.ensures.value in
+    let found = c.in-Some-eq58.ensures {u = tt} in
+    let within : end < length t = omega (arith, ap length same, found.0) in
+    let here : get_or t end 0 ≡ 58 = ap (λ (xs : List ℕ). get_or xs end 0) (sym same) ∙ found.1 ∙ c.in-Some-eq58.field-0-test in
+    onward MAX_DEPTH key c.args.builder.now t c.args.at modes.Colon end s w modes.Value (Ok (end + 1)) s
+    (one_byte MAX_DEPTH colon s t end 58 within here modes.Value s (colon_turn MAX_DEPTH s 58 refl) w.ready (omega (arith, w.room)))

@@ -17,8 +17,8 @@ pub returns-in-Some : goal.returns-in-Some
 returns-in-Some c =
     let s = c.args.builder.now in
     let t = c.args.text.now in
-    let n = c.in-Some.short.value in
+    let n = c.decimal.result in
     let end = c.in-Some.short.end in
-    let read : ReadsShort t c.args.at end n = subst (λ (xs : List ℕ). ReadsShort xs c.args.at end n) c.as_bytes.ensures.value c.in-Some.ensures in
+    let read : ReadsShort t c.args.at end n = subst (λ (xs : List ℕ). ReadsShort xs c.args.at end n) c.as_bytes.ensures.value (rw c.decimal.ensures (c.in-Some.ensures {u = tt}).reads) in
     let w = number_value MAX_DEPTH s t c.args.at c.args.c c.requires.within.0 c.requires.here c.requires.begins end read.end_is (exact n) (number_complete (exact n) (between t c.args.at end) read.spells) c.requires.ready c.requires.room in
     after_call MAX_DEPTH c.exact.result c.after.result modes.AfterValue end value s t c.args.at c.exact.new.self (with_value (number (exact n)) s) c.after.ensures c.exact.ensures.ok w

@@ -1,6 +1,6 @@
 use Rattle.std.proofs.Common.{◌≡◌}
 use Rattle.sj_decimal.specs.Normal.{reduced}
-use Rattle.sj_decimal.proofs.magnitude.reduce.Given as goal
+use Rattle.sj_decimal.proofs.magnitude.reduce_short.Given as goal
 
 abbrev pub invariant-loop-places : goal.invariant-loop-places
 invariant-loop-places l = reduced l.left l.places ≡ reduced l.magnitude l.scale

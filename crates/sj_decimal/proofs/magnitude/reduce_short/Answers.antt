@@ -1,6 +1,6 @@
 use Rattle.std.proofs.Common.{sym, ◌∙◌, arith}
 use Rattle.sj_decimal.proofs.Reduced.{reduced_zero, reduced_same, reduced_tenth}
-use Rattle.sj_decimal.proofs.magnitude.reduce.Goals as goal
+use Rattle.sj_decimal.proofs.magnitude.reduce_short.Goals as goal
 
 pub returns-then-magnitude-eq0 : goal.returns-then-magnitude-eq0
 returns-then-magnitude-eq0 c = rw c.if-magnitude-eq0.true (sym (reduced_zero c.args.scale))

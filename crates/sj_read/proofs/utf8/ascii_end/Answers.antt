@@ -1,0 +1,38 @@
+use Rattle.std.proofs.Common.{◌+◌, ◌-◌, length, sym, ap, ◌∙◌, arith}
+use lib.Count.{count_trailing_zeros}
+use Rattle.sj_read.proofs.Ascii.{none_high, high_within, below_high, joined}
+use Rattle.sj_read.proofs.utf8.ascii_end.Goals as goal
+
+pub loop-i-preserved : goal.loop-i-preserved
+loop-i-preserved c =
+    let i = c.loop-i.i in
+    let t = c.args.bytes.now in
+    record {
+      later = omega arith;
+      within = omega arith;
+      ascii = joined t c.args.from i (i + 32) c.loop-i.invariant.ascii (none_high t i 32 (omega arith) (sym c.high_in_32-found.ensures ∙ c.if-found-ne0.false));
+    }
+
+pub returns-then-found-ne0-clause-within : goal.returns-then-found-ne0-clause-within
+returns-then-found-ne0-clause-within c =
+    let i = c.loop-i.i in
+    let t = c.args.bytes.now in
+    let found = c.high_in_32-found in
+    let few = high_within t i 32 (omega arith) (omega arith) (omega (arith, found.ensures)) (count_trailing_zeros 64 found.result) (ap (count_trailing_zeros 64) found.ensures) in
+    omega (arith, few)
+
+pub returns-then-found-ne0-clause-ascii : goal.returns-then-found-ne0-clause-ascii
+returns-then-found-ne0-clause-ascii c =
+    let i = c.loop-i.i in
+    let t = c.args.bytes.now in
+    let found = c.high_in_32-found in
+    let r = count_trailing_zeros 64 found.result in
+    joined t c.args.from i (i + r) c.loop-i.invariant.ascii
+    (below_high t i 32 (omega arith) (omega arith) (omega (arith, found.ensures)) r (ap (count_trailing_zeros 64) found.ensures))
+
+pub returns-then-high_in_32-eq0-clause-ascii : goal.returns-then-high_in_32-eq0-clause-ascii
+returns-then-high_in_32-eq0-clause-ascii c =
+    let i = c.loop-i.i in
+    let t = c.args.bytes.now in
+    let last = none_high t (length t - 32) 32 (omega arith) (sym c.high_in_32.ensures ∙ c.if-high_in_32-eq0.true) in
+    joined t c.args.from i (length t) c.loop-i.invariant.ascii (λ k from below. last k (omega arith) (omega arith))

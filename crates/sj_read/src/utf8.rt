@@ -1,0 +1,98 @@
+// The text of a line, where it is well-formed UTF-8. Most lines are ASCII but for a few characters, which is told faster
+// than by decoding each block.
+ghost use Rattle.std.specs.Prelude.{◌≡◌, ◌≤◌, length, map, IsUtf8, MatchOption};
+ghost use Rattle.std.specs.Simd.Lanes.{mask_l};
+ghost use Rattle.sj_read.specs.Scans.{is_high, AsciiBetween};
+
+use std::simd::prelude::*;
+
+// A line with more characters that are no ASCII is decoded in blocks.
+const FEW: u32 = 6;
+
+// Which of the bytes are above 127.
+#[inline(always)]
+fn high_in_32(v: u8x32) -> u64
+    ensures { result ≡ mask_l (map is_high v) }
+{
+    v.simd_gt(u8x32::splat(0x7f)).to_bitmask()
+}
+
+// The first byte above 127 from the place on, or the length, one byte at a step.
+fn ascii_end_by_one(bytes: &[u8], from: usize) -> usize
+    requires { from ≤ length bytes.now }
+    ensures later { from ≤ result }
+    ensures within { result ≤ length bytes.now }
+    ensures ascii { AsciiBetween bytes.now from result }
+{
+    let mut i = from;
+    while i < bytes.len() && bytes[i] <= 0x7f {
+        i += 1;
+    }
+    i
+}
+
+// The same, a vector at a step. The last one reaches back over bytes that were seen before.
+#[inline(always)]
+fn ascii_end(bytes: &[u8], from: usize) -> usize
+    requires { from ≤ length bytes.now }
+    ensures later { from ≤ result }
+    ensures within { result ≤ length bytes.now }
+    ensures ascii { AsciiBetween bytes.now from result }
+{
+    let mut i = from;
+    while bytes.len() - i >= 32 {
+        let found = high_in_32(u8x32::from_slice(&bytes[i..]));
+        if found != 0 {
+            return i + found.trailing_zeros() as usize;
+        }
+        i += 32;
+    }
+    if bytes.len() >= 32 && high_in_32(u8x32::from_slice(&bytes[bytes.len() - 32..])) == 0 {
+        return bytes.len();
+    }
+    ascii_end_by_one(bytes, i)
+}
+
+// How many bytes a character has that begins with this byte, which is no ASCII.
+fn char_len(first: u8) -> usize {
+    if first < 0xe0 {
+        2
+    } else if first < 0xf0 {
+        3
+    } else {
+        4
+    }
+}
+
+// The text, if the line is one, whatever it has.
+#[inline(never)]
+fn decoded(line: &[u8]) -> Option<&str>
+    ensures { MatchOption result (IsUtf8 line.now → ⊥) (λ text. (text.now ≡ line.now) × IsUtf8 line.now) }
+{
+    match simdutf8::compat::from_utf8(line) {
+        Ok(text) => Some(text),
+        Err(_) => None,
+    }
+}
+
+// The text, if the line is one.
+#[inline(always)]
+pub(crate) fn text_of(line: &[u8]) -> Option<&str>
+    ensures { MatchOption result (IsUtf8 line.now → ⊥) (λ text. (text.now ≡ line.now) × IsUtf8 line.now) }
+{
+    let mut at = ascii_end(line, 0);
+    for _ in 0..FEW {
+        if at == line.len() {
+            return Some(unsafe { std::str::from_utf8_unchecked(line) });
+        }
+        let len = char_len(line[at]);
+        if len > line.len() - at {
+            return decoded(line);
+        }
+        match std::str::from_utf8(&line[at..at + len]) {
+            Ok(_) => at = ascii_end(line, at + len),
+            Err(_) => return decoded(line),
+        }
+    }
+    decoded(line)
+}
