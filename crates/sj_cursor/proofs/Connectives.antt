@@ -1,16 +1,18 @@
 -- Connectives, and the item that a filter keeps.
 use Rattle.std.proofs.Common.{◌≡◌, ℕ, ◌+◌, ◌≤◌, Option, Some, None, ap, sym, ◌∙◌, refl, arith}
 use Rattle.sj_base.specs.Outside.{raised}
-use Rattle.sj_item.specs.Items.{ItemValue}
+use Rattle.sj_item.specs.Items.{item_value}
+use Rattle.sj_item.specs.declared.item.Item.{Item}
 use Rattle.sj_item.specs.Truths.{conjunction, disjunction, negation}
 use Rattle.sj_item.specs.declared.truth.Truth.{Truth}
 use Rattle.sj_item.specs.declared.truth.Truth.TheVariants.{True, False, Unknown}
-use Rattle.sj_step.specs.Trace.{Trace}
+use Rattle.sj_step.specs.Answers.{answer_value}
+use Rattle.sj_step.specs.Trace.{stop}
 use Rattle.sj_cursor.specs.Decides.{Decides}
-use Rattle.sj_cursor.specs.Draws.{Nears}
+use Rattle.sj_cursor.specs.Draws.{Draws}
 use Rattle.sj_cursor.specs.Verdicts.{Verdict, and_verdict, or_verdict, not_verdict, unknown_verdict, filtered, kept}
-use Rattle.sj_cursor.specs.Left.{unknown_truth}
-use Rattle.sj_cursor.proofs.Draws.{paid}
+use Rattle.sj_cursor.specs.Left.{unknown_truth, kept_answer}
+use Rattle.sj_cursor.proofs.Draws.{paid, draws_after}
 
 pub and_false : (v w : Verdict) (a b : ℕ) → Decides v False a b → Decides (and_verdict v w) False a b
 unfolding and_verdict
@@ -50,7 +52,13 @@ pub unknown_decides : (v : Verdict) (r : Truth) (a b : ℕ) → Decides v r a b 
 unfolding unknown_verdict
 unknown_decides v r a b d = record { answers = ap unknown_truth d.answers; costs = d.costs }
 
--- an item is kept behind what its predicate took
-pub filter_keeps : (v : Verdict) (x : ItemValue) (r : Truth) (a b : ℕ) → Decides v r a b → Nears (filtered v x) a (kept r x) b
+-- an item is kept or not, behind what its predicate took
+kept_draws : (x : Item) (r : Truth) (a : ℕ) → Draws (kept r (item_value x)) (answer_value (kept_answer r) x) stop a a
+kept_draws x True a = record { answers = refl; leaves = refl; costs = omega arith }
+kept_draws x False a = record { answers = refl; leaves = refl; costs = omega arith }
+kept_draws x Unknown a = record { answers = refl; leaves = refl; costs = omega arith }
+
+pub filter_draws : (v : Verdict) (x : Item) (r : Truth) (a b : ℕ) → Decides v r a b → Draws (filtered v (item_value x)) (answer_value (kept_answer r) x) stop a b
 unfolding filtered
-filter_keeps v x r a b d = rw d.answers (paid v.allow (kept v.truth x) a b d.costs)
+filter_draws v x r a b d =
+    draws_after _ _ _ _ _ _ _ (rw d.answers (paid v.allow (kept v.truth (item_value x)) a b d.costs)) (kept_draws x r b)

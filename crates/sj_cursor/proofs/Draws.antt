@@ -164,6 +164,21 @@ turn_item t0 w w' t t' g x a0 a b c n k p e =
     let near : Nears t0 a0 (join (only x) (each t' g)) c = turn_near t0 w w' t t' (only x) g x a0 a b c c n k p (nears_is _ _ _ _ (sym e) (omega arith)) in
     rw (left_end w w' a b k) (draws_after _ _ _ _ _ _ _ near (item_drawn zero (each t' g) x c c (omega arith)))
 
+-- what was left of an item is at its end, and the next one is taken in hand, which answers
+pub turn_begun : (t0 w w' t t' v : Trace) (g : ItemValue → Trace) (x : ItemValue) (r : PullValue) (a0 a b c d : ℕ)
+    → Nears t0 a0 (join w (each t g)) a → Draws w ends w' a b → Draws t (gives x) t' b c → (r ≡ ends → ⊥) → Draws (g x) r v c d
+    → Draws t0 r (join v (each t' g)) a0 d
+turn_begun t0 w w' t t' v g x r a0 a b c d n k p other q =
+    draws_after _ _ _ _ _ _ _ (turn_near t0 w w' t t' (g x) g x a0 a b c c n k p (nears_none (g x) c)) (join_answer (g x) v (each t' g) r c d other q)
+
+-- what was left of an item is at its end, and the next one that is taken in hand gives nothing
+pub turn_over : (t0 w w' t t' v : Trace) (g : ItemValue → Trace) (x : ItemValue) (a0 a b c d : ℕ)
+    → Nears t0 a0 (join w (each t g)) a → Draws w ends w' a b → Draws t (gives x) t' b c → Draws (g x) ends v c d
+    → Nears t0 a0 (join v (each t' g)) d
+turn_over t0 w w' t t' v g x a0 a b c d n k p q =
+    let near : Nears t0 a0 (each t' g) d = nears_trans _ _ _ _ _ _ (turn_near t0 w w' t t' (g x) g x a0 a b c c n k p (nears_none (g x) c)) (join_end (g x) v (each t' g) c d q) in
+    rw (left_end (g x) v c d q) near
+
 -- both are at their ends, or the input has a fault
 pub turn_answer : (t0 w w' t t' : Trace) (g : ItemValue → Trace) (r : PullValue) (a0 a b c : ℕ)
     → Nears t0 a0 (join w (each t g)) a → Draws w ends w' a b → ((x : ItemValue) → r ≡ gives x → ⊥) → Draws t r t' b c

@@ -12,3 +12,4 @@ mod Pulls
 mod Parts
 mod Connectives
 mod Unopened
+mod Soles

@@ -36,7 +36,7 @@ use Rattle.sj_cursor.specs.declared.cells.Acted.TheVariants as acteds
 
 -- where an expression is evaluated
 abbrev pub env_value : EnvHeld → Env
-env_value e = record { mode = e.mode; vars = e.vars.now; root = item_value e.root; context = item_value e.context; last = e.last }
+env_value e = record { mode = e.mode; vars = e.vars.now; root = item_value e.root.now; context = item_value e.context.now; last = e.last }
 
 -- ---- one item
 
@@ -64,8 +64,8 @@ is_lax Lax = true
 is_lax Strict = false
 
 abbrev pub beside_truth : Beside → ItemTruth
-beside_truth (besides.Left op x) = items_compare op (item_value x)
-beside_truth (besides.Initial i) = λ x. item_starts_with x (item_value i)
+beside_truth (besides.Left op x) = items_compare op (item_value x.now)
+beside_truth (besides.Initial i) = λ x. item_starts_with x (item_value i.now)
 
 -- the truth where a true pair was found or not, and a doubt
 abbrev pub decided_truth : Bool → Bool → Truth

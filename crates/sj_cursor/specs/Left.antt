@@ -14,6 +14,9 @@ use Rattle.sj_step.specs.Walk.{walk_left}
 use Rattle.sj_cursor.specs.Meaning.{Env, at_item, at_last, where_array, meaning, parts, part, verdict}
 use Rattle.sj_item.specs.Truths.{truth_of}
 use Rattle.sj_item.specs.declared.truth.Truth.{Truth}
+use Rattle.sj_item.specs.declared.truth.Truth.TheVariants.{True, False, Unknown}
+use Rattle.sj_step.specs.declared.answer.Answer.{Answer}
+use Rattle.sj_step.specs.declared.answer.Answer.TheVariants as answers
 use Rattle.sj_method.specs.Numbers.{binary_of}
 use Rattle.sj_cursor.specs.Numbers.{followed}
 use Rattle.sj_cursor.specs.Verdicts.{filtered, is_unknown}
@@ -76,12 +79,6 @@ doing_nodes (Acts a) = 0
 doing_nodes (Keeps p) = pred_nodes p
 doing_nodes (Picks s) = subs_nodes s
 
--- the further items that a list of subscripts holds
-abbrev pub doing_spot : Doing → ℕ
-doing_spot (Acts a) = 0
-doing_spot (Keeps p) = 0
-doing_spot (Picks s) = 2
-
 -- ---- the expressions
 
 abbrev mutual
@@ -92,7 +89,7 @@ abbrev mutual
 
   pub doing : Deed → Doing
   doing (deeds.Act a) = Acts a.act
-  doing (deeds.Filter' p test kept) = Keeps (test_core test)
+  doing (deeds.Filter' p test) = Keeps (test_core test)
   doing (deeds.Elements' p subs at) = Picks (parts_core subs)
 
   pub parts_core : Parts → t.Subs
@@ -167,34 +164,30 @@ part_left s env x = begun_left s.reached (part (part_core s) env x)
 abbrev pub more_left : MoreParts → Env → ItemValue → Trace
 more_left m env x = join (part_left m.first env x) (parts_left m.others.value env x)
 
-abbrev pub kept_left : Option Item → Trace
-kept_left None = stop
-kept_left (Some x) = only (item_value x)
+abbrev pub at_left : At → Parts → Env → Trace
+at_left ats.Nothing subs env = stop
+at_left (ats.Refused s) subs env = fail s
+at_left (ats.On spot) subs env = parts_left subs (at_last env spot.last) (item_value spot.item)
 
-abbrev pub at_left : At → Parts → Trace
-at_left ats.Nothing subs = stop
-at_left (ats.Refused s) subs = fail s
-at_left (ats.On spot) subs = parts_left subs (env_value spot.env) (item_value spot.item)
+abbrev pub elements_left : Elements → Env → Trace
+elements_left e env = at_left e.at e.parts.value env
 
-abbrev pub elements_left : Elements → Trace
-elements_left e = at_left e.at e.parts.value
-
-abbrev pub deed_left : Deed → Trace
-deed_left (deeds.Act a) = acted_left a.left
-deed_left (deeds.Filter' p test kept) = kept_left kept
-deed_left (deeds.Elements' p subs at) = at_left at subs
+abbrev pub deed_left : Deed → Env → Trace
+deed_left (deeds.Act a) env = acted_left a.left
+deed_left (deeds.Filter' p test) env = stop
+deed_left (deeds.Elements' p subs at) env = at_left at subs env
 
 abbrev pub left : Cell → Env → Trace
 left (cells.One o) env = one_left o env
 left (cells.Each' p input walk deed) env =
-    join (deed_left deed) (each (join (walk_left walk) (each (left input env) (opened (doing_opening (doing deed)) env.mode))) (done (doing deed) env))
+    join (deed_left deed env) (each (join (walk_left walk) (each (left input env) (opened (doing_opening (doing deed)) env.mode))) (done (doing deed) env))
 left (cells.Binary' op p a v q b w reached) env = begun_left reached (meaning (t.Binary op (core a) (core b)) env)
 
 abbrev pub operand_left : Opening → Operand → Env → Trace
 operand_left how o env = join (walk_left o.opened) (each (left o.cell.value env) (opened how env.mode))
 
 abbrev pub each_left : Each → Env → Trace
-each_left e env = join (deed_left e.deed) (each (operand_left (doing_opening (doing e.deed)) e.input env) (done (doing e.deed) env))
+each_left e env = join (deed_left e.deed env) (each (operand_left (doing_opening (doing e.deed)) e.input env) (done (doing e.deed) env))
 
 abbrev pub binary_left : Binary → Env → Trace
 binary_left b env = begun_left b.reached (meaning (binary_core b) env)
@@ -209,6 +202,12 @@ both_or b = t.Or (test_core b.left.value) (test_core b.right.value)
 abbrev pub unknown_truth : Truth → Truth
 unknown_truth r = truth_of (is_unknown r)
 
+-- the answer of a filter on an item of which its predicate has this truth
+abbrev pub kept_answer : Truth → Answer
+kept_answer True = answers.Item
+kept_answer False = answers.End
+kept_answer Unknown = answers.End
+
 -- ---- what follows operands and subscripts
 
 abbrev pub computed : Arith → ℤ × ℕ → Result (ℤ × ℕ) State → Trace
@@ -221,7 +220,7 @@ abbrev pub range_between : Result ℤ State → Result ℤ State → Mode → It
 range_between from to mode x = followed from (λ i. followed to (λ j. reach (by_range i j) mode x))
 
 -- a list of subscripts stands at its beginning on the item x, or x was refused
-abbrev pub IsPlaced : Env → ItemValue → At → Type 0
-IsPlaced env x ats.Nothing = ⊥
-IsPlaced env x (ats.Refused s) = (last env.mode x ≡ None) × (s ≡ S22039)
-IsPlaced env x (ats.On spot) = (last env.mode x ≡ Some (env_value spot.env).last) × (env_value spot.env ≡ at_last env (env_value spot.env).last) × (item_value spot.item ≡ x)
+abbrev pub IsPlaced : Mode → ItemValue → At → Type 0
+IsPlaced mode x ats.Nothing = ⊥
+IsPlaced mode x (ats.Refused s) = (last mode x ≡ None) × (s ≡ S22039)
+IsPlaced mode x (ats.On spot) = (last mode x ≡ Some spot.last) × (item_value spot.item ≡ x)

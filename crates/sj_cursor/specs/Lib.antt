@@ -13,4 +13,3 @@ pub mod Asked
 pub mod Cells
 pub mod Left
 pub mod Sequel
-pub mod Tied

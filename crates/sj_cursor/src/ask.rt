@@ -8,7 +8,8 @@ ghost use Rattle.sj_cursor.specs.Single.{need, single};
 use crate::cursor::Cursor;
 use crate::look::{Found, Limit, Look};
 use sj_base::{Ledger, State, Steps};
-use sj_item::{Item, Pull};
+use sj_item::Item;
+use sj_step::Answer;
 
 impl<'d> Cursor<'d> {
     /// Whether the path gives an item, from where the cursor stands. In lax mode the first item decides, even where a fault would
@@ -57,16 +58,17 @@ impl<'d> Cursor<'d> {
         ensures root { self.new.root ≡ self.old.root }
     {
         let mut found = Found::Nothing;
+        let mut place = Item::Null;
         'looking: loop {
-            match self.next(steps) {
-                Pull::Item(item) => {
-                    found = found.more(item);
+            match self.put_next(steps, &mut place) {
+                Answer::Item => {
+                    found = found.more(place);
                     if found.is_enough(limit) {
                         return Look { found, fault: None };
                     }
                 }
-                Pull::End => return Look { found, fault: None },
-                Pull::Fault(state) => {
+                Answer::End => return Look { found, fault: None },
+                Answer::Fault(state) => {
                     return Look {
                         found,
                         fault: Some(state),

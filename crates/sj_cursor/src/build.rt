@@ -93,7 +93,7 @@ fn step_cell<'d>(alloc: Global, step: &'d Step, input: Operand<'d>) -> Result<Ce
         Step::Filter(pred) => {
             let test = test_cell(alloc, pred)?;
             let test = Box::new(alloc, test)?;
-            Ok(each(input, Deed::Filter(Filter { test, kept: None })))
+            Ok(each(input, Deed::Filter(Filter { test })))
         }
     }
 }

@@ -1,6 +1,7 @@
 // The cells of a path: one for each part of its tree, each owning the cells that it asks. A cell holds where it stands, and no
 // list of items.
-use crate::env::Env;
+ghost use Rattle.std.specs.Prelude.{◌<◌, ◌^◌, unsigned_abs};
+
 use sj_base::State;
 use sj_item::Item;
 use sj_method::PairWalk;
@@ -94,12 +95,11 @@ pub(crate) enum Acted<'d> {
     Pairs(PairWalk<'d>),
 }
 
-/// A filter, and the item at hand where it is kept and was not given yet.
+/// A filter. An item that it keeps is given at once.
 #[cycle(cells)]
 #[derive(Drop)]
 pub(crate) struct Filter<'d> {
     pub(crate) test: Box<Test<'d>>,
-    pub(crate) kept: Option<Item<'d>>,
 }
 
 /// A list of subscripts, and the item at hand.
@@ -121,11 +121,12 @@ pub(crate) enum At<'d> {
     On(Spot<'d>),
 }
 
-/// An item, and what its subscripts are evaluated in.
+/// An item, and the `last` of its subscripts.
 #[derive(Drop)]
 pub(crate) struct Spot<'d> {
     pub(crate) item: Item<'d>,
-    pub(crate) env: Env<'d>,
+    pub(crate) last: i128,
+    ghost small: { unsigned_abs last < 10 ^ 38 },
 }
 
 /// The parts of a list of subscripts.

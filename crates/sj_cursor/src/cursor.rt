@@ -7,6 +7,7 @@ use crate::env::Env;
 use sj_base::{Ledger, Memory, Steps};
 use sj_item::{Item, Pull};
 use sj_path::{Mode, Path, Vars};
+use sj_step::Answer;
 use std::alloc::Global;
 use std::marker::Model;
 
@@ -16,29 +17,33 @@ use std::marker::Model;
 #[derive(Drop)]
 pub struct Cursor<'d> {
     path: &'d Path,
-    env: Env<'d>,
+    vars: &'d Vars,
+    root: Item<'d>,
     cell: Cell<'d>,
 }
 
 impl<'d> Model for Cursor<'d> {
     ghost use Rattle.sj_cursor.specs.Sequel.{Sequel, sequel_code};
+    ghost use Rattle.std.specs.Prelude.{◌≡◌};
 
     ghost Value = { Sequel };
 
     ghost coded = { sequel_code };
 
-    ghost use Rattle.sj_cursor.specs.Cells.{env_value};
-    ghost use Rattle.sj_cursor.specs.Left.{left};
-    ghost use Rattle.sj_cursor.specs.Tied.{Tied};
+    ghost use Rattle.sj_item.specs.Items.{item_value};
+    ghost use Rattle.sj_path.specs.Tree.{path_of, expr_of};
+    ghost use Rattle.sj_cursor.specs.Left.{core, left};
+    ghost use Rattle.sj_cursor.specs.Meaning.{start_env};
 
-    ghost view = { λ c. record { path = c.path.now; vars = (env_value c.env).vars; root = (env_value c.env).root; left = left c.cell (env_value c.env) } };
+    ghost view = { λ c. record { path = c.path.now; vars = c.vars.now; root = item_value c.root; left = left c.cell (start_env (path_of c.path.now) c.vars.now (item_value c.root)) } };
 
-    ghost invariant = { λ c. Tied c.path.now c.cell c.env };
+    ghost invariant = { λ c. core c.cell ≡ expr_of c.path.now.expr };
 }
 
 impl<'d> Cursor<'d> {
     ghost use Rattle.sj_item.specs.Items.{item_value, pull_value};
     ghost use Rattle.sj_path.specs.Nodes.{nodes};
+    ghost use Rattle.sj_step.specs.Answers.{answer_value};
     ghost use Rattle.sj_path.specs.Tree.{path_of};
     ghost use Rattle.sj_cursor.specs.Draws.{Draws};
     ghost use Rattle.sj_cursor.specs.Meaning.{path_trace};
@@ -61,14 +66,12 @@ impl<'d> Cursor<'d> {
     {
         let mut cell = expr_cell(alloc, &path.expr)?;
         cell.rewind();
-        let env = Env {
-            mode: path.mode,
+        Ok(Cursor {
+            path,
             vars,
             root,
-            context: root,
-            last: 0,
-        };
-        Ok(Cursor { path, env, cell })
+            cell,
+        })
     }
 
     /// The next item, or the end. It takes no memory. The counter rises by no more than the children of nodes that are handed out
@@ -79,7 +82,30 @@ impl<'d> Cursor<'d> {
         ensures vars { self.new.vars ≡ self.old.vars }
         ensures root { self.new.root ≡ self.old.root }
     {
-        self.cell.next(&self.env, steps)
+        let mut place = Item::Null;
+        let answer = self.put_next(steps, &mut place);
+        answer.pull(&place)
+    }
+
+    // The same, with the item put into a place.
+    pub(crate) fn put_next<L: Ledger>(
+        &mut self,
+        steps: &mut Steps<L>,
+        place: &mut Item<'d>,
+    ) -> Answer
+        ensures answers { Draws self.old.left (answer_value result place.new) self.new.left steps.old steps.new }
+        ensures path { self.new.path ≡ self.old.path }
+        ensures vars { self.new.vars ≡ self.old.vars }
+        ensures root { self.new.root ≡ self.old.root }
+    {
+        let env = Env {
+            mode: self.path.mode,
+            vars: self.vars,
+            root: &self.root,
+            context: &self.root,
+            last: 0,
+        };
+        self.cell.next(&env, steps, place)
     }
 
     /// From the beginning, on another root, wherever the cursor stood. It takes no memory.
@@ -89,8 +115,7 @@ impl<'d> Cursor<'d> {
         ensures vars { self.new.vars ≡ self.old.vars }
         ensures root { self.new.root ≡ item_value root.entry }
     {
-        self.env.root = root;
-        self.env.context = root;
+        self.root = root;
         self.cell.rewind();
     }
 
@@ -98,7 +123,7 @@ impl<'d> Cursor<'d> {
     pub fn held(&self) -> u64
         ensures { result ≤ 3 * nodes (path_of self.now.path) }
     {
-        self.cell.held().saturating_add(2)
+        self.cell.held().saturating_add(1)
     }
 
     /// The mode of the path.

@@ -50,25 +50,25 @@ impl<'d> Each<'d> {
 impl<'d> Deed<'d> {
     #[cycle(held)]
     fn held(&self) -> u64
-        ensures { result ≤ 3 * left_of.doing_nodes (left_of.doing self.now) + 1 + left_of.doing_spot (left_of.doing self.now) }
+        ensures { result ≤ 3 * left_of.doing_nodes (left_of.doing self.now) + 1 }
     {
         match self {
             Deed::Act(_) => 1,
-            Deed::Filter(filter) => plus(filter.test.held(), 1),
+            Deed::Filter(filter) => filter.test.held(),
             Deed::Elements(elements) => elements.held(),
         }
     }
 }
 
 impl<'d> Elements<'d> {
-    // The item at hand, and what its subscripts are evaluated in.
+    // With the item at hand.
     #[cycle(held)]
     fn held(&self) -> u64
-        ensures { result ≤ 3 * subs_nodes (left_of.elements_core self.now) + 3 }
+        ensures { result ≤ 3 * subs_nodes (left_of.elements_core self.now) + 1 }
     {
         let parts = self.parts.held();
         match self.at {
-            At::On(_) => plus(parts, 3),
+            At::On(_) => plus(parts, 1),
             At::Nothing | At::Refused(_) => parts,
         }
     }

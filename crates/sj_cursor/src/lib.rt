@@ -14,6 +14,7 @@
 #![tactic(auto)]
 
 mod act;
+mod arithmetic;
 mod ask;
 mod build;
 mod cells;
@@ -23,7 +24,9 @@ mod held;
 mod look;
 mod next;
 mod one;
+mod predicates;
+mod rewind;
 mod row;
-mod within;
+mod subscripts;
 
 pub use cursor::Cursor;

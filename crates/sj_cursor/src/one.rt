@@ -1,27 +1,28 @@
 // One item.
 ghost use Rattle.std.specs.Prelude.{◌≡◌};
 ghost use Rattle.sj_base.specs.Outside.{raised};
-ghost use Rattle.sj_item.specs.Items.{item_value, pull_value};
+ghost use Rattle.sj_item.specs.Items.{item_value};
+ghost use Rattle.sj_step.specs.Answers.{answer_value};
 ghost use Rattle.sj_step.specs.Trace.{first, rest};
 ghost use Rattle.sj_cursor.specs.Cells.{env_value, source_value, one_left, source_expr};
 ghost use Rattle.sj_cursor.specs.Meaning.{literal_value, variable_of, initial_value};
 
 use crate::cells::{One, Source};
 use crate::env::Env;
-use sj_item::{Exact, Item, Pull};
+use sj_item::{Exact, Item};
 use sj_path::{Initial, Literal, Vars};
-use sj_step::whole_number;
+use sj_step::{Answer, whole_number};
 
 impl<'d> Source<'d> {
-    fn item(self, env: &Env<'d>) -> Item<'d>
-        ensures { item_value result ≡ source_value self.entry (env_value env.now) }
+    pub(crate) fn put(self, env: &Env<'_, 'd>, place: &mut Item<'d>)
+        ensures { item_value place.new ≡ source_value self.entry (env_value env.now) }
     {
         match self {
-            Source::Root => env.root,
-            Source::Context => env.context,
-            Source::Last => Item::Num(whole_number(env.last)),
-            Source::Lit(literal) => literal_item(literal),
-            Source::Var(name) => variable_item(env.vars, name),
+            Source::Root => *place = *env.root,
+            Source::Context => *place = *env.context,
+            Source::Last => *place = Item::Num(whole_number(env.last)),
+            Source::Lit(literal) => *place = literal_item(literal),
+            Source::Var(name) => *place = variable_item(env.vars, name),
         }
     }
 }
@@ -48,7 +49,7 @@ fn variable_item<'d>(vars: &'d Vars, name: &str) -> Item<'d>
 }
 
 /// The string that `starts with` looks for.
-pub(crate) fn initial_item<'d>(initial: &'d Initial, env: &Env<'d>) -> Item<'d>
+pub(crate) fn initial_item<'d>(initial: &'d Initial, env: &Env<'_, 'd>) -> Item<'d>
     ensures { item_value result ≡ initial_value (env_value env.now) initial.now }
 {
     match initial {
@@ -58,15 +59,17 @@ pub(crate) fn initial_item<'d>(initial: &'d Initial, env: &Env<'d>) -> Item<'d>
 }
 
 impl<'d> One<'d> {
-    pub(crate) fn next(&mut self, env: &Env<'d>) -> Pull<'d>
-        ensures answers { pull_value result ≡ first (one_left self.old (env_value env.now)) }
+    #[inline(always)]
+    pub(crate) fn next(&mut self, env: &Env<'_, 'd>, place: &mut Item<'d>) -> Answer
+        ensures answers { answer_value result place.new ≡ first (one_left self.old (env_value env.now)) }
         ensures leaves { one_left self.new (env_value env.now) ≡ rest (one_left self.old (env_value env.now)) }
         ensures same { self.new.source ≡ self.old.source }
     {
         if self.given {
-            return Pull::End;
+            return Answer::End;
         }
         self.given = true;
-        Pull::Item(self.source.item(env))
+        self.source.put(env, place);
+        Answer::Item
     }
 }

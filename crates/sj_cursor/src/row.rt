@@ -5,26 +5,26 @@ ghost use Rattle.sj_cursor.specs.Comparisons.{is_true};
 ghost use Rattle.sj_cursor.specs.Verdicts.{is_unknown};
 ghost use Rattle.sj_cursor.specs.Cells.{beside_truth, is_lax, decided_truth};
 
-use sj_item::{Item, Truth, compare, starts_with};
+use sj_item::{Item, Truth};
 use sj_path::{Compare, Mode};
 
 /// What stands beside the items of a row.
 #[derive(Clone, Copy)]
-pub(crate) enum Beside<'d> {
+pub(crate) enum Beside<'a, 'd> {
     /// The left item of a comparison.
-    Left(Compare, Item<'d>),
+    Left(Compare, &'a Item<'d>),
     /// The string that the items are to start with.
-    Initial(Item<'d>),
+    Initial(&'a Item<'d>),
 }
 
-impl<'d> Beside<'d> {
+impl<'a, 'd> Beside<'a, 'd> {
     /// The truth of the pair with an item.
-    pub(crate) fn truth(self, item: Item<'d>) -> Truth
-        ensures { result ≡ beside_truth self.entry (item_value item.entry) }
+    pub(crate) fn truth(self, item: &Item<'d>) -> Truth
+        ensures { result ≡ beside_truth self.entry (item_value item.now) }
     {
         match self {
-            Beside::Left(op, left) => compare(op, left, item),
-            Beside::Initial(initial) => starts_with(item, initial),
+            Beside::Left(op, left) => left.compare(op, item),
+            Beside::Initial(initial) => item.starts_with(initial),
         }
     }
 }

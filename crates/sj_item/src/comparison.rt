@@ -23,14 +23,30 @@ use std::cmp::Ordering;
 pub fn compare<'d>(op: Compare, a: Item<'d>, b: Item<'d>) -> Truth
     ensures { result ≡ items_compare op (item_value a.entry) (item_value b.entry) }
 {
-    compare_as(op, as_comparand(&a), as_comparand(&b))
+    a.compare(op, &b)
 }
 
 /// Whether the string `a` starts with the string `b`, by code points. Any other pair is Unknown.
 pub fn starts_with<'d>(a: Item<'d>, b: Item<'d>) -> Truth
     ensures { result ≡ item_starts_with (item_value a.entry) (item_value b.entry) }
 {
-    starts_with_as(as_comparand(&a), as_comparand(&b))
+    a.starts_with(&b)
+}
+
+impl<'d> Item<'d> {
+    /// The same as [`compare`], of items that are lent.
+    pub fn compare(&self, op: Compare, other: &Item<'_>) -> Truth
+        ensures { result ≡ items_compare op (item_value self.now) (item_value other.now) }
+    {
+        compare_as(op, as_comparand(self), as_comparand(other))
+    }
+
+    /// The same as [`starts_with`], of items that are lent.
+    pub fn starts_with(&self, start: &Item<'_>) -> Truth
+        ensures { result ≡ item_starts_with (item_value self.now) (item_value start.now) }
+    {
+        starts_with_as(as_comparand(self), as_comparand(start))
+    }
 }
 
 // What a comparison looks at of an item.

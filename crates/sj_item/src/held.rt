@@ -27,10 +27,7 @@ impl Exact {
     pub fn value(self) -> Decimal
         ensures { result ≡ exact_value self }
     {
-        match Decimal::from_parts(self.coefficient, self.scale) {
-            Some(value) => value,
-            None => unreachable!(),
-        }
+        Decimal::from_normal(self.coefficient, self.scale)
     }
 }
 

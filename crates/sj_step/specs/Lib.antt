@@ -1,5 +1,6 @@
 pub mod Trace
 pub mod Takes
+pub mod Answers
 pub mod Reach
 pub mod Walk
 pub mod Coding

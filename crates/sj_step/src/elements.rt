@@ -1,12 +1,13 @@
 // A run of elements.
 ghost use Rattle.std.specs.Prelude.{◌≡◌};
-ghost use Rattle.sj_item.specs.Items.{pull_value};
+ghost use Rattle.sj_step.specs.Answers.{answer_value};
 ghost use Rattle.sj_step.specs.Takes.{Takes};
 ghost use Rattle.sj_step.specs.Walk.{elements_left};
 
+use crate::answer::Answer;
 use sj_base::{Ledger, Steps};
 use sj_doc::Children;
-use sj_item::{Item, Pull};
+use sj_item::Item;
 
 /// A walk over elements that gives none of the next `skip` ones, and then `count` ones.
 #[derive(Drop)]
@@ -17,8 +18,8 @@ pub(crate) struct Elements<'d> {
 }
 
 impl<'d> Elements<'d> {
-    pub(crate) fn next<L: Ledger>(&mut self, steps: &mut Steps<L>) -> Pull<'d>
-        ensures { Takes (elements_left self.old) (pull_value result) (elements_left self.new) steps.old steps.new }
+    pub(crate) fn next<L: Ledger>(&mut self, steps: &mut Steps<L>, place: &mut Item<'d>) -> Answer
+        ensures { Takes (elements_left self.old) (answer_value result place.new) (elements_left self.new) steps.old steps.new }
     {
         'skipping: while self.skip > 0 {
             match self.left.next(steps) {
@@ -29,9 +30,10 @@ impl<'d> Elements<'d> {
         if self.count > 0 {
             if let Some(element) = self.left.next(steps) {
                 self.count -= 1;
-                return Pull::Item(Item::Node(element.node));
+                *place = Item::Node(element.node);
+                return Answer::Item;
             }
         }
-        Pull::End
+        Answer::End
     }
 }

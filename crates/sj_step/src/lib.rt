@@ -9,6 +9,7 @@
 //! that a [`Walk`] gives exactly the items and the end of its trace, and raises the counter by exactly the visits. It takes no memory.
 #![tactic(auto)]
 
+mod answer;
 mod elements;
 mod members;
 mod parts;
@@ -19,6 +20,7 @@ mod tests;
 mod walk;
 mod whole;
 
+pub use answer::Answer;
 pub use reach::{Reach, last_index};
 pub use walk::Walk;
 pub use whole::whole_number;

@@ -1,12 +1,14 @@
 // The members of a made pair.
 ghost use Rattle.std.specs.Prelude.{◌≡◌};
-ghost use Rattle.sj_item.specs.Items.{item_value, pull_value, pair_value};
+ghost use Rattle.sj_item.specs.Items.{item_value, pair_value};
+ghost use Rattle.sj_step.specs.Answers.{answer_value};
 ghost use Rattle.sj_step.specs.Reach.{id_item};
 ghost use Rattle.sj_step.specs.Trace.{first, rest};
 ghost use Rattle.sj_step.specs.Walk.{parts_left};
 
+use crate::answer::Answer;
 use crate::whole::whole_number;
-use sj_item::{Item, Pair, PairValue, Pull};
+use sj_item::{Item, Pair, PairValue};
 
 /// A member of a made pair, the next one of a walk.
 #[derive(Clone, Copy)]
@@ -43,24 +45,27 @@ pub(crate) fn id_of(pair: Pair<'_>) -> Item<'_>
 }
 
 impl<'d> Parts<'d> {
-    pub(crate) fn next(&mut self) -> Pull<'d>
-        ensures answers { pull_value result ≡ first (parts_left self.old) }
+    pub(crate) fn next(&mut self, place: &mut Item<'d>) -> Answer
+        ensures answers { answer_value result place.new ≡ first (parts_left self.old) }
         ensures leaves { parts_left self.new ≡ rest (parts_left self.old) }
     {
         match self.part {
             Part::Name => {
                 self.part = Part::Value;
-                Pull::Item(Item::Text(self.pair.name))
+                *place = Item::Text(self.pair.name);
+                Answer::Item
             }
             Part::Value => {
                 self.part = Part::Id;
-                Pull::Item(value_of(self.pair))
+                *place = value_of(self.pair);
+                Answer::Item
             }
             Part::Id => {
                 self.part = Part::Nothing;
-                Pull::Item(id_of(self.pair))
+                *place = id_of(self.pair);
+                Answer::Item
             }
-            Part::Nothing => Pull::End,
+            Part::Nothing => Answer::End,
         }
     }
 }

@@ -33,6 +33,30 @@ impl<'d> Walk<'d> {
         }
     }
 
+    /// Begins anew, on another item, as `start` does.
+    #[tactic(auto, unfolding(crate::specs::Reach::reach))]
+    #[inline(always)]
+    pub fn restart(&mut self, reach: Reach<'d>, item: &Item<'d>, mode: Mode)
+        ensures { walk_left self.new ≡ reach_of (reach_value reach.entry) mode (item_value item.now) }
+    {
+        // The accessors that most paths are made of are begun in place, since a walk is large.
+        if let Item::Node(node) = item {
+            match (reach, node.kind()) {
+                (Reach::Member(key), Kind::Object) => return self.restart_members(key, *node, mode),
+                (Reach::AllElements, Kind::Array) => return self.restart_every(*node),
+                _ => {}
+            }
+        }
+        self.restart_any(reach, *item, mode);
+    }
+
+    #[inline(never)]
+    fn restart_any(&mut self, reach: Reach<'d>, item: Item<'d>, mode: Mode)
+        ensures { walk_left self.new ≡ reach_of (reach_value reach.entry) mode (item_value item.entry) }
+    {
+        *self = Walk::start(reach, item, mode);
+    }
+
     #[tactic(auto, unfolding(crate::specs::Reach::reach))]
     fn on_node(reach: Reach<'d>, node: NodeRef<'d>, mode: Mode) -> Walk<'d>
         ensures { walk_left result ≡ reach_of (reach_value reach.entry) mode (node_value (node_id node.entry) (node_tree node.entry)) }
@@ -129,6 +153,25 @@ fn has_first(from: i128, to: i128) -> bool
 // The walks over children.
 #[tactic(auto, unfolding(crate::specs::Walk::walk_left))]
 impl<'d> Walk<'d> {
+    #[inline(always)]
+    fn restart_members(&mut self, key: &'d str, node: NodeRef<'d>, mode: Mode)
+        ensures { walk_left self.new ≡ members_under mode key.entry.now (node_value (node_id node.entry) (node_tree node.entry)) }
+    {
+        self.left = Left::Keyed(Members {
+            mode,
+            key,
+            found: false,
+            left: node.children(),
+        });
+    }
+
+    #[inline(always)]
+    fn restart_every(&mut self, node: NodeRef<'d>)
+        ensures { walk_left self.new ≡ every_of (node_value (node_id node.entry) (node_tree node.entry)) }
+    {
+        self.left = Left::Every(node.children());
+    }
+
     fn every(node: NodeRef<'d>) -> Walk<'d>
         ensures { walk_left result ≡ every_of (node_value (node_id node.entry) (node_tree node.entry)) }
     {

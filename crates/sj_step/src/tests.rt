@@ -25,14 +25,8 @@ fn whole_text(alloc: Global, item: Item<'_>) -> Result<String, AllocError> {
 }
 
 // The items and the end of a walk, and how many steps it took.
-fn trail(
-    alloc: Global,
-    reach: Reach<'_>,
-    item: Item<'_>,
-    mode: Mode,
-) -> Result<String, AllocError> {
+fn trail(alloc: Global, walk: &mut Walk<'_>) -> Result<String, AllocError> {
     let mut steps = Steps::new(Tally::new());
-    let mut walk = Walk::start(reach, item, mode);
     let mut trail = String::new(alloc);
     for _ in 0..8 {
         match walk.next(&mut steps) {
@@ -110,7 +104,10 @@ fn expect_trails(
     rows: &[Row],
 ) -> Result<(), AllocError> {
     for (reach, mode, want) in rows {
-        assert_eq!(rt; trail(alloc, *reach, item, *mode)?.as_str(), *want);
+        let mut walk = Walk::start(*reach, item, *mode);
+        assert_eq!(rt; trail(alloc, &mut walk)?.as_str(), *want);
+        walk.restart(*reach, &item, *mode);
+        assert_eq!(rt; trail(alloc, &mut walk)?.as_str(), *want);
     }
     Ok(())
 }

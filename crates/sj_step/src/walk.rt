@@ -1,12 +1,14 @@
 // One accessor on one item, resumable.
 ghost use Rattle.std.specs.Prelude.{◌≡◌, true};
 ghost use Rattle.sj_item.specs.Items.{item_value, pull_value};
+ghost use Rattle.sj_step.specs.Answers.{answer_value};
 ghost use Rattle.sj_step.specs.Reach.{reach_value};
 ghost use Rattle.sj_step.specs.Reach.{reach as reach_of};
 ghost use Rattle.sj_step.specs.Takes.{Takes};
 ghost use Rattle.sj_step.specs.Trace.{stop, fail, only};
 ghost use Rattle.sj_step.specs.Walk.{walk_left, left_of};
 
+use crate::answer::Answer;
 use crate::elements::Elements;
 use crate::members::Members;
 use crate::parts::Parts;
@@ -41,14 +43,25 @@ impl<'d> Walk<'d> {
     pub fn next<L: Ledger>(&mut self, steps: &mut Steps<L>) -> Pull<'d>
         ensures { Takes (walk_left self.old) (pull_value result) (walk_left self.new) steps.old steps.new }
     {
+        let mut place = Item::Null;
+        let answer = self.put_next(steps, &mut place);
+        answer.pull(&place)
+    }
+
+    /// The same, with the item put into a place, which holds anything after an end or a fault.
+    #[inline(always)]
+    pub fn put_next<L: Ledger>(&mut self, steps: &mut Steps<L>, place: &mut Item<'d>) -> Answer
+        ensures { Takes (walk_left self.old) (answer_value result place.new) (walk_left self.new) steps.old steps.new }
+    {
         // Most walks that are asked are at their end: this is told first, before room is made for what the others need.
         if self.is_ended() {
-            return Pull::End;
+            return Answer::End;
         }
-        self.advance(steps)
+        self.advance(steps, place)
     }
 
     #[tactic(auto, unfolding(crate::specs::Walk::walk_left))]
+    #[inline(always)]
     fn is_ended(&self) -> bool
         ensures { result ≡ true → walk_left self.now ≡ stop }
     {
@@ -59,24 +72,28 @@ impl<'d> Walk<'d> {
     }
 
     #[tactic(auto, unfolding(crate::specs::Walk::walk_left))]
-    fn advance<L: Ledger>(&mut self, steps: &mut Steps<L>) -> Pull<'d>
-        ensures { Takes (walk_left self.old) (pull_value result) (walk_left self.new) steps.old steps.new }
+    #[inline(never)]
+    fn advance<L: Ledger>(&mut self, steps: &mut Steps<L>, place: &mut Item<'d>) -> Answer
+        ensures { Takes (walk_left self.old) (answer_value result place.new) (walk_left self.new) steps.old steps.new }
     {
         match &mut self.left {
-            Left::Ended => Pull::End,
-            Left::Failed(state) => Pull::Fault(*state),
+            Left::Ended => Answer::End,
+            Left::Failed(state) => Answer::Fault(*state),
             Left::Single(item) => {
-                let item = *item;
+                *place = *item;
                 self.left = Left::Ended;
-                Pull::Item(item)
+                Answer::Item
             }
             Left::Every(children) => match children.next(steps) {
-                Some(child) => Pull::Item(Item::Node(child.node)),
-                None => Pull::End,
+                Some(child) => {
+                    *place = Item::Node(child.node);
+                    Answer::Item
+                }
+                None => Answer::End,
             },
-            Left::Keyed(members) => members.next(steps),
-            Left::Ranged(elements) => elements.next(steps),
-            Left::Made(parts) => parts.next(),
+            Left::Keyed(members) => members.next(steps, place),
+            Left::Ranged(elements) => elements.next(steps, place),
+            Left::Made(parts) => parts.next(place),
         }
     }
 }

@@ -1,24 +1,25 @@
-use Rattle.std.proofs.Common.{rules, ◌≡◌, ℕ, ◌+◌, ap, ◌∙◌, sym, refl, arith}
+use Rattle.std.specs.Int.{w128}
+use Rattle.std.proofs.Common.{rules, to_z-of_z, SFits, ◌≡◌, ℕ, ◌+◌, ap, ◌∙◌, sym, refl, arith}
 use Rattle.sj_path.specs.Nodes.{expr_nodes, sub_nodes, subs_nodes, pred_nodes}
 use Rattle.sj_item.specs.Items.{pull_value}
 use Rattle.sj_step.specs.Trace.{count}
 use Rattle.sj_cursor.specs.Left.{core, left, doing, doing_on, doing_nodes, operand_core, operand_left, each_core, binary_core, comparison_core, parts_core, bounds_core, doing_opening, done}
 use Rattle.sj_cursor.specs.declared.cells.Opening.TheVariants.{Unwrapped}
-use Rattle.sj_cursor.proofs.Draws.{draws_after, draws_takes, join_answer, join_over, nears_none, loop_answer, turn_near, turn_item, turn_answer, count_draws, nears_trans}
+use Rattle.sj_cursor.proofs.Draws.{draws_after, draws_takes, join_answer, join_over, nears_none, loop_answer, turn_near, turn_item, turn_begun, turn_over, turn_answer, count_draws, nears_trans}
 use Rattle.sj_cursor.proofs.Pulls.{no_end, no_item}
 use Rattle.sj_cursor.proofs.Looks.{looking_from, looking_on, looking_enough, looking_end, looking_fault, exists_decides, single_answer, single_price, end_answer, end_price}
 use Rattle.sj_cursor.proofs.Pairs.{row_from, row_item, row_stop, row_end, row_fault, rows_from, rows_item, rows_stop, rows_end, rows_fault}
 use Rattle.sj_cursor.proofs.Decided.{compare_early, compare_all, one_early, one_all}
 use Rattle.sj_cursor.proofs.Doings.{as_it_is, doing_below, sub_some, subs_some}
 use Rattle.sj_cursor.proofs.Parts.{element_goes, range_bad, range_goes, binary_bad, binary_goes}
-use Rattle.sj_cursor.proofs.Connectives.{and_false, and_other, or_true, or_other, not_decides, unknown_decides, filter_keeps}
+use Rattle.sj_cursor.proofs.Connectives.{and_false, and_other, or_true, or_other, not_decides, unknown_decides, filter_draws}
 use Rattle.sj_cursor.proofs.cells.+next.Goals as goal
 
 -- ---- the items of an expression, opened
 
 pub Operand::next-returns-in_default : goal.Operand::next-returns-in_default
 Operand::next-returns-in_default g t c = record {
-  answers = loop_answer _ _ _ _ _ _ _ _ c.items.invariant.near (no_end _ c.in_default.not-End) (draws_takes _ _ _ _ _ c.next.ensures);
+  answers = loop_answer _ _ _ _ _ _ _ _ c.items.invariant.near (no_end _ _ c.in_default.not-End) (draws_takes _ _ _ _ _ c.put_next.ensures);
   same = c.items.invariant.same;
 }
 
@@ -27,18 +28,18 @@ Operand::next-returns-then-not-may_open-clause-answers g t c =
     turn_item _ _ _ _ _ _ _ _ _ _ _ c.items.invariant.near (draws_takes _ _ _ _ _ c.in-End.ensures) (rw c.deref_mut.ensures.value at c.in-Item.ensures.answers) (c.may_open.ensures c.if-not-may_open.true _)
 
 pub Operand::next-items-smaller : goal.Operand::next-items-smaller
-Operand::next-items-smaller g t c = count_draws _ _ _ _ _ (rw c.deref_mut.ensures.value at c.in-Item.ensures.answers)
+Operand::next-items-smaller g t c = rw c.reopen.ensures.same (count_draws _ _ _ _ _ (rw c.deref_mut.ensures.value at c.in-Item.ensures.answers))
 
 pub Operand::next-items-preserved : goal.Operand::next-items-preserved
-Operand::next-items-preserved g t c = record {
+Operand::next-items-preserved g t c = rw c.reopen.ensures.same (record {
   same = c.in-Item.ensures.same ∙ ap core c.deref_mut.ensures.value ∙ c.items.invariant.same;
-  near = rw c.open-self.ensures (turn_near _ _ _ _ _ _ _ _ _ _ _ _ _ c.items.invariant.near (draws_takes _ _ _ _ _ c.in-End.ensures) (rw c.deref_mut.ensures.value at c.in-Item.ensures.answers) (nears_none _ _));
-}
+  near = rw c.reopen.ensures.opened (turn_near _ _ _ _ _ _ _ _ _ _ _ _ _ c.items.invariant.near (draws_takes _ _ _ _ _ c.in-End.ensures) (rw c.deref_mut.ensures.value at c.in-Item.ensures.answers) (nears_none _ _));
+})
 
 pub Operand::next-returns-in_default-next : goal.Operand::next-returns-in_default-next
 Operand::next-returns-in_default-next g t c = record {
-  answers = turn_answer _ _ _ _ _ _ _ _ _ _ _ c.items.invariant.near (draws_takes _ _ _ _ _ c.in-End.ensures) (no_item _ c.in_default-next.not-Item) (rw c.deref_mut.ensures.value at c.next-in-items.ensures.answers);
-  same = c.next-in-items.ensures.same ∙ ap core c.deref_mut.ensures.value ∙ c.items.invariant.same;
+  answers = turn_answer _ _ _ _ _ _ _ _ _ _ _ c.items.invariant.near (draws_takes _ _ _ _ _ c.in-End.ensures) (no_item _ _ c.in_default-next.not-Item) (rw c.deref_mut.ensures.value at c.next.ensures.answers);
+  same = c.next.ensures.same ∙ ap core c.deref_mut.ensures.value ∙ c.items.invariant.same;
 }
 
 -- ---- going through all items
@@ -158,11 +159,11 @@ Comparison::holds-returns-clause-decides g t c =
 
 pub Start::holds-returns-then-halts-clause-decides : goal.Start::holds-returns-then-halts-clause-decides
 Start::holds-returns-then-halts-clause-decides g t c =
-    rw (← c.initial_item.ensures) (one_early _ _ _ _ _ _ _ _ (rw c.is_early-early.ensures at c.see_row-row.ensures.seen) (rw c.is_early-early.ensures at (sym c.halts.ensures ∙ c.if-halts.true)))
+    rw (← c.initial_item-initial.ensures) (one_early _ _ _ _ _ _ _ _ (rw c.is_early-early.ensures at c.see_row-row.ensures.seen) (rw c.is_early-early.ensures at (sym c.halts.ensures ∙ c.if-halts.true)))
 
 pub Start::holds-returns-clause-decides : goal.Start::holds-returns-clause-decides
 Start::holds-returns-clause-decides g t c =
-    rw (c.truth.ensures, ← c.initial_item.ensures) (one_all _ _ _ _ _ _ _ _ (rw c.is_early-early.ensures at c.see_row-row.ensures.seen) (rw c.is_early-early.ensures at (sym c.halts.ensures ∙ c.if-halts.false)))
+    rw (c.truth.ensures, ← c.initial_item-initial.ensures) (one_all _ _ _ _ _ _ _ _ (rw c.is_early-early.ensures at c.see_row-row.ensures.seen) (rw c.is_early-early.ensures at (sym c.halts.ensures ∙ c.if-halts.false)))
 
 -- ---- connectives and filters
 
@@ -192,29 +193,38 @@ Test::holds-returns-in-Not-clause-decides g t c = rw (c.in-Not.is, c.not.ensures
 pub Test::holds-returns-in-IsUnknown-clause-decides : goal.Test::holds-returns-in-IsUnknown-clause-decides
 Test::holds-returns-in-IsUnknown-clause-decides g t c = rw (c.in-IsUnknown.is, c.is_unknown.ensures) (unknown_decides _ _ _ _ (rw c.deref_mut-in-IsUnknown.ensures.value at c.holds-in-IsUnknown.ensures.decides))
 
-pub Filter::start-returns-clause-starts : goal.Filter::start-returns-clause-starts
-Filter::start-returns-clause-starts g t c = rw c.kept_item-self.ensures (filter_keeps _ _ _ _ _ (rw (c.at_item-inner.ensures, c.deref_mut.ensures.value) at c.holds-truth.ensures.decides))
+pub Filter::begin-returns-clause-answers : goal.Filter::begin-returns-clause-answers
+Filter::begin-returns-clause-answers g t c =
+    let fits : SFits w128 c.args.env.now.last = search rules in
+    rw c.kept.ensures (filter_draws _ _ _ _ _ (simp to_z-of_z at (rw c.deref_mut.ensures.value at c.holds.ensures.decides)))
 
 -- ---- what is done with each item
 
 pub Each::next-returns-in_default : goal.Each::next-returns-in_default
 Each::next-returns-in_default g t c = rw c.next.ensures.same (record {
-  answers = loop_answer _ _ _ _ _ _ _ _ c.items.invariant.near (no_end _ c.in_default.not-End) c.next.ensures.answers;
+  answers = loop_answer _ _ _ _ _ _ _ _ c.items.invariant.near (no_end _ _ c.in_default.not-End) c.next.ensures.answers;
   same = c.items.invariant.same;
 })
 
+pub Each::next-returns-in_default-begin : goal.Each::next-returns-in_default-begin
+Each::next-returns-in_default-begin g t c = rw (c.begin.ensures.same, c.in-End.ensures.same) (record {
+  answers = turn_begun _ _ _ _ _ _ _ _ _ _ _ _ _ _ c.items.invariant.near c.in-End.ensures.answers (rw (c.opening.ensures, c.in-End.ensures.same) at c.in-Item.ensures.answers)
+      (no_end _ _ c.in_default-begin.not-End) (rw c.in-End.ensures.same at c.begin.ensures.answers);
+  same = ap (doing_on (doing c.items.self.deed)) c.in-Item.ensures.same ∙ c.items.invariant.same;
+})
+
 pub Each::next-items-smaller : goal.Each::next-items-smaller
-Each::next-items-smaller g t c = rw (c.start.ensures.same, c.in-End.ensures.same) (count_draws _ _ _ _ _ (rw (c.opening.ensures, c.in-End.ensures.same) at c.in-Item.ensures.answers))
+Each::next-items-smaller g t c = rw (c.in-End-begin.ensures.same, c.in-End.ensures.same) (count_draws _ _ _ _ _ (rw (c.opening.ensures, c.in-End.ensures.same) at c.in-Item.ensures.answers))
 
 pub Each::next-items-preserved : goal.Each::next-items-preserved
-Each::next-items-preserved g t c = rw (c.start.ensures.same, c.in-End.ensures.same) (record {
+Each::next-items-preserved g t c = rw (c.in-End-begin.ensures.same, c.in-End.ensures.same) (record {
   same = ap (doing_on (doing c.items.self.deed)) c.in-Item.ensures.same ∙ c.items.invariant.same;
-  near = turn_near _ _ _ _ _ _ _ _ _ _ _ _ _ c.items.invariant.near c.in-End.ensures.answers (rw (c.opening.ensures, c.in-End.ensures.same) at c.in-Item.ensures.answers) (rw c.in-End.ensures.same at c.start.ensures.starts);
+  near = turn_over _ _ _ _ _ _ _ _ _ _ _ _ _ c.items.invariant.near c.in-End.ensures.answers (rw (c.opening.ensures, c.in-End.ensures.same) at c.in-Item.ensures.answers) (rw c.in-End.ensures.same at c.in-End-begin.ensures.answers);
 })
 
 pub Each::next-returns-in_default-next : goal.Each::next-returns-in_default-next
 Each::next-returns-in_default-next g t c = rw c.in-End.ensures.same (record {
-  answers = turn_answer _ _ _ _ _ _ _ _ _ _ _ c.items.invariant.near c.in-End.ensures.answers (no_item _ c.in_default-next.not-Item) (rw (c.opening.ensures, c.in-End.ensures.same) at c.next-in-items.ensures.answers);
+  answers = turn_answer _ _ _ _ _ _ _ _ _ _ _ c.items.invariant.near c.in-End.ensures.answers (no_item _ _ c.in_default-next.not-Item) (rw (c.opening.ensures, c.in-End.ensures.same) at c.next-in-items.ensures.answers);
   same = ap (doing_on (doing c.items.self.deed)) c.next-in-items.ensures.same ∙ c.items.invariant.same;
 })
 
@@ -225,12 +235,12 @@ MoreParts::next-returns-in-End-clause-answers g t c = join_over _ _ _ _ _ _ _ _ 
 
 pub MoreParts::next-returns-in_default : goal.MoreParts::next-returns-in_default
 MoreParts::next-returns-in_default g t c = record {
-  answers = join_answer _ _ _ _ _ _ (no_end _ c.in_default.not-End) c.next.ensures.answers;
+  answers = join_answer _ _ _ _ _ _ (no_end _ _ c.in_default.not-End) c.next.ensures.answers;
   same = ap (λ k. Rattle.sj_grammar.specs.Tree.More k (parts_core c.args.self.now.others.value)) c.next.ensures.same;
 }
 
 pub Part::next-returns-in-Unasked-clause-answers : goal.Part::next-returns-in-Unasked-clause-answers
-Part::next-returns-in-Unasked-clause-answers g t c = rw c.in-Unasked.is (draws_after _ _ _ _ _ _ _ c.start-walk.ensures.starts (draws_takes _ _ _ _ _ c.next-answer.ensures))
+Part::next-returns-in-Unasked-clause-answers g t c = rw c.in-Unasked.is (draws_after _ _ _ _ _ _ _ c.start-walk.ensures.starts (draws_takes _ _ _ _ _ c.put_next-answer.ensures))
 
 pub Operand::element-returns-clause-starts : goal.Operand::element-returns-clause-starts
 Operand::element-returns-clause-starts g t c = rw c.element_at.ensures (element_goes _ _ _ _ _ _ (rw (as_it_is _ _) at c.index-index.ensures.answers) (rw (as_it_is _ _) at c.index-index.ensures.costs))
@@ -250,7 +260,7 @@ pub Binary::start-returns-in-Err-clause-starts : goal.Binary::start-returns-in-E
 Binary::start-returns-in-Err-clause-starts g t c = rw c.of_fault.ensures (binary_bad _ _ _ _ _ _ _ c.in-Err.ensures.answers c.in-Err.ensures.costs)
 
 pub Binary::next-returns-in-Unasked-clause-answers : goal.Binary::next-returns-in-Unasked-clause-answers
-Binary::next-returns-in-Unasked-clause-answers g t c = rw c.in-Unasked.is (draws_after _ _ _ _ _ _ _ c.start-walk.ensures.starts (draws_takes _ _ _ _ _ c.next-answer.ensures))
+Binary::next-returns-in-Unasked-clause-answers g t c = rw c.in-Unasked.is (draws_after _ _ _ _ _ _ _ c.start-walk.ensures.starts (draws_takes _ _ _ _ _ c.put_next-answer.ensures))
 
 pub MoreParts::next-next-requires : goal.MoreParts::next-next-requires
 MoreParts::next-next-requires g t c = λ κs l. (omega (arith, subs_some (parts_core c.args.self.now.others.value)), search rules)

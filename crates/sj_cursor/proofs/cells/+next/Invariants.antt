@@ -43,11 +43,14 @@ decreases-Each::next g l = 16 * expr_nodes (each_core l.self.now) + 1
 abbrev pub decreases-Deed::next : goal.decreases-Deed::next
 decreases-Deed::next g l = 16 * doing_nodes (doing l.self.now) + 14
 
-abbrev pub decreases-Deed::start : goal.decreases-Deed::start
-decreases-Deed::start g l = 16 * doing_nodes (doing l.self.now) + 14
+abbrev pub decreases-Deed::begin : goal.decreases-Deed::begin
+decreases-Deed::begin g l = 16 * doing_nodes (doing l.self.now) + 14
 
-abbrev pub decreases-Filter::start : goal.decreases-Filter::start
-decreases-Filter::start g l = 16 * pred_nodes (filter_core l.self.now) + 11
+abbrev pub decreases-Filter::begin : goal.decreases-Filter::begin
+decreases-Filter::begin g l = 16 * pred_nodes (filter_core l.self.now) + 11
+
+abbrev pub decreases-Elements::begin : goal.decreases-Elements::begin
+decreases-Elements::begin g l = 16 * subs_nodes (elements_core l.self.now) + 11
 
 abbrev pub decreases-Elements::next : goal.decreases-Elements::next
 decreases-Elements::next g l = 16 * subs_nodes (elements_core l.self.now) + 10

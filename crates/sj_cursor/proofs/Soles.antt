@@ -1,0 +1,52 @@
+-- An operand that is one item, and no array.
+use Rattle.std.specs.Prelude.{if◌then◌else◌}
+use Rattle.std.proofs.Common.{◌≡◌, ◌≤◌, ℕ, Bool, true, false, ◌||◌, ◌&&◌, ap, ◌∙◌, refl, arith}
+use Rattle.sj_base.specs.Outside.{raised}
+use Rattle.sj_grammar.specs.declared.tree.Mode.{Mode}
+use Rattle.sj_item.specs.Items.{ItemValue}
+use Rattle.sj_step.specs.Trace.{Trace, only, each}
+use Rattle.sj_step.specs.Reach.{unwrap}
+use Rattle.sj_cursor.specs.Cells.{source_value, source_expr}
+use Rattle.sj_cursor.specs.Comparisons.{is_true}
+use Rattle.sj_cursor.specs.Left.{operand_whole}
+use Rattle.sj_cursor.specs.Meaning.{Env, meaning}
+use Rattle.sj_cursor.specs.Rows.{ItemTruth, row_true, row_doubt, row_cost}
+use Rattle.sj_cursor.specs.RowsSeen.{RowSeen}
+use Rattle.sj_cursor.specs.Verdicts.{is_unknown}
+use Rattle.sj_cursor.specs.declared.cells.Opening.TheVariants.{Unwrapped}
+use Rattle.sj_cursor.specs.declared.cells.Source.{Source}
+use Rattle.sj_cursor.specs.declared.cells.Source.TheVariants as sources
+
+source_meaning : (s : Source) (env : Env) → meaning (source_expr s) env ≡ only (source_value s env)
+source_meaning sources.Root env = refl
+source_meaning sources.Context env = refl
+source_meaning sources.Last env = refl
+source_meaning (sources.Lit l) env = refl
+source_meaning (sources.Var name) env = refl
+
+each_only : (x : ItemValue) (g : ItemValue → Trace) → g x ≡ only x → each (only x) g ≡ only x
+each_only x g e = rw e refl
+
+or_swap : (b : Bool) → (false || b) ≡ (b || false)
+or_swap true = refl
+or_swap false = refl
+
+row_one : (early : Bool) (test : ItemTruth) (x : ItemValue) (found doubt : Bool) (a : ℕ)
+    → found ≡ (false || is_true (test x)) → doubt ≡ (false || is_unknown (test x)) → RowSeen early test (only x) found doubt a a
+row_one early test x found doubt a f d = record {
+  finds = f ∙ or_swap (is_true (test x));
+  doubts = λ _. d ∙ or_swap (is_unknown (test x));
+  costs = costs (early && is_true (test x));
+}
+  where
+    costs : (b : Bool) → a ≤ raised a (if b then 0 else 0)
+    costs true = omega arith
+    costs false = omega arith
+
+pub one_seen : (s : Source) (env : Env) (x : ItemValue) (early : Bool) (test : ItemTruth) (found doubt : Bool) (a : ℕ)
+    → x ≡ source_value s env → ((mode : Mode) → unwrap mode x ≡ only x) → found ≡ (false || is_true (test x)) → doubt ≡ (false || is_unknown (test x))
+    → RowSeen early test (operand_whole Unwrapped (source_expr s) env) found doubt a a
+one_seen s env x early test found doubt a e flat f d =
+    let whole : operand_whole Unwrapped (source_expr s) env ≡ only x =
+    ap (λ t. each t (unwrap env.mode)) (source_meaning s env) ∙ rw (← e) (each_only x (unwrap env.mode) (flat env.mode)) in
+    rw whole (row_one early test x found doubt a f d)

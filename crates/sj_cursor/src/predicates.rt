@@ -1,0 +1,241 @@
+// The truth of a predicate, with the pairs of a comparison.
+ghost use Rattle.std.specs.Prelude.{◌≡◌, ℕ, Bool, IfSome};
+ghost use Rattle.sj_item.specs.Pairs.{items_compare};
+ghost use Rattle.sj_cursor.specs.Cells.{env_value, beside_truth};
+ghost use Rattle.sj_cursor.specs.Decides.{Decides};
+ghost use Rattle.sj_cursor.specs.Left as left_of;
+ghost use Rattle.sj_cursor.specs.Left.{operand_whole, operand_core};
+ghost use Rattle.sj_cursor.specs.Meaning.{verdict};
+ghost use Rattle.sj_cursor.specs.RowsSeen.{RowSeen, RowsSeen};
+ghost use Rattle.sj_cursor.specs.Asked.{Asked};
+ghost use Rattle.sj_grammar.specs.Tree.{Exists as exists_of};
+
+use crate::cells::{Both, Cell, Comparison, Opening, Operand, Start, Test};
+use crate::env::Env;
+use crate::look::Limit;
+use crate::next::is_array;
+use crate::one::initial_item;
+use crate::row::{Beside, Row, Rows, is_early};
+use sj_base::{Ledger, Steps};
+use sj_item::{Item, Truth};
+use sj_step::Answer;
+
+impl<'d> Test<'d> {
+    #[cycle(next)]
+    pub(crate) fn holds<L: Ledger>(&mut self, env: &Env<'_, 'd>, steps: &mut Steps<L>) -> Truth
+        ensures decides { Decides (verdict (left_of.test_core self.old) (env_value env.now)) result steps.old steps.new }
+        ensures same { left_of.test_core self.new ≡ left_of.test_core self.old }
+    {
+        match self {
+            Test::Compare(comparison) => comparison.holds(env, steps),
+            Test::And(both) => both.and(env, steps),
+            Test::Or(both) => both.or(env, steps),
+            Test::Not(test) => test.holds(env, steps).not(),
+            Test::IsUnknown(test) => is_unknown(test.holds(env, steps)),
+            Test::Exists(operand) => operand.exists(env, steps),
+            Test::StartsWith(start) => start.holds(env, steps),
+        }
+    }
+}
+
+fn is_unknown(truth: Truth) -> Truth
+    ensures { result ≡ left_of.unknown_truth truth }
+{
+    match truth {
+        Truth::Unknown => Truth::True,
+        Truth::True | Truth::False => Truth::False,
+    }
+}
+
+impl<'d> Operand<'d> {
+    #[cycle(next)]
+    pub(crate) fn exists<L: Ledger>(&mut self, env: &Env<'_, 'd>, steps: &mut Steps<L>) -> Truth
+        ensures decides { Decides (verdict (exists_of (operand_core self.old)) (env_value env.now)) result steps.old steps.new }
+        ensures same { operand_core self.new ≡ operand_core self.old }
+    {
+        self.look(Opening::AsItIs, Limit::of_exists(env.mode), env, steps)
+            .exists()
+    }
+}
+
+impl<'d> Operand<'d> {
+    // The pair of its one item with what stands beside it, where it is a literal, a variable or the like and no array: no walk is needed.
+    #[tactic(auto, using(crate::proofs::Soles::one_seen))]
+    pub(crate) fn see_one(&self, beside: Beside<'_, 'd>, env: &Env<'_, 'd>) -> Option<Row>
+        ensures { IfSome result (λ row. (early : Bool) (steps : ℕ) → RowSeen early (beside_truth beside.entry) (operand_whole Opening.Unwrapped (operand_core self.now) (env_value env.now)) row.found row.doubt steps steps) }
+    {
+        let Cell::One(one) = &*self.cell else {
+            return None;
+        };
+        let mut place = Item::Null;
+        one.source.put(env, &mut place);
+        if is_array(&place) {
+            return None;
+        }
+        let row = Row {
+            found: false,
+            doubt: false,
+        };
+        Some(row.saw(beside.truth(&place)))
+    }
+
+    // The pairs of its items with what stands beside them; with `early`, up to the first true one.
+    #[cycle(next)]
+    pub(crate) fn see_row<L: Ledger>(
+        &mut self,
+        early: bool,
+        beside: Beside<'_, 'd>,
+        env: &Env<'_, 'd>,
+        steps: &mut Steps<L>,
+    ) -> Row
+        ensures seen { RowSeen early (beside_truth beside.entry) (operand_whole Opening.Unwrapped (operand_core self.old) (env_value env.now)) result.found result.doubt steps.old steps.new }
+        ensures same { operand_core self.new ≡ operand_core self.old }
+    {
+        if let Some(row) = self.see_one(beside, env) {
+            return row;
+        }
+        self.rewind();
+        let mut row = Row {
+            found: false,
+            doubt: false,
+        };
+        let mut place = Item::Null;
+        'row: loop {
+            match self.next(Opening::Unwrapped, env, steps, &mut place) {
+                Answer::Item => {
+                    row = row.saw(beside.truth(&place));
+                    if row.halts(early) {
+                        return row;
+                    }
+                }
+                Answer::End => return row,
+                Answer::Fault(_) => {
+                    return Row {
+                        found: row.found,
+                        doubt: true,
+                    };
+                }
+            }
+        }
+    }
+}
+
+impl<'d> Both<'d> {
+    // The right side is not asked where the left one is false.
+    #[cycle(next)]
+    pub(crate) fn and<L: Ledger>(&mut self, env: &Env<'_, 'd>, steps: &mut Steps<L>) -> Truth
+        ensures decides { Decides (verdict (left_of.both_and self.old) (env_value env.now)) result steps.old steps.new }
+        ensures same { left_of.both_and self.new ≡ left_of.both_and self.old }
+    {
+        let left = self.left.holds(env, steps);
+        match left {
+            Truth::False => Truth::False,
+            _ => left.and(self.right.holds(env, steps)),
+        }
+    }
+
+    // The right side is not asked where the left one is true.
+    #[cycle(next)]
+    pub(crate) fn or<L: Ledger>(&mut self, env: &Env<'_, 'd>, steps: &mut Steps<L>) -> Truth
+        ensures decides { Decides (verdict (left_of.both_or self.old) (env_value env.now)) result steps.old steps.new }
+        ensures same { left_of.both_or self.new ≡ left_of.both_or self.old }
+    {
+        let left = self.left.holds(env, steps);
+        match left {
+            Truth::True => Truth::True,
+            _ => left.or(self.right.holds(env, steps)),
+        }
+    }
+}
+
+impl<'d> Start<'d> {
+    #[cycle(next)]
+    pub(crate) fn holds<L: Ledger>(&mut self, env: &Env<'_, 'd>, steps: &mut Steps<L>) -> Truth
+        ensures decides { Decides (verdict (left_of.start_core self.old) (env_value env.now)) result steps.old steps.new }
+        ensures same { left_of.start_core self.new ≡ left_of.start_core self.old }
+    {
+        let early = is_early(env.mode);
+        let initial = initial_item(self.initial, env);
+        let beside = Beside::Initial(&initial);
+        let row = self.text.see_row(early, beside, env, steps);
+        if row.halts(early) {
+            return Truth::True;
+        }
+        row.truth()
+    }
+}
+
+impl<'d> Comparison<'d> {
+    // All pairs; with `early`, up to the first true one.
+    #[cycle(next)]
+    pub(crate) fn see_rows<L: Ledger>(
+        &mut self,
+        early: bool,
+        env: &Env<'_, 'd>,
+        steps: &mut Steps<L>,
+    ) -> Rows
+        ensures seen { RowsSeen early (items_compare self.old.op) (operand_whole Opening.Unwrapped (operand_core self.old.left) (env_value env.now)) (operand_whole Opening.Unwrapped (operand_core self.old.right) (env_value env.now)) result.found result.doubt result.some steps.old steps.new }
+        ensures same { left_of.comparison_core self.new ≡ left_of.comparison_core self.old }
+    {
+        self.left.rewind();
+        let mut rows = Rows {
+            found: false,
+            doubt: false,
+            some: false,
+        };
+        let mut place = Item::Null;
+        'rows: loop {
+            match self.left.next(Opening::Unwrapped, env, steps, &mut place) {
+                Answer::Item => {
+                    let beside = Beside::Left(self.op, &place);
+                    rows = rows.saw(self.right.see_row(early, beside, env, steps));
+                    if rows.halts(early) {
+                        return rows;
+                    }
+                }
+                Answer::End => return rows,
+                Answer::Fault(_) => {
+                    return Rows {
+                        found: rows.found,
+                        doubt: true,
+                        some: rows.some,
+                    };
+                }
+            }
+        }
+    }
+
+    // Whether the right operand ends in a fault, asked where the left one gave no item.
+    #[cycle(next)]
+    pub(crate) fn asks_right<L: Ledger>(
+        &mut self,
+        some: bool,
+        env: &Env<'_, 'd>,
+        steps: &mut Steps<L>,
+    ) -> bool
+        ensures asked { Asked some (operand_whole Opening.Unwrapped (operand_core self.old.right) (env_value env.now)) result steps.old steps.new }
+        ensures same { left_of.comparison_core self.new ≡ left_of.comparison_core self.old }
+    {
+        if some {
+            return false;
+        }
+        self.right
+            .look(Opening::Unwrapped, Limit::End, env, steps)
+            .fault
+            .is_some()
+    }
+
+    #[cycle(next)]
+    pub(crate) fn holds<L: Ledger>(&mut self, env: &Env<'_, 'd>, steps: &mut Steps<L>) -> Truth
+        ensures decides { Decides (verdict (left_of.comparison_core self.old) (env_value env.now)) result steps.old steps.new }
+        ensures same { left_of.comparison_core self.new ≡ left_of.comparison_core self.old }
+    {
+        let early = is_early(env.mode);
+        let rows = self.see_rows(early, env, steps);
+        if rows.halts(early) {
+            return Truth::True;
+        }
+        let faulty = self.asks_right(rows.some, env, steps);
+        rows.truth(faulty)
+    }
+}
