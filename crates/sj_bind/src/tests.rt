@@ -1,3 +1,6 @@
+mod statements;
+mod texts;
+
 ghost use Rattle.std.specs.Prelude.{◌≡◌, All, IfOk};
 ghost use Rattle.sj_statement.specs.Tree as t;
 ghost use Rattle.sj_sql.specs.View.{plain_of, statement_of, svalue_of};

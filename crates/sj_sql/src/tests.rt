@@ -1,4 +1,10 @@
+mod rules;
+mod same;
+mod spellings;
+mod trees;
+
 use crate::{SMembers, SValue, SValues, Seq, Statement, parse_file};
+use rules::{ACCEPTED, FREE, MALFORMED, REFUSED, RESERVED};
 use sj_path::Literal;
 use std::alloc::Global;
 use std::test::Fail;
@@ -111,52 +117,44 @@ fn files(rt: HostRuntime) -> Result<(), Fail> {
 }
 
 #[test]
+fn statements_by_rule(rt: HostRuntime) -> Result<(), Fail> {
+    for (lines, want) in [(ACCEPTED, "1"), (MALFORMED, "0, then 1: syntax error")] {
+        for line in lines.lines() {
+            if line.strip_prefix("# ").is_none() {
+                let found = answer_of(rt.alloc(), line.as_bytes())?;
+                assert_eq!(rt; found.as_str(), want, "{line}");
+            }
+        }
+    }
+    Ok(())
+}
+
+#[test]
+fn reserved_words_are_names_in_quotation_marks(rt: HostRuntime) -> Result<(), Fail> {
+    for (words, want) in [(RESERVED, "0, then 1: syntax error"), (FREE, "1")] {
+        for word in words.split_whitespace() {
+            let plain = format!(in rt.alloc(); "SELECT 1 AS {word};")?;
+            let found = answer_of(rt.alloc(), plain.as_bytes())?;
+            assert_eq!(rt; found.as_str(), want, "{word}");
+            let quoted = format!(in rt.alloc(); "SELECT 1 AS \"{word}\";")?;
+            let found = answer_of(rt.alloc(), quoted.as_bytes())?;
+            assert_eq!(rt; found.as_str(), "1", "{word}");
+        }
+    }
+    Ok(())
+}
+
+#[test]
 fn one_statement_is_refused_for_the_first_reason(rt: HostRuntime) -> Result<(), Fail> {
-    let table = [
-        ("SELECT SELECT #;", "lexical error"),
-        ("SELECT JSON_VALUE(doc, '$.') 1;", "syntax error"),
-        (
-            "SELECT JSON_VALUE(doc, '$' RETURNING DATE) 1;",
-            "syntax error",
-        ),
-        (
-            "SELECT JSON_VALUE(doc, '$' RETURNING DATE), JSON_VALUE(doc, '$.');",
-            "path: syntax error",
-        ),
-        (
-            "SELECT JSON_VALUE(doc, '$.'), JSON_VALUE(doc, '#');",
-            "path: syntax error",
-        ),
-        (
-            "SELECT JSON_VALUE(doc, '#'), JSON_VALUE(doc, '$.');",
-            "path: lexical error",
-        ),
-        ("SELECT JSON_VALUE(doc, '@');", "path: misplaced @ or last"),
-        (
-            "SELECT JSON_EXISTS(doc, '$ ? (@ like_regex \"a\")');",
-            "unsupported like_regex",
-        ),
-        (
-            "SELECT JSON_VALUE(doc FORMAT JSON ENCODING UTF16, '$.double()' RETURNING DATE);",
-            "unsupported encoding",
-        ),
-        (
-            "SELECT JSON_VALUE(doc, '$.double()' RETURNING DATE);",
-            "unsupported double",
-        ),
-        (
-            "SELECT JSON_VALUE(doc, '$' RETURNING REAL), JSON_VALUE(doc, '$' RETURNING DATE);",
-            "unsupported approximate type",
-        ),
-        (
-            "SELECT a FROM JSON_TABLE(doc, '$' COLUMNS (a DATE PATH '$.', NESTED '#' COLUMNS (b INT)));",
-            "path: syntax error",
-        ),
-    ];
-    for (file, kind) in table {
+    for group in REFUSED.split("\n\n") {
+        let Some((kind, lines)) = group.split_once('\n') else {
+            return Err(Fail::from("a kind alone"));
+        };
         let want = format!(in rt.alloc(); "0, then 1: {kind}")?;
-        let found = answer_of(rt.alloc(), file.as_bytes())?;
-        assert_eq!(rt; found.as_str(), want.as_str(), "at {file}");
+        for line in lines.lines() {
+            let found = answer_of(rt.alloc(), line.as_bytes())?;
+            assert_eq!(rt; found.as_str(), want.as_str(), "{line}");
+        }
     }
     Ok(())
 }
@@ -214,15 +212,44 @@ fn repeated(
 #[test]
 fn limits_and_long_files(rt: HostRuntime) -> Result<(), Fail> {
     let refused = "0, then 1: syntax error";
-    let table_with_plan = "SELECT * FROM JSON_TABLE(doc, '$' AS p COLUMNS (a INT) PLAN (p OUTER (a";
-    let table = [
+    let exists = "SELECT JSON_EXISTS(doc, '";
+    let table = "SELECT * FROM JSON_TABLE(doc, '$' COLUMNS (";
+    let plan = "SELECT * FROM JSON_TABLE(doc, '$' COLUMNS (a INT) PLAN (x";
+    let cases = [
         // parentheses that are open at once
         ("SELECT ", ("JSON_ARRAY(", ")"), 64, ("1", ";"), "1"),
         ("SELECT ", ("JSON_ARRAY(", ")"), 65, ("1", ";"), refused),
         ("SELECT 1", (", JSON_ARRAY()", ""), 100, ("", ";"), "1"),
+        (
+            table,
+            ("NESTED '$' COLUMNS (", ")"),
+            62,
+            ("a INT", "));"),
+            "1",
+        ),
+        (
+            table,
+            ("NESTED '$' COLUMNS (", ")"),
+            63,
+            ("a INT", "));"),
+            refused,
+        ),
+        (plan, (" OUTER (x", ")"), 62, ("", "));"), "1"),
+        (plan, (" OUTER (x", ")"), 63, ("", "));"), refused),
+        // parentheses of a path
+        (exists, ("(", ")"), 64, ("$", "');"), "1"),
+        (
+            exists,
+            ("(", ")"),
+            65,
+            ("$", "');"),
+            "0, then 1: path: too deep",
+        ),
         // operators of a plan
-        (table_with_plan, (" UNION a", ""), 63, ("", ")));"), "1"),
-        (table_with_plan, (" UNION a", ""), 64, ("", ")));"), refused),
+        (plan, (" UNION x", ""), 63, ("", "));"), "1"),
+        (plan, (" UNION x", ""), 64, ("", "));"), refused),
+        (plan, (" CROSS (x UNION y)", ""), 31, ("", "));"), "1"),
+        (plan, (" CROSS (x UNION y)", ""), 32, ("", "));"), refused),
         // many parts
         ("SELECT 1", (",1", ""), 50_000, ("", ";"), "1"),
         ("", ("1 ", ""), 50_000, ("", ""), refused),
@@ -237,7 +264,7 @@ fn limits_and_long_files(rt: HostRuntime) -> Result<(), Fail> {
             "10000, then 10001: syntax error",
         ),
     ];
-    for (front, parts, count, behind, want) in table {
+    for (front, parts, count, behind, want) in cases {
         let file = repeated(rt.alloc(), front, parts, count, behind)?;
         let found = answer_of(rt.alloc(), file.as_bytes())?;
         assert_eq!(rt; found.as_str(), want, "at {front} with {count}");
