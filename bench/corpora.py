@@ -96,6 +96,16 @@ def escapes_alone(values, number):
     return begun + "\\u0000" * ((LONGEST - len(begun) - 2) // 6) + '"}'
 
 
+def order(values, number):
+    """A small order with two lines, each of 1 to 4 pieces. It needs numbers, and is for the benchmark of a filter."""
+    lines = ",".join(
+        f'{{"sku":"{values.one_of("ABC")}-{int(values.chance.random() * 99) + 1}",'
+        f'"qty":{int(values.chance.random() * 4) + 1},"price":{values.chance.random() * 100:.2f}}}'
+        for _ in range(2)
+    )
+    return f'{{"order":{number},"customer":{{"name":"{values.one_of(NAMES)}"}},"lines":[{lines}]}}'
+
+
 KINDS = {
     "records": record,
     "wide": wide_object,
@@ -108,11 +118,16 @@ KINDS = {
 
 def write_corpus(kind, path, size, with_numbers):
     """Writes whole lines of this kind until there are at least `size` bytes, and returns the number of bytes."""
+    return write_lines(KINDS[kind], path, size, with_numbers)
+
+
+def write_lines(make, path, size, with_numbers=True):
+    """Writes whole lines, each made by `make`, until there are at least `size` bytes, and returns the number of bytes."""
     values, number, written = Values(with_numbers), 0, 0
     with open(path, "wb") as file:
         while written < size:
             number += 1
-            line = KINDS[kind](values, number).encode() + b"\n"
+            line = make(values, number).encode() + b"\n"
             file.write(line)
             written += len(line)
     return written

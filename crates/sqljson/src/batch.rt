@@ -12,7 +12,7 @@ use std::alloc::Global;
 
 /// How many lines are read before their rows are made: the cursors of the statements, which are made for the documents that
 /// are there, serve all of them.
-const LINES_TOGETHER: usize = 16;
+const LINES_TOGETHER: usize = 64;
 
 /// A line that is not blank: its number, and its document where it is JSON.
 #[derive(Drop)]
@@ -37,7 +37,9 @@ pub(crate) struct Batch {
 
 impl Batch {
     /// No lines. It takes no memory.
-    pub(crate) fn new(alloc: Global) -> Batch {
+    pub(crate) fn new(alloc: Global) -> Batch
+        ensures { result.lines.items ≡ [] }
+    {
         Batch {
             lines: Vec::new(alloc),
             spare: Vec::new(alloc),
