@@ -1,0 +1,4 @@
+pub mod Inserted
+pub mod Growing
+pub mod Taken
+pub mod Members

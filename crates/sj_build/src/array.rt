@@ -1,0 +1,35 @@
+// JSON_ARRAY.
+ghost use Rattle.std.specs.Prelude.{◌≡◌, IfOk};
+ghost use Rattle.sj_value.specs.Values.{IsPrintable};
+ghost use Rattle.sj_build.specs.Constructors.{array_value};
+
+use crate::element::{is_kept, lead, value_text};
+use crate::place::Place;
+use sj_base::{Bytes, Memory};
+use sj_value::{Nulls, SqlValue};
+use std::alloc::Global;
+
+/// JSON_ARRAY: the array of the values in order (ISO/IEC 9075-2, JSON array constructor).
+///
+/// A text becomes a string, a number its plain text whatever decimals it is to print, and a truth value `true` or `false`. A JSON value
+/// stays as it is. NULL becomes `null`, or is dropped under ABSENT ON NULL. The array of no values is `[]`.
+///
+/// # Errors
+/// [`Memory`] where memory runs out.
+pub fn json_array(alloc: Global, values: &[SqlValue], nulls: Nulls) -> Result<SqlValue, Memory>
+    ensures value { IfOk result (λ v. v ≡ array_value nulls values.now) }
+    ensures printable { IfOk result IsPrintable }
+{
+    let mut text = Bytes::new(alloc);
+    let mut place = Place::First;
+    text.push(b"[")?;
+    for value in values {
+        if is_kept(nulls, value) {
+            lead(&mut text, place)?;
+            value_text(&mut text, value)?;
+            place = Place::Later;
+        }
+    }
+    text.push(b"]")?;
+    Ok(SqlValue::Json(text))
+}
