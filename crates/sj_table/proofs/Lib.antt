@@ -1,0 +1,4 @@
+pub mod Entries
+pub mod Whole
+pub mod Lookups
+pub mod Placed

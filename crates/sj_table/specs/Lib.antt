@@ -1,0 +1,6 @@
+pub mod Series
+pub mod Plans
+pub mod Rows
+pub mod Takes
+pub mod Cells
+pub mod View

@@ -1,0 +1,93 @@
+// The cells of a plan, made whole: the only place that takes memory.
+ghost use Rattle.std.specs.Prelude.{◌≡◌, ◌≤◌, ◌<◌, ℕ, length, IfOk};
+ghost use Rattle.sj_value.specs.Plans.{plan_tree};
+ghost use Rattle.sj_table.specs.Cells.{core, path_source};
+ghost use Rattle.sj_table.specs.Plans.{times};
+ghost use Rattle.sj_table.specs.Rows.{nested as nested_of, source, sourced};
+
+use crate::cells::{At, Cell, Cross, Hand, Nested, PathCell, Side, Stage, Union};
+use crate::join::Join;
+use sj_base::Memory;
+use sj_cursor::Cursor;
+use sj_item::Item;
+use sj_path::{Path, Vars};
+use sj_value::Plan;
+use std::alloc::Global;
+
+/// The cells of a plan over paths.
+#[cycle(build)]
+pub(crate) fn plan_cell<'d>(
+    alloc: Global,
+    plan: &'d Plan,
+    paths: &'d [Path],
+    vars: &'d Vars,
+) -> Result<Cell<'d>, Memory>
+    requires { (k : ℕ) → length paths.now ≤ k → times k (plan_tree plan.now) ≡ 0 }
+    ensures { IfOk result (λ c. core c ≡ sourced paths.now vars.now (plan_tree plan.now)) }
+{
+    match plan {
+        Plan::Path(number) => Ok(Cell::Single(path_cell(alloc, *number, paths, vars)?)),
+        Plan::Outer(number, below) => nested(alloc, Join::Outer, *number, below, paths, vars),
+        Plan::Inner(number, below) => nested(alloc, Join::Inner, *number, below, paths, vars),
+        Plan::Union(left, right) => {
+            let left = plan_cell(alloc, left, paths, vars)?;
+            let right = plan_cell(alloc, right, paths, vars)?;
+            Ok(Cell::Union(Union {
+                left: Box::new(alloc, left)?,
+                right: Box::new(alloc, right)?,
+                side: Side::Left,
+            }))
+        }
+        Plan::Cross(left, right) => {
+            let left = plan_cell(alloc, left, paths, vars)?;
+            let right = plan_cell(alloc, right, paths, vars)?;
+            Ok(Cell::Cross(Cross {
+                left: Box::new(alloc, left)?,
+                right: Box::new(alloc, right)?,
+                hand: Hand::Empty,
+            }))
+        }
+    }
+}
+
+// A path with the plan below it.
+#[cycle(build)]
+fn nested<'d>(
+    alloc: Global,
+    join: Join,
+    number: u32,
+    below: &'d Plan,
+    paths: &'d [Path],
+    vars: &'d Vars,
+) -> Result<Cell<'d>, Memory>
+    requires here { number < length paths.now }
+    requires below { (k : ℕ) → length paths.now ≤ k → times k (plan_tree below.now) ≡ 0 }
+    ensures { IfOk result (λ c. core c ≡ nested_of join (source paths.now vars.now number) (sourced paths.now vars.now (plan_tree below.now))) }
+{
+    let parent = path_cell(alloc, number, paths, vars)?;
+    let below = plan_cell(alloc, below, paths, vars)?;
+    Ok(Cell::Nested(Nested {
+        join,
+        parent,
+        below: Box::new(alloc, below)?,
+        at: At::Nothing,
+    }))
+}
+
+fn path_cell<'d>(
+    alloc: Global,
+    number: u32,
+    paths: &'d [Path],
+    vars: &'d Vars,
+) -> Result<PathCell<'d>, Memory>
+    requires { number < length paths.now }
+    ensures { IfOk result (λ c. path_source c ≡ source paths.now vars.now number) }
+{
+    Ok(PathCell {
+        number,
+        cursor: Cursor::new(alloc, &paths[number as usize], vars, Item::Null)?,
+        stage: Stage::Unasked,
+        item: Item::Null,
+        ordinal: 0,
+    })
+}
