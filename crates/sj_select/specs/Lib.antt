@@ -1,0 +1,9 @@
+pub mod Keys
+pub mod Line
+pub mod Values
+pub mod Rows
+pub mod Coding
+pub mod Operations
+pub mod Performing
+pub mod Stages
+pub mod Seen

@@ -1,0 +1,124 @@
+// Finding values by operations.
+ghost use Rattle.std.specs.Prelude.{◌≡◌, ◌≤◌, All, get_or, IfOk, option_map};
+ghost use Rattle.sj_base.specs.Outside.{raised};
+ghost use Rattle.sj_value.specs.Values.{IsPrintable};
+ghost use Rattle.sj_func.specs.Functions.{IsPrinted};
+ghost use Rattle.sj_select.specs.Line.{line_of};
+ghost use Rattle.sj_select.specs.Operations.{step_of, steps_of};
+ghost use Rattle.sj_select.specs.Performing.{CanBeGiven, EndsIn, done, held, performed, step_cost};
+ghost use Rattle.sj_select.specs.Values as meaning;
+
+use crate::line::LineDoc;
+use crate::operation::Operation;
+use crate::pile::Pile;
+use sj_base::{Ledger, Memory, State, Steps, Text};
+use sj_doc::Doc;
+use sj_func::{Outcome, is_json};
+use sj_path::Literal;
+use sj_statement::IsJsonCall;
+use sj_value::{SqlValue, copy};
+use std::alloc::Global;
+
+/// Performs operations one behind the other on a pile, up to the first that raises a state, which is given. The counter rises by no
+/// more than what they may take up to there.
+///
+/// # Errors
+/// [`Memory`] where memory runs out. What is said of the counter holds then too.
+pub(crate) fn find<'d, L: Ledger>(
+    alloc: Global,
+    operations: &mut [Operation<'d>],
+    line: LineDoc<'d>,
+    columns: &[SqlValue],
+    pile: &mut Pile,
+    steps: &mut Steps<L>,
+) -> Result<Option<State>, Memory>
+    requires columns { All IsPrintable columns.now }
+    requires given { All CanBeGiven (steps_of operations.old) }
+    requires printable { All IsPrintable pile.old.values.items }
+    ensures finds { IfOk result (λ raised. EndsIn (performed (line_of line.entry) columns.now (steps_of operations.old) (held pile.old)).end raised (held pile.new)) }
+    ensures costs { steps.new ≤ raised steps.old (performed (line_of line.entry) columns.now (steps_of operations.old) (held pile.old)).cost }
+    ensures steps { steps_of operations.new ≡ steps_of operations.old }
+    ensures printable { All IsPrintable pile.new.values.items }
+{
+    for operation in operations.iter_mut() {
+        if let Some(state) = operation.perform(alloc, line, columns, pile, steps)? {
+            return Ok(Some(state));
+        }
+    }
+    Ok(None)
+}
+
+impl<'d> Operation<'d> {
+    // Performs the operation on a pile, and gives the state that it raises, if it does.
+    fn perform<L: Ledger>(
+        &mut self,
+        alloc: Global,
+        line: LineDoc<'d>,
+        columns: &[SqlValue],
+        pile: &mut Pile,
+        steps: &mut Steps<L>,
+    ) -> Result<Option<State>, Memory>
+        requires columns { All IsPrintable columns.now }
+        requires given { CanBeGiven (step_of self.old) }
+        requires printable { All IsPrintable pile.old.values.items }
+        ensures does { IfOk result (λ raised. EndsIn (done (line_of line.entry) columns.now (step_of self.old) (held pile.old)) raised (held pile.new)) }
+        ensures costs { steps.new ≤ raised steps.old (step_cost (line_of line.entry) columns.now (step_of self.old)) }
+        ensures step { step_of self.new ≡ step_of self.old }
+        ensures printable { All IsPrintable pile.new.values.items }
+    {
+        match self {
+            Operation::Literal(literal) => pile.put(literal_outcome(alloc, literal)?),
+            Operation::Column(number) => pile.put(column_outcome(alloc, columns, *number)?),
+            Operation::Exists(call) => pile.put(call.outcome(line, steps)),
+            Operation::Value(call) => pile.put(call.outcome(alloc, line, steps)?),
+            Operation::Query(call) => pile.put(call.outcome(alloc, line, steps)?),
+            Operation::IsJson(call) => pile.put(is_json_outcome(alloc, line.doc(), *call)?),
+            Operation::Member => {
+                pile.pair()?;
+                Ok(None)
+            }
+            Operation::Object(count, nulls, unique) => {
+                let outcome = pile.object(alloc, *count, *nulls, *unique)?;
+                pile.put(outcome)
+            }
+            Operation::Array(count, nulls) => {
+                let outcome = pile.array(alloc, *count, *nulls)?;
+                pile.put(outcome)
+            }
+        }
+    }
+}
+
+// A literal as a value: a number prints its plain text.
+fn literal_outcome(alloc: Global, literal: &Literal) -> Result<Outcome, Memory>
+    ensures is { IfOk result (λ o. o ≡ meaning.literal_outcome literal.now) }
+    ensures printed { IfOk result IsPrinted }
+{
+    Ok(Outcome::Value(match literal {
+        Literal::Text(text) => SqlValue::Text(Text::from_str(alloc, text.as_str())?),
+        Literal::Num(number) => SqlValue::Num(*number, 0),
+        Literal::Bool(truth) => SqlValue::Bool(*truth),
+        Literal::Null => SqlValue::Null,
+    }))
+}
+
+// The value of the column of this number, or NULL where there is none.
+fn column_outcome(alloc: Global, columns: &[SqlValue], number: u32) -> Result<Outcome, Memory>
+    requires { All IsPrintable columns.now }
+    ensures is { IfOk result (λ o. o ≡ meaning.column_outcome columns.now number) }
+    ensures printed { IfOk result IsPrinted }
+{
+    match columns.get(number as usize) {
+        Some(value) => Ok(Outcome::Value(copy(alloc, value)?)),
+        None => Ok(Outcome::Value(SqlValue::Null)),
+    }
+}
+
+// IS JSON or IS NOT JSON of a line.
+fn is_json_outcome(alloc: Global, doc: Option<&Doc>, call: IsJsonCall) -> Result<Outcome, Memory>
+    ensures is { IfOk result (λ o. o ≡ meaning.is_json_outcome call (option_map (λ d. d.now) doc.entry)) }
+    ensures printed { IfOk result IsPrinted }
+{
+    let yes = is_json(alloc, doc, call.kind, call.unique)?;
+    Ok(Outcome::Value(SqlValue::Bool(if call.negated { !yes } else { yes })))
+}

@@ -1,0 +1,45 @@
+// The operations by which values are found.
+
+use sj_cursor::Cursor;
+use sj_path::Literal;
+use sj_statement::IsJsonCall;
+use sj_value::{ExistsAction, Nulls, QuerySpec, ValueSpec};
+
+/// How one value is found, or made of those that were found before it.
+#[derive(Drop)]
+pub(crate) enum Operation<'d> {
+    Literal(&'d Literal),
+    /// The column of this number.
+    Column(u32),
+    Exists(ExistsCall<'d>),
+    Value(ValueCall<'d>),
+    Query(QueryCall<'d>),
+    IsJson(IsJsonCall),
+    /// The last two values, a key and its value, become the last member.
+    Member,
+    /// JSON_OBJECT of so many of the last members. The truth value is that of WITH UNIQUE KEYS.
+    Object(usize, Nulls, bool),
+    /// JSON_ARRAY of so many of the last values.
+    Array(usize, Nulls),
+}
+
+/// JSON_EXISTS. The cursor of its path takes its memory once and is moved from line to line, as in the other two.
+#[derive(Drop)]
+pub(crate) struct ExistsCall<'d> {
+    pub(crate) cursor: Cursor<'d>,
+    pub(crate) on_error: ExistsAction,
+}
+
+/// JSON_VALUE.
+#[derive(Drop)]
+pub(crate) struct ValueCall<'d> {
+    pub(crate) cursor: Cursor<'d>,
+    pub(crate) clauses: &'d ValueSpec,
+}
+
+/// JSON_QUERY.
+#[derive(Drop)]
+pub(crate) struct QueryCall<'d> {
+    pub(crate) cursor: Cursor<'d>,
+    pub(crate) clauses: QuerySpec,
+}

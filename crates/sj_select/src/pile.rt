@@ -1,0 +1,114 @@
+// The values and the members that were found and are no part of another value yet.
+ghost use Rattle.std.specs.Prelude.{◌≡◌, [], All, IfOk, OnOk};
+ghost use Rattle.sj_func.specs.Functions.{IsPrinted};
+ghost use Rattle.sj_value.specs.Values.{IsPrintable};
+ghost use Rattle.sj_build.specs.Constructors.{array_value, object_value};
+ghost use Rattle.sj_func.specs.declared.context.Outcome.TheVariants.{Value};
+ghost use Rattle.sj_select.specs.Performing as spec;
+ghost use Rattle.sj_select.specs.Performing.{EndsIn, held, last_of, paired, without_members, without_values};
+ghost use Rattle.sj_select.specs.Values.{outcome_of};
+
+use sj_base::{Memory, State};
+use sj_build::{BuildRefusal, Field, json_array, json_object};
+use sj_func::Outcome;
+use sj_value::{Nulls, SqlValue};
+use std::alloc::Global;
+
+/// Values, and members of objects, the last one at the end.
+#[derive(Drop)]
+pub(crate) struct Pile {
+    pub(crate) values: Vec<SqlValue>,
+    pub(crate) members: Vec<Field>,
+}
+
+impl Pile {
+    pub(crate) fn new(alloc: Global) -> Pile
+        ensures values { result.values.items ≡ [] }
+        ensures members { result.members.items ≡ [] }
+    {
+        Pile {
+            values: Vec::new(alloc),
+            members: Vec::new(alloc),
+        }
+    }
+
+    pub(crate) fn clear(&mut self)
+        ensures values { self.new.values.items ≡ [] }
+        ensures members { self.new.members.items ≡ [] }
+    {
+        self.values.clear();
+        self.members.clear();
+    }
+
+    /// Puts the value of an outcome at the end, or gives the state that it raises.
+    pub(crate) fn put(&mut self, outcome: Outcome) -> Result<Option<State>, Memory>
+        requires printed { IsPrinted outcome }
+        requires printable { All IsPrintable self.old.values.items }
+        ensures does { IfOk result (λ raised. EndsIn (spec.put outcome (held self.old)) raised (held self.new)) }
+        ensures printable { All IsPrintable self.new.values.items }
+    {
+        match outcome {
+            Outcome::Value(value) => {
+                self.values.push(value)?;
+                Ok(None)
+            }
+            Outcome::Raised(state) => Ok(Some(state)),
+        }
+    }
+
+    /// Makes the last two values, a key and its value, the last member.
+    pub(crate) fn pair(&mut self) -> Result<(), Memory>
+        requires printable { All IsPrintable self.old.values.items }
+        ensures pairs { OnOk result (held self.new ≡ paired (held self.old)) }
+        ensures printable { All IsPrintable self.new.values.items }
+    {
+        let value = self.values.pop();
+        let key = self.values.pop();
+        if let (Some(key), Some(value)) = (key, value) {
+            self.members.push(Field { key, value })?;
+        }
+        Ok(())
+    }
+
+    /// JSON_ARRAY of so many of the last values, which go.
+    pub(crate) fn array(
+        &mut self,
+        alloc: Global,
+        count: usize,
+        nulls: Nulls,
+    ) -> Result<Outcome, Memory>
+        requires printable { All IsPrintable self.old.values.items }
+        ensures outcome { IfOk result (λ o. o ≡ Value (array_value nulls (last_of count (held self.old).values))) }
+        ensures rest { OnOk result (held self.new ≡ without_values count (held self.old)) }
+        ensures printed { IfOk result IsPrinted }
+        ensures printable { All IsPrintable self.new.values.items }
+    {
+        let before = self.values.len().saturating_sub(count);
+        let array = json_array(alloc, &self.values[before..], nulls)?;
+        self.values.truncate(before);
+        Ok(Outcome::Value(array))
+    }
+
+    /// JSON_OBJECT of so many of the last members, which go.
+    pub(crate) fn object(
+        &mut self,
+        alloc: Global,
+        count: usize,
+        nulls: Nulls,
+        unique: bool,
+    ) -> Result<Outcome, Memory>
+        ensures outcome { IfOk result (λ o. o ≡ outcome_of (object_value nulls unique (last_of count (held self.old).members))) }
+        ensures rest { OnOk result (held self.new ≡ without_members count (held self.old)) }
+        ensures printed { IfOk result IsPrinted }
+        ensures values { self.new.values ≡ self.old.values }
+    {
+        let before = self.members.len().saturating_sub(count);
+        let object = json_object(alloc, &self.members[before..], nulls, unique);
+        self.members.truncate(before);
+        match object {
+            Ok(value) => Ok(Outcome::Value(value)),
+            Err(BuildRefusal::State(state)) => Ok(Outcome::Raised(state)),
+            Err(BuildRefusal::Memory) => Err(Memory),
+        }
+    }
+}
