@@ -1,1 +1,1 @@
-SELECT 1;
+SELECT JSON_EXISTS(doc, 'lax $.a') WHERE TRUE;

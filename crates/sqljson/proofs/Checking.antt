@@ -6,6 +6,9 @@ use Rattle.sj_base.specs.Outside.{Files, Rose}
 use Rattle.sj_grammar.specs.Tree.{Path}
 use Rattle.sj_statement.specs.declared.refusal.FileKind.{FileKind}
 use Rattle.sj_statement.specs.Tree.{Statement}
+use Rattle.sj_bind.specs.Bound.{Bound}
+use Rattle.sqljson.specs.Job.{job, job_asked}
+use Rattle.sqljson.specs.declared.job.Keys.{Keys}
 use Rattle.sqljson.specs.declared.status.Status.{Status}
 use Rattle.sqljson.specs.declared.status.Status.TheVariants.{Done, Usage, Refused, ShelfFault, ReadFault, WriteFault, Memory, InputLimit, FileTooLong}
 use Rattle.sqljson.specs.Output.{output}
@@ -28,8 +31,8 @@ not_too_long files name file shown short long =
     let same : long.0 ≡ file = same_file files name file long.0 shown long.1 in
     omega (arith, ap length same, short, long.2)
 
-run_as : (name : List ℕ) (s s' : ShelfSide) (i i' : InputSide) (o o' : OutputSide) (status : Status) (file : List ℕ) → file_shown s.files (Some name) ≡ Some file → (r : RanOver name s s' i i' o o' status) → Runs file r.statements
-run_as name s s' i i' o o' status file shown r = subst (λ (f : List ℕ). Runs f r.statements) (same_file s.files name file r.file shown r.holds.is) r.accepted
+run_as : (keys : Keys) (name : List ℕ) (s s' : ShelfSide) (i i' : InputSide) (o o' : OutputSide) (status : Status) (file : List ℕ) → file_shown s.files (Some name) ≡ Some file → (r : RanOver keys name s s' i i' o o' status) → Runs file r.statements
+run_as keys name s s' i i' o o' status file shown r = subst (λ (f : List ℕ). Runs f r.statements) (same_file s.files name file r.file shown r.holds.is) r.accepted
 
 checked_as : (name : List ℕ) (s s' : ShelfSide) (i i' : InputSide) (o o' : OutputSide) (file : List ℕ) → file_shown s.files (Some name) ≡ Some file → (t : Told name s s' i i' o o') → Checks file t.statements
 checked_as name s s' i i' o o' file shown t = subst (λ (f : List ℕ). Checks f t.statements) (same_file s.files name file t.file shown t.holds.is) t.accepted
@@ -48,28 +51,28 @@ all_taken left left' all bytes is took end =
     let none : t.0 ≡ [] = subst IsAtEnd t.1 end in
     sym (t.2 ∙ ap (λ (r : List ℕ). bytes ++ r) none ∙ append-nil bytes)
 
-over_wrote : (name : List ℕ) (s s' : ShelfSide) (i i' : InputSide) (o o' : OutputSide) (file : List ℕ) (K : List Path) (all : List ℕ) → file_shown s.files (Some name) ≡ Some file → Runs file K → i.left ≡ Some all
-    → RanOver name s s' i i' o o' Done → Grew o o' (output K all)
-over_wrote name s s' i i' o o' file K all shown runs left r =
-    let these : r.statements ≡ K = one_run file r.statements K (run_as name s s' i i' o o' Done file shown r) runs in
+over_wrote : (keys : Keys) (name : List ℕ) (s s' : ShelfSide) (i i' : InputSide) (o o' : OutputSide) (file : List ℕ) (K : List Bound) (all : List ℕ) → file_shown s.files (Some name) ≡ Some file → Runs file K → i.left ≡ Some all
+    → RanOver keys name s s' i i' o o' Done → Grew o o' (output (job keys K) all)
+over_wrote keys name s s' i i' o o' file K all shown runs left r =
+    let these : r.statements ≡ K = one_run file r.statements K (run_as keys name s s' i i' o o' Done file shown r) runs in
     let bytes : r.streamed.bytes ≡ all = all_taken i.left i'.left all r.streamed.bytes left r.streamed.consumed r.streamed.why.1 in
-    subst (Grew o o') (r.streamed.why.0 ∙ ap (λ (k : List Path). output k r.streamed.bytes) these ∙ ap (output K) bytes) r.streamed.grew
+    subst (Grew o o') (r.streamed.why.0 ∙ ap (λ (k : List Bound). output (job keys k) r.streamed.bytes) these ∙ ap (output (job keys K)) bytes) r.streamed.grew
 
-words_wrote : (f : Option Form) (s s' : ShelfSide) (i i' : InputSide) (o o' : OutputSide) (file : List ℕ) (K : List Path) (all : List ℕ) → file_shown s.files (file_run f) ≡ Some file → Runs file K → i.left ≡ Some all
-    → Ran f s s' i i' o o' Done → Grew o o' (output K all)
+words_wrote : (f : Option Form) (s s' : ShelfSide) (i i' : InputSide) (o o' : OutputSide) (file : List ℕ) (K : List Bound) (all : List ℕ) → file_shown s.files (file_run f) ≡ Some file → Runs file K → i.left ≡ Some all
+    → Ran f s s' i i' o o' Done → Grew o o' (output (job_asked f K) all)
 words_wrote None s s' i i' o o' file K all shown runs left r = absurd (no_name s.files file shown)
-words_wrote (Some (running name)) s s' i i' o o' file K all shown runs left r = over_wrote name s s' i i' o o' file K all shown runs left r
+words_wrote (Some (running keys name)) s s' i i' o o' file K all shown runs left r = over_wrote keys name s s' i i' o o' file K all shown runs left r
 words_wrote (Some (checking name)) s s' i i' o o' file K all shown runs left r = absurd (no_name s.files file shown)
 
 -- what a run that is Done has written
 pub ran_headline : (f : Option Form) (s s' : ShelfSide) (i i' : InputSide) (o o' : OutputSide) (status : Status) → Ran f s s' i i' o o' status → status ≡ Done
-    → IfSome (file_shown s.files (file_run f)) (λ file. (K : List Path) → Runs file K → IfSome i.left (λ all. Grew o o' (output K all)))
+    → IfSome (file_shown s.files (file_run f)) (λ file. (K : List Bound) → Runs file K → IfSome i.left (λ all. Grew o o' (output (job_asked f K) all)))
 ran_headline f s s' i i' o o' status r is =
     by_left (file_shown s.files (file_run f)) _ (λ file shown K runs. by_left i.left _ (λ all left. words_wrote f s s' i i' o o' file K all shown runs left (subst (Ran f s s' i i' o o') is r)))
 
 words_end : (f : Option Form) (s s' : ShelfSide) (i i' : InputSide) (o o' : OutputSide) (name : List ℕ) → file_run f ≡ Some name → Ran f s s' i i' o o' Done → IsAtEnd i'.left
 words_end None s s' i i' o o' name is r = absurd (cc is)
-words_end (Some (running file)) s s' i i' o o' name is r = r.streamed.why.1
+words_end (Some (running keys file)) s s' i i' o o' name is r = r.streamed.why.1
 words_end (Some (checking file)) s s' i i' o o' name is r = absurd (cc is)
 
 pub ran_to_end : (f : Option Form) (s s' : ShelfSide) (i i' : InputSide) (o o' : OutputSide) (status : Status) → Ran f s s' i i' o o' status → status ≡ Done → IfSome (file_run f) (λ name. IsAtEnd i'.left)
@@ -101,7 +104,7 @@ checks_front name s s' i i' o o' Usage file K shown checks e = absurd e
 words_check_front : (f : Option Form) (s s' : ShelfSide) (i i' : InputSide) (o o' : OutputSide) (status : Status) (file : List ℕ) (K : List (Statement Path)) → file_shown s.files (file_checked f) ≡ Some file → Checks file K
     → Ran f s s' i i' o o' status → IsFrontOf (accepted_text K) o o'
 words_check_front None s s' i i' o o' status file K shown checks r = absurd (no_name s.files file shown)
-words_check_front (Some (running name)) s s' i i' o o' status file K shown checks r = absurd (no_name s.files file shown)
+words_check_front (Some (running keys name)) s s' i i' o o' status file K shown checks r = absurd (no_name s.files file shown)
 words_check_front (Some (checking name)) s s' i i' o o' status file K shown checks r = checks_front name s s' i i' o o' status file K shown checks r
 
 pub ran_check_front : (f : Option Form) (s s' : ShelfSide) (i i' : InputSide) (o o' : OutputSide) (status : Status) → Ran f s s' i i' o o' status
@@ -117,7 +120,7 @@ told_whole name s s' i i' o o' file K shown checks t all =
 words_checked : (f : Option Form) (s s' : ShelfSide) (i i' : InputSide) (o o' : OutputSide) (file : List ℕ) (K : List (Statement Path)) → file_shown s.files (file_checked f) ≡ Some file → Checks file K
     → Ran f s s' i i' o o' Done → Grew o o' (accepted_text K)
 words_checked None s s' i i' o o' file K shown checks r = absurd (no_name s.files file shown)
-words_checked (Some (running name)) s s' i i' o o' file K shown checks r = absurd (no_name s.files file shown)
+words_checked (Some (running keys name)) s s' i i' o o' file K shown checks r = absurd (no_name s.files file shown)
 words_checked (Some (checking name)) s s' i i' o o' file K shown checks r = told_whole name s s' i i' o o' file K shown checks r.0 r.1
 
 -- what a check that is Done has written
@@ -147,7 +150,7 @@ checks_complete name s s' i i' o o' Usage file K shown checks short shelf out e 
 words_check_complete : (f : Option Form) (s s' : ShelfSide) (i i' : InputSide) (o o' : OutputSide) (status : Status) (file : List ℕ) (K : List (Statement Path)) → file_shown s.files (file_checked f) ≡ Some file → Checks file K
     → length file ≤ max_file → (Rose s.faults s'.faults → ⊥) → (Rose o.faults o'.faults → ⊥) → Ran f s s' i i' o o' status → IsDoneOrMemory status
 words_check_complete None s s' i i' o o' status file K shown checks short shelf out r = absurd (no_name s.files file shown)
-words_check_complete (Some (running name)) s s' i i' o o' status file K shown checks short shelf out r = absurd (no_name s.files file shown)
+words_check_complete (Some (running keys name)) s s' i i' o o' status file K shown checks short shelf out r = absurd (no_name s.files file shown)
 words_check_complete (Some (checking name)) s s' i i' o o' status file K shown checks short shelf out r = checks_complete name s s' i i' o o' status file K shown checks short shelf out r
 
 pub ran_check_completes : (f : Option Form) (s s' : ShelfSide) (i i' : InputSide) (o o' : OutputSide) (status : Status) → Ran f s s' i i' o o' status → (Rose s.faults s'.faults → ⊥) → (Rose o.faults o'.faults → ⊥)
@@ -160,28 +163,28 @@ below_limit i i' all bytes is took fits long =
     let t = told i.left i'.left all bytes is took in
     omega (arith, ap length t.2, length-append bytes t.0, fits, long)
 
-ends_complete : (name : List ℕ) (s s' : ShelfSide) (i i' : InputSide) (o o' : OutputSide) (status : Status) (file : List ℕ) (K : List Path) (all : List ℕ) → file_shown s.files (Some name) ≡ Some file → Runs file K → i.left ≡ Some all
-    → length file ≤ max_file → length all < max_input → (Rose s.faults s'.faults → ⊥) → (Rose i.faults i'.faults → ⊥) → (Rose o.faults o'.faults → ⊥) → EndsSo name s s' i i' o o' status → IsDoneOrMemory status
-ends_complete name s s' i i' o o' ShelfFault file K all shown runs left short fits shelf read out e = absurd (shelf e.0)
-ends_complete name s s' i i' o o' FileTooLong file K all shown runs left short fits shelf read out e = absurd (not_too_long s.files name file shown short e.0)
-ends_complete name s s' i i' o o' (Refused k kind) file K all shown runs left short fits shelf read out e =
+ends_complete : (keys : Keys) (name : List ℕ) (s s' : ShelfSide) (i i' : InputSide) (o o' : OutputSide) (status : Status) (file : List ℕ) (K : List Bound) (all : List ℕ) → file_shown s.files (Some name) ≡ Some file → Runs file K → i.left ≡ Some all
+    → length file ≤ max_file → length all < max_input → (Rose s.faults s'.faults → ⊥) → (Rose i.faults i'.faults → ⊥) → (Rose o.faults o'.faults → ⊥) → EndsSo keys name s s' i i' o o' status → IsDoneOrMemory status
+ends_complete keys name s s' i i' o o' ShelfFault file K all shown runs left short fits shelf read out e = absurd (shelf e.0)
+ends_complete keys name s s' i i' o o' FileTooLong file K all shown runs left short fits shelf read out e = absurd (not_too_long s.files name file shown short e.0)
+ends_complete keys name s s' i i' o o' (Refused k kind) file K all shown runs left short fits shelf read out e =
     absurd (run_not_refused file K (k, kind) runs (refused_as (λ f. IsVerdict run_answer f (Err (k, kind))) name s s' file shown e.0))
-ends_complete name s s' i i' o o' Memory file K all shown runs left short fits shelf read out e = inr refl
-ends_complete name s s' i i' o o' Done file K all shown runs left short fits shelf read out e = inl refl
-ends_complete name s s' i i' o o' ReadFault file K all shown runs left short fits shelf read out e = absurd (read e.streamed.why.1)
-ends_complete name s s' i i' o o' WriteFault file K all shown runs left short fits shelf read out e = absurd (out e.streamed.why.1)
-ends_complete name s s' i i' o o' InputLimit file K all shown runs left short fits shelf read out e = absurd (below_limit i i' all e.streamed.bytes left e.streamed.consumed fits e.streamed.why.1)
-ends_complete name s s' i i' o o' Usage file K all shown runs left short fits shelf read out e = absurd e
+ends_complete keys name s s' i i' o o' Memory file K all shown runs left short fits shelf read out e = inr refl
+ends_complete keys name s s' i i' o o' Done file K all shown runs left short fits shelf read out e = inl refl
+ends_complete keys name s s' i i' o o' ReadFault file K all shown runs left short fits shelf read out e = absurd (read e.streamed.why.1)
+ends_complete keys name s s' i i' o o' WriteFault file K all shown runs left short fits shelf read out e = absurd (out e.streamed.why.1)
+ends_complete keys name s s' i i' o o' InputLimit file K all shown runs left short fits shelf read out e = absurd (below_limit i i' all e.streamed.bytes left e.streamed.consumed fits e.streamed.why.1)
+ends_complete keys name s s' i i' o o' Usage file K all shown runs left short fits shelf read out e = absurd e
 
-words_complete : (f : Option Form) (s s' : ShelfSide) (i i' : InputSide) (o o' : OutputSide) (status : Status) (file : List ℕ) (K : List Path) (all : List ℕ) → file_shown s.files (file_run f) ≡ Some file → Runs file K → i.left ≡ Some all
+words_complete : (f : Option Form) (s s' : ShelfSide) (i i' : InputSide) (o o' : OutputSide) (status : Status) (file : List ℕ) (K : List Bound) (all : List ℕ) → file_shown s.files (file_run f) ≡ Some file → Runs file K → i.left ≡ Some all
     → length file ≤ max_file → length all < max_input → (Rose s.faults s'.faults → ⊥) → (Rose i.faults i'.faults → ⊥) → (Rose o.faults o'.faults → ⊥) → Ran f s s' i i' o o' status → IsDoneOrMemory status
 words_complete None s s' i i' o o' status file K all shown runs left short fits shelf read out r = absurd (no_name s.files file shown)
-words_complete (Some (running name)) s s' i i' o o' status file K all shown runs left short fits shelf read out r = ends_complete name s s' i i' o o' status file K all shown runs left short fits shelf read out r
+words_complete (Some (running keys name)) s s' i i' o o' status file K all shown runs left short fits shelf read out r = ends_complete keys name s s' i i' o o' status file K all shown runs left short fits shelf read out r
 words_complete (Some (checking name)) s s' i i' o o' status file K all shown runs left short fits shelf read out r = absurd (no_name s.files file shown)
 
 pub ran_completes : (f : Option Form) (s s' : ShelfSide) (i i' : InputSide) (o o' : OutputSide) (status : Status) → Ran f s s' i i' o o' status
     → (Rose s.faults s'.faults → ⊥) → (Rose i.faults i'.faults → ⊥) → (Rose o.faults o'.faults → ⊥)
-    → IfSome (file_shown s.files (file_run f)) (λ file. length file ≤ max_file → (K : List Path) → Runs file K → IfSome i.left (λ all. length all < max_input → IsDoneOrMemory status))
+    → IfSome (file_shown s.files (file_run f)) (λ file. length file ≤ max_file → (K : List Bound) → Runs file K → IfSome i.left (λ all. length all < max_input → IsDoneOrMemory status))
 ran_completes f s s' i i' o o' status r shelf read out =
     by_left (file_shown s.files (file_run f)) _ (λ file shown short K runs. by_left i.left _ (λ all left fits. words_complete f s s' i i' o o' status file K all shown runs left short fits shelf read out r))
 
@@ -209,7 +212,7 @@ checks_refuse name s s' i i' o o' Usage file n other shown bad short shelf e = a
 words_check_refuse : (f : Option Form) (s s' : ShelfSide) (i i' : InputSide) (o o' : OutputSide) (status : Status) (file : List ℕ) (n : ℕ) (other : FileKind) → file_shown s.files (file_checked f) ≡ Some file → IsVerdict check_answer file (Err (n, other))
     → length file ≤ max_file → (Rose s.faults s'.faults → ⊥) → Ran f s s' i i' o o' status → IsThisOrMemory status n other
 words_check_refuse None s s' i i' o o' status file n other shown bad short shelf r = absurd (no_name s.files file shown)
-words_check_refuse (Some (running name)) s s' i i' o o' status file n other shown bad short shelf r = absurd (no_name s.files file shown)
+words_check_refuse (Some (running keys name)) s s' i i' o o' status file n other shown bad short shelf r = absurd (no_name s.files file shown)
 words_check_refuse (Some (checking name)) s s' i i' o o' status file n other shown bad short shelf r = checks_refuse name s s' i i' o o' status file n other shown bad short shelf r
 
 pub ran_check_refuses : (f : Option Form) (s s' : ShelfSide) (i i' : InputSide) (o o' : OutputSide) (status : Status) → Ran f s s' i i' o o' status → (Rose s.faults s'.faults → ⊥)
@@ -217,27 +220,27 @@ pub ran_check_refuses : (f : Option Form) (s s' : ShelfSide) (i i' : InputSide) 
 ran_check_refuses f s s' i i' o o' status r shelf =
     by_left (file_shown s.files (file_checked f)) _ (λ file shown short n other bad. words_check_refuse f s s' i i' o o' status file n other shown bad short shelf r)
 
-not_over : (name : List ℕ) (s s' : ShelfSide) (i i' : InputSide) (o o' : OutputSide) (status : Status) (file : List ℕ) (n : ℕ) (other : FileKind) → file_shown s.files (Some name) ≡ Some file → IsVerdict run_answer file (Err (n, other))
-    → RanOver name s s' i i' o o' status → ⊥
-not_over name s s' i i' o o' status file n other shown bad r = run_not_refused file r.statements (n, other) (run_as name s s' i i' o o' status file shown r) bad
+not_over : (keys : Keys) (name : List ℕ) (s s' : ShelfSide) (i i' : InputSide) (o o' : OutputSide) (status : Status) (file : List ℕ) (n : ℕ) (other : FileKind) → file_shown s.files (Some name) ≡ Some file → IsVerdict run_answer file (Err (n, other))
+    → RanOver keys name s s' i i' o o' status → ⊥
+not_over keys name s s' i i' o o' status file n other shown bad r = run_not_refused file r.statements (n, other) (run_as keys name s s' i i' o o' status file shown r) bad
 
-ends_refuse : (name : List ℕ) (s s' : ShelfSide) (i i' : InputSide) (o o' : OutputSide) (status : Status) (file : List ℕ) (n : ℕ) (other : FileKind) → file_shown s.files (Some name) ≡ Some file → IsVerdict run_answer file (Err (n, other))
-    → length file ≤ max_file → (Rose s.faults s'.faults → ⊥) → EndsSo name s s' i i' o o' status → IsThisOrMemory status n other
-ends_refuse name s s' i i' o o' ShelfFault file n other shown bad short shelf e = absurd (shelf e.0)
-ends_refuse name s s' i i' o o' FileTooLong file n other shown bad short shelf e = absurd (not_too_long s.files name file shown short e.0)
-ends_refuse name s s' i i' o o' (Refused k kind) file n other shown bad short shelf e =
+ends_refuse : (keys : Keys) (name : List ℕ) (s s' : ShelfSide) (i i' : InputSide) (o o' : OutputSide) (status : Status) (file : List ℕ) (n : ℕ) (other : FileKind) → file_shown s.files (Some name) ≡ Some file → IsVerdict run_answer file (Err (n, other))
+    → length file ≤ max_file → (Rose s.faults s'.faults → ⊥) → EndsSo keys name s s' i i' o o' status → IsThisOrMemory status n other
+ends_refuse keys name s s' i i' o o' ShelfFault file n other shown bad short shelf e = absurd (shelf e.0)
+ends_refuse keys name s s' i i' o o' FileTooLong file n other shown bad short shelf e = absurd (not_too_long s.files name file shown short e.0)
+ends_refuse keys name s s' i i' o o' (Refused k kind) file n other shown bad short shelf e =
     inl (same_refusal k n kind other (one_run_refusal file (k, kind) (n, other) (refused_as (λ f. IsVerdict run_answer f (Err (k, kind))) name s s' file shown e.0) bad))
-ends_refuse name s s' i i' o o' Memory file n other shown bad short shelf e = inr refl
-ends_refuse name s s' i i' o o' Done file n other shown bad short shelf e = absurd (not_over name s s' i i' o o' Done file n other shown bad e)
-ends_refuse name s s' i i' o o' ReadFault file n other shown bad short shelf e = absurd (not_over name s s' i i' o o' ReadFault file n other shown bad e)
-ends_refuse name s s' i i' o o' WriteFault file n other shown bad short shelf e = absurd (not_over name s s' i i' o o' WriteFault file n other shown bad e)
-ends_refuse name s s' i i' o o' InputLimit file n other shown bad short shelf e = absurd (not_over name s s' i i' o o' InputLimit file n other shown bad e)
-ends_refuse name s s' i i' o o' Usage file n other shown bad short shelf e = absurd e
+ends_refuse keys name s s' i i' o o' Memory file n other shown bad short shelf e = inr refl
+ends_refuse keys name s s' i i' o o' Done file n other shown bad short shelf e = absurd (not_over keys name s s' i i' o o' Done file n other shown bad e)
+ends_refuse keys name s s' i i' o o' ReadFault file n other shown bad short shelf e = absurd (not_over keys name s s' i i' o o' ReadFault file n other shown bad e)
+ends_refuse keys name s s' i i' o o' WriteFault file n other shown bad short shelf e = absurd (not_over keys name s s' i i' o o' WriteFault file n other shown bad e)
+ends_refuse keys name s s' i i' o o' InputLimit file n other shown bad short shelf e = absurd (not_over keys name s s' i i' o o' InputLimit file n other shown bad e)
+ends_refuse keys name s s' i i' o o' Usage file n other shown bad short shelf e = absurd e
 
 words_refuse : (f : Option Form) (s s' : ShelfSide) (i i' : InputSide) (o o' : OutputSide) (status : Status) (file : List ℕ) (n : ℕ) (other : FileKind) → file_shown s.files (file_run f) ≡ Some file → IsVerdict run_answer file (Err (n, other))
     → length file ≤ max_file → (Rose s.faults s'.faults → ⊥) → Ran f s s' i i' o o' status → IsThisOrMemory status n other
 words_refuse None s s' i i' o o' status file n other shown bad short shelf r = absurd (no_name s.files file shown)
-words_refuse (Some (running name)) s s' i i' o o' status file n other shown bad short shelf r = ends_refuse name s s' i i' o o' status file n other shown bad short shelf r
+words_refuse (Some (running keys name)) s s' i i' o o' status file n other shown bad short shelf r = ends_refuse keys name s s' i i' o o' status file n other shown bad short shelf r
 words_refuse (Some (checking name)) s s' i i' o o' status file n other shown bad short shelf r = absurd (no_name s.files file shown)
 
 pub ran_refuses : (f : Option Form) (s s' : ShelfSide) (i i' : InputSide) (o o' : OutputSide) (status : Status) → Ran f s s' i i' o o' status → (Rose s.faults s'.faults → ⊥)
@@ -248,20 +251,20 @@ ran_refuses f s s' i i' o o' status r shelf = by_left (file_shown s.files (file_
 run_verdict : (f : Option Form) (s s' : ShelfSide) (i i' : InputSide) (o o' : OutputSide) (k : ℕ) (kind : FileKind) (file : List ℕ) → file_shown s.files (file_run f) ≡ Some file → Ran f s s' i i' o o' (Refused k kind)
     → (length file ≤ max_file) × IsVerdict run_answer file (Err (k, kind))
 run_verdict None s s' i i' o o' k kind file shown r = absurd (no_name s.files file shown)
-run_verdict (Some (running name)) s s' i i' o o' k kind file shown r =
+run_verdict (Some (running keys name)) s s' i i' o o' k kind file shown r =
     (refused_short (λ f. IsVerdict run_answer f (Err (k, kind))) name s s' file shown r.0, refused_as (λ f. IsVerdict run_answer f (Err (k, kind))) name s s' file shown r.0)
 run_verdict (Some (checking name)) s s' i i' o o' k kind file shown r = absurd (no_name s.files file shown)
 
 check_verdict : (f : Option Form) (s s' : ShelfSide) (i i' : InputSide) (o o' : OutputSide) (k : ℕ) (kind : FileKind) (file : List ℕ) → file_shown s.files (file_checked f) ≡ Some file → Ran f s s' i i' o o' (Refused k kind)
     → (length file ≤ max_file) × IsVerdict check_answer file (Err (k, kind))
 check_verdict None s s' i i' o o' k kind file shown r = absurd (no_name s.files file shown)
-check_verdict (Some (running name)) s s' i i' o o' k kind file shown r = absurd (no_name s.files file shown)
+check_verdict (Some (running keys name)) s s' i i' o o' k kind file shown r = absurd (no_name s.files file shown)
 check_verdict (Some (checking name)) s s' i i' o o' k kind file shown r =
     (refused_short (λ f. IsVerdict check_answer f (Err (k, kind))) name s s' file shown r.0, refused_as (λ f. IsVerdict check_answer f (Err (k, kind))) name s s' file shown r.0)
 
 refusal_no_fault : (f : Option Form) (s s' : ShelfSide) (i i' : InputSide) (o o' : OutputSide) (k : ℕ) (kind : FileKind) → Ran f s s' i i' o o' (Refused k kind) → s'.faults ≡ s.faults
 refusal_no_fault None s s' i i' o o' k kind r = absurd (cc r.0)
-refusal_no_fault (Some (running name)) s s' i i' o o' k kind r = r.0.holds.no_fault
+refusal_no_fault (Some (running keys name)) s s' i i' o o' k kind r = r.0.holds.no_fault
 refusal_no_fault (Some (checking name)) s s' i i' o o' k kind r = r.0.holds.no_fault
 
 pub ran_refused : (f : Option Form) (s s' : ShelfSide) (i i' : InputSide) (o o' : OutputSide) (status : Status) → Ran f s s' i i' o o' status → (k : ℕ) (kind : FileKind) → status ≡ Refused k kind → (s'.faults ≡ s.faults)

@@ -2,6 +2,7 @@
 use Rattle.std.proofs.Common.{◌≡◌, ℕ, ◌+◌, List, [], ◌∷◌, ◌++◌, Option, None, Some, Result, Ok, Err, refl, sym, ◌∙◌, ap, append_assoc}
 use Rattle.std.proofs.lemmas.List.{append-nil}
 use Rattle.sj_grammar.specs.Tree.{Path}
+use Rattle.sj_bind.specs.Bound.{Bound}
 use Rattle.sj_sql_token.specs.Tokens.{lexed}
 use Rattle.sj_statement.specs.declared.refusal.FileKind.{FileKind}
 use Rattle.sj_statement.specs.Tree.{Statement}
@@ -16,7 +17,7 @@ one_verdict answer file v u p q =
     let same = one_file (lexed file) p.statements q.statements p.refusal q.refusal p.read q.read in
     p.is ∙ ap (λ (ss : List (Statement Path)). judged answer 1 ss p.refusal) same.0 ∙ ap (λ (r : Option (ℕ × FileKind)). judged answer 1 q.statements r) same.1 ∙ sym q.is
 
-pub one_run : (file : List ℕ) (K L : List Path) → Runs file K → Runs file L → K ≡ L
+pub one_run : (file : List ℕ) (K L : List Bound) → Runs file K → Runs file L → K ≡ L
 one_run file K L p q =
     let same : Ok K ≡ Ok L = one_verdict run_answer file (Ok K) (Ok L) p q in
     cc same
@@ -26,7 +27,7 @@ one_check file K L p q =
     let same : Ok K ≡ Ok L = one_verdict check_answer file (Ok K) (Ok L) p q in
     cc same
 
-pub run_not_refused : (file : List ℕ) (K : List Path) (e : ℕ × FileKind) → Runs file K → IsVerdict run_answer file (Err e) → ⊥
+pub run_not_refused : (file : List ℕ) (K : List Bound) (e : ℕ × FileKind) → Runs file K → IsVerdict run_answer file (Err e) → ⊥
 run_not_refused file K e p q =
     let same : Ok K ≡ Err e = one_verdict run_answer file (Ok K) (Err e) p q in
     absurd (cc same)

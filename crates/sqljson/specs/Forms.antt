@@ -4,5 +4,5 @@ use Rattle.sqljson.specs.declared.file.Form.TheVariants as f
 use Rattle.sqljson.specs.File as w
 
 abbrev pub form_value : Form → w.Form
-form_value (f.Run name) = w.running name.now
+form_value (f.Run keys name) = w.running keys name.now
 form_value (f.Check name) = w.checking name.now

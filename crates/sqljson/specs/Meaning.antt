@@ -1,28 +1,21 @@
--- What a statement gives for a line, and what finding it may take.
-use Rattle.std.specs.Prelude.{ℕ, [], Option, None, Some}
-use Rattle.sj_base.specs.declared.state.State.TheVariants.{S22032}
-use Rattle.sj_grammar.specs.Tree.{Path}
-use Rattle.sj_item.specs.Items.{ItemValue, node}
+-- How statements see a line.
+use Rattle.std.specs.Prelude.{Option, None, Some, if◌then◌else◌}
 use Rattle.sj_json.specs.Tree.{Tree}
-use Rattle.sj_step.specs.Trace.{Trace}
-use Rattle.sj_cursor.specs.Meaning.{path_trace}
-use Rattle.sj_value.specs.declared.clauses.ExistsAction.TheVariants as on_error
-use Rattle.sj_func.specs.Functions.{ContextValue, on_item, on_bad, exists_outcome, exists_cost}
-use Rattle.sj_func.specs.declared.context.Outcome.{Outcome}
+use Rattle.sj_select.specs.Keys.{has_unique_keys}
+use Rattle.sj_select.specs.Line.{Line, not_json, repeated, json}
+use Rattle.sqljson.specs.declared.batch.Reading.{Reading}
+use Rattle.sqljson.specs.declared.batch.Reading.TheVariants as r
+use Rattle.sqljson.specs.declared.job.Keys.{Keys}
+use Rattle.sqljson.specs.declared.job.Keys.TheVariants.{Any, Unique}
 
--- the context item of a line: the root of its document, which is the node 0; a line that is not JSON is an error
-abbrev pub line_context : Option Tree → ContextValue
-line_context None = on_bad S22032
-line_context (Some root) = on_item (node 0 root)
+-- by its tree, and none where it is not JSON
+abbrev pub line_as : Keys → Option Tree → Line
+line_as keys None = not_json
+line_as Any (Some t) = json t
+line_as Unique (Some t) = if has_unique_keys t then json t else repeated t
 
--- the trace of a path on an item; no variables are passed
-abbrev pub statement_trace : Path → ItemValue → Trace
-statement_trace path x = path_trace path [] x
-
--- JSON_EXISTS of a path, with FALSE ON ERROR, on the document of a line
-abbrev pub statement_outcome : Path → Option Tree → Outcome
-statement_outcome path doc = exists_outcome on_error.False path.mode (line_context doc) (statement_trace path)
-
--- the children that finding it may hand out
-abbrev pub statement_cost : Path → Option Tree → ℕ
-statement_cost path doc = exists_cost path.mode (line_context doc) (statement_trace path)
+-- a line that was read
+abbrev pub line_read : Reading → Line
+line_read r.NotJson = not_json
+line_read (r.Repeated t) = repeated t
+line_read (r.Json t) = json t

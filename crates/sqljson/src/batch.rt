@@ -1,9 +1,10 @@
 // Lines that are read together, before their rows are made.
-ghost use Rattle.std.specs.Prelude.{◌≡◌, ◌+◌, ◌++◌, ◌∷◌, [], false, OnOk, IfOk};
+ghost use Rattle.std.specs.Prelude.{◌≡◌, ◌+◌, ◌++◌, ◌∷◌, [], false, Some, OnOk, IfOk};
 ghost use Rattle.sj_rows.specs.Line.{line_seen};
 ghost use Rattle.sj_json.specs.Document.{document};
-ghost use Rattle.sqljson.specs.Batch.{read_line, ReadOn};
+ghost use Rattle.sqljson.specs.Batch.{reading, read_line, ReadOn};
 
+use crate::job::Keys;
 use sj_base::Memory;
 use sj_doc::Doc;
 use sj_read::{ReadRefusal, read_over};
@@ -14,11 +15,30 @@ use std::alloc::Global;
 /// are there, serve all of them.
 const LINES_TOGETHER: usize = 64;
 
-/// A line that is not blank: its number, and its document where it is JSON.
+/// A line that is not blank, with its number.
 #[derive(Drop)]
 pub(crate) struct ReadLine {
     pub(crate) number: u64,
-    pub(crate) doc: Option<Doc>,
+    pub(crate) reading: Reading,
+}
+
+/// What a line was read as.
+#[derive(Drop)]
+pub(crate) enum Reading {
+    NotJson,
+    /// Some object has two equal keys, and keys are to be unique.
+    Repeated(Doc),
+    Json(Doc),
+}
+
+impl Reading {
+    /// The document, whose memory may be taken again.
+    fn into_doc(self) -> Option<Doc> {
+        match self {
+            Reading::NotJson => None,
+            Reading::Repeated(doc) | Reading::Json(doc) => Some(doc),
+        }
+    }
 }
 
 /// Whether lines may wait behind those that were read.
@@ -55,8 +75,13 @@ impl Batch {
 
     #[tactic(auto, using(crate::proofs::Batches::read_none, crate::proofs::Batches::read_next, crate::proofs::Batches::read_all, crate::proofs::Batches::read_some))]
     /// Reads the next of the lines that wait, in place of those that were read before.
-    pub(crate) fn read_on(&mut self, alloc: Global, waiting: &mut Lines) -> Result<Behind, Memory>
-        ensures { IfOk result (λ behind. ReadOn waiting.old waiting.new self.new.lines.items behind) }
+    pub(crate) fn read_on(
+        &mut self,
+        alloc: Global,
+        keys: Keys,
+        waiting: &mut Lines,
+    ) -> Result<Behind, Memory>
+        ensures { IfOk result (λ behind. ReadOn keys waiting.old waiting.new self.new.lines.items behind) }
     {
         self.clear()?;
         while self.lines.len() < LINES_TOGETHER {
@@ -64,7 +89,7 @@ impl Batch {
             let Some(line) = waiting.next_line() else {
                 return Ok(Behind::Nothing);
             };
-            self.read_line(alloc, number, line)?;
+            self.read_line(alloc, keys, number, line)?;
         }
         Ok(Behind::Perhaps)
     }
@@ -75,7 +100,7 @@ impl Batch {
         ensures { OnOk result (self.new.lines.items ≡ []) }
     {
         while let Some(line) = self.lines.pop() {
-            if let Some(doc) = line.doc {
+            if let Some(doc) = line.reading.into_doc() {
                 self.spare.push(doc)?;
             }
         }
@@ -83,30 +108,58 @@ impl Batch {
     }
 
     /// Reads a line behind the others, unless it is blank.
-    fn read_line(&mut self, alloc: Global, number: u64, line: Line<'_>) -> Result<(), Memory>
-        ensures { OnOk result (self.new.lines.items ≡ self.old.lines.items ++ read_line number (line_seen line.entry)) }
+    fn read_line(
+        &mut self,
+        alloc: Global,
+        keys: Keys,
+        number: u64,
+        line: Line<'_>,
+    ) -> Result<(), Memory>
+        ensures { OnOk result (self.new.lines.items ≡ self.old.lines.items ++ read_line keys number (line_seen line.entry)) }
     {
-        let doc = match line {
-            Line::TooLong => None,
+        let reading = match line {
+            Line::TooLong => Reading::NotJson,
             Line::Bytes(bytes) => {
                 if is_blank(bytes) {
                     return Ok(());
                 }
-                document_of(alloc, bytes, self.spare.pop())?
+                reading_of(alloc, keys, bytes, self.spare.pop())?
             }
         };
-        self.lines.push(ReadLine { number, doc })?;
+        self.lines.push(ReadLine { number, reading })?;
         Ok(())
     }
 }
 
-/// The document of a line, made in the memory of an earlier one, and none where the line is not JSON.
-fn document_of(alloc: Global, line: &[u8], earlier: Option<Doc>) -> Result<Option<Doc>, Memory>
-    ensures { IfOk result (λ doc. doc ≡ document line.now) }
+/// What a line is read as. Its document is made in the memory of an earlier one.
+fn reading_of(
+    alloc: Global,
+    keys: Keys,
+    line: &[u8],
+    earlier: Option<Doc>,
+) -> Result<Reading, Memory>
+    ensures { IfOk result (λ r. r ≡ reading keys (document line.now)) }
 {
     match read_over(alloc, earlier, line) {
-        Ok(doc) => Ok(Some(doc)),
-        Err(ReadRefusal::NotJson) => Ok(None),
+        Ok(doc) => judged(alloc, keys, doc),
+        Err(ReadRefusal::NotJson) => Ok(Reading::NotJson),
         Err(ReadRefusal::Memory) => Err(Memory),
+    }
+}
+
+/// A document as a line whose keys are to be unique or not.
+#[tactic(auto, using(crate::proofs::Batches::judged_unique, crate::proofs::Batches::judged_repeated))]
+fn judged(alloc: Global, keys: Keys, doc: Doc) -> Result<Reading, Memory>
+    ensures { IfOk result (λ r. r ≡ reading keys (Some doc)) }
+{
+    match keys {
+        Keys::Any => Ok(Reading::Json(doc)),
+        Keys::Unique => {
+            if doc.unique_keys(alloc)? {
+                Ok(Reading::Json(doc))
+            } else {
+                Ok(Reading::Repeated(doc))
+            }
+        }
     }
 }

@@ -6,8 +6,8 @@ ghost use Rattle.sqljson.specs.Ran.{ChecksSo, IsBefore};
 ghost use Rattle.sqljson.specs.Notes.{joined};
 
 use crate::file::load;
+use crate::job::FileRefusal;
 use crate::notes::write_parts;
-use crate::statement::FileRefusal;
 use crate::status::Status;
 use crate::verdict::count_statements;
 use itoa::Buffer;

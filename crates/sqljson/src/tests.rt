@@ -1,4 +1,6 @@
 // Runs over the objects in memory.
+mod selects;
+
 use crate::run::run;
 use crate::status::Status;
 use sj_base::{MemShelf, MemSink, MemSource, Steps, Tally, Text};
@@ -231,7 +233,7 @@ fn endings_and_messages(rt: HostRuntime) -> Result<(), Fail> {
             absent,
         ),
         (
-            plain(b"SELECT 1;", three, 0),
+            plain(b"SELECT 1", three, 0),
             Status::Refused(1, FileKind::Syntax),
             "",
             "statement 1: syntax error\n",

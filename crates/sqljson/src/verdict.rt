@@ -1,20 +1,16 @@
 // What the commands make of a file of statements.
-ghost use Rattle.std.specs.Prelude.{◌≡◌, ◌∷◌, [], ◌<◌, ◌≤◌, ◌^◌, length, map, is_some, Some, IfOk, IfErr, option_map};
-ghost use Rattle.sj_path.specs.Tree.{path_of};
-ghost use Rattle.sj_value.specs.declared.clauses.ExistsAction.{ExistsAction as Action};
-ghost use Rattle.sj_sql.specs.View.{svalue_of, statement_of};
-ghost use Rattle.sj_bind.specs.Bound as b;
+ghost use Rattle.std.specs.Prelude.{◌≡◌, ◌<◌, ◌≤◌, ◌^◌, length, map, All, is_some, IfOk, IfErr};
+ghost use Rattle.sj_sql.specs.View.{statement_of};
 ghost use Rattle.sj_bind.specs.Sound.{IsBindable};
 ghost use Rattle.sj_bind.specs.View.{bound_of};
 ghost use Rattle.sqljson.specs.File.{max_file};
-ghost use Rattle.sqljson.specs.Verdict.{check_answer, run_answer, exists_alone, run_form, Runs};
-ghost use Rattle.sqljson.specs.Refusals.{IsRefused, IsAnswered, IsAccepted, IsBound, AreChecked, exists_in, exists_item, refusal_of};
+ghost use Rattle.sqljson.specs.Job.{CanRun};
+ghost use Rattle.sqljson.specs.Verdict.{check_answer, run_answer, run_form, Runs};
+ghost use Rattle.sqljson.specs.Refusals.{IsRefused, IsAnswered, IsAccepted, IsBound, AreChecked, refusal_of};
 
-use crate::statement::{FileRefusal, Statement};
-use sj_bind::{BindRefusal, Bound, BoundItem, BoundPath, BoundValue, bind};
-use sj_path::Path;
-use sj_sql::{FileKind, SValue, Statement as Tree, parse_file};
-use sj_value::ExistsAction;
+use crate::job::FileRefusal;
+use sj_bind::{BindRefusal, Bound, bind};
+use sj_sql::{FileKind, Statement as Tree, parse_file};
 use std::alloc::Global;
 
 /// Why a statement that has a tree is not taken.
@@ -50,75 +46,15 @@ fn bound(alloc: Global, statement: Tree) -> Result<Bound, Untaken>
     }
 }
 
-/// Whether a value is a JSON_EXISTS to which no variable is passed, with FALSE ON ERROR.
-fn is_plain_exists(value: &SValue) -> bool
-    ensures { result ≡ is_some (exists_alone (svalue_of value.now)) }
-{
-    match value {
-        SValue::Exists(call) => {
-            call.common.passing.len() == 0 && matches!(call.on_error, ExistsAction::False)
-        }
-        _ => false,
-    }
-}
-
-/// Whether a statement is of the form that is run.
+/// Whether a statement is of the form that is run: it has no table.
 fn is_run(statement: &Tree) -> bool
     ensures { result ≡ is_some (run_form (statement_of statement.now)) }
 {
-    let Tree::Plain(values) = statement else {
-        return false;
-    };
-    let values = values.as_slice();
-    if values.len() != 1 {
-        return false;
-    }
-    is_plain_exists(&values[0])
+    matches!(statement, Tree::Plain(_))
 }
 
-/// The path of a value that is a JSON_EXISTS.
-fn exists_path(value: BoundValue) -> Option<Path>
-    ensures { result ≡ exists_in value }
-{
-    match value {
-        BoundValue::Exists(with, _) => {
-            let BoundPath { path, vars: _ } = with;
-            Some(path)
-        }
-        BoundValue::Lit(_)
-        | BoundValue::Column(_)
-        | BoundValue::Value(_, _)
-        | BoundValue::Query(_, _)
-        | BoundValue::IsJson(_)
-        | BoundValue::Object(_, _, _)
-        | BoundValue::Array(_, _) => None,
-    }
-}
-
-/// The path of an item of a SELECT list that is a JSON_EXISTS.
-fn item_path(item: BoundItem) -> Option<Path>
-    ensures { result ≡ exists_item item }
-{
-    match item {
-        BoundItem::Value(value) => exists_path(value),
-        BoundItem::ArrayAgg(_, _) | BoundItem::ObjectAgg(_, _, _, _) => None,
-    }
-}
-
-/// The path of a SELECT list of one JSON_EXISTS.
-fn path_alone(bound: Bound) -> Option<Path>
-    ensures { (x : b.PathWith) (action : Action) → (bound_of bound).items ≡ b.Single (b.Exists x action) ∷ [] → option_map path_of result ≡ Some x.path }
-{
-    let Bound { items, table: _ } = bound;
-    let mut items = items.into_vec();
-    match items.pop() {
-        Some(item) => item_path(item),
-        None => None,
-    }
-}
-
-/// The path of a statement that is run.
-fn path_to_run(alloc: Global, statement: Tree) -> Result<Path, Untaken>
+/// A statement that is run, as it is bound.
+fn statement_to_run(alloc: Global, statement: Tree) -> Result<Bound, Untaken>
     requires { IsBindable (statement_of statement) }
     ensures { IsAnswered (run_answer (statement_of statement)) result }
 {
@@ -127,10 +63,7 @@ fn path_to_run(alloc: Global, statement: Tree) -> Result<Path, Untaken>
     if !runs {
         return Err(Untaken::For(FileKind::Syntax));
     }
-    match path_alone(bound) {
-        Some(path) => Ok(path),
-        None => Err(Untaken::For(FileKind::Syntax)),
-    }
+    Ok(bound)
 }
 
 /// Whether binding accepts a statement.
@@ -145,10 +78,11 @@ fn accept(alloc: Global, statement: Tree) -> Result<(), Untaken>
 }
 
 /// The statements of a file that is run, or why it is not.
-pub(crate) fn statements_to_run(alloc: Global, file: &[u8]) -> Result<Vec<Statement>, FileRefusal>
+pub(crate) fn statements_to_run(alloc: Global, file: &[u8]) -> Result<Vec<Bound>, FileRefusal>
     requires { length file.now ≤ max_file }
-    ensures accepted { IfOk result (λ statements. Runs file.now (map path_of statements.items)) }
+    ensures accepted { IfOk result (λ statements. Runs file.now (map bound_of statements.items)) }
     ensures few { IfOk result (λ statements. length statements.items < 2 ^ 32) }
+    ensures can_run { IfOk result (λ statements. All CanRun statements.items) }
     ensures refused { IfErr result (λ refusal. IsRefused run_answer file.now refusal) }
 {
     let Ok(mut script) = parse_file(alloc, file) else {
@@ -159,11 +93,11 @@ pub(crate) fn statements_to_run(alloc: Global, file: &[u8]) -> Result<Vec<Statem
     let mut number: u32 = 0;
     while let Some(statement) = script.statements.take_first() {
         number += 1;
-        let path = match path_to_run(alloc, statement) {
-            Ok(path) => path,
+        let bound = match statement_to_run(alloc, statement) {
+            Ok(bound) => bound,
             Err(untaken) => return Err(untaken.of_statement(number)),
         };
-        match statements.push(Statement::new(alloc, path)) {
+        match statements.push(bound) {
             Ok(()) => {}
             Err(_) => return Err(FileRefusal::Memory),
         }

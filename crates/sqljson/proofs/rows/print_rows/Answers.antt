@@ -1,34 +1,32 @@
-use Rattle.std.proofs.Common.{rules, ◌≡◌, ◌+◌, ◌<◌, ◌≤◌, ◌++◌, [], ◌∙◌, ap, arith, length, get_or}
-use Rattle.std.proofs.lemmas.List.Elements.{All-set}
+use Rattle.std.proofs.Common.{rules, ◌≡◌, ◌+◌, ◌<◌, ◌≤◌, ◌++◌, ◌∙◌, ap, arith, length, get_or}
 use Rattle.sj_base.specs.Outside.{raised}
-use Rattle.sj_path.specs.Tree.{path_of}
-use Rattle.sqljson.specs.Meaning.{statement_outcome, statement_cost}
+use Rattle.sj_bind.specs.View.{bound_of}
+use Rattle.sj_select.specs.Rows.{plain_rows, plain_cost}
+use Rattle.sqljson.specs.Meaning.{line_read}
 use Rattle.sqljson.specs.Output.{statement_text}
-use Rattle.sqljson.specs.Batch.{paths_of}
-use Rattle.sqljson.proofs.Batches.{cursor_first, cursor_asked, text_step, cost_step, cost_stop}
+use Rattle.sqljson.specs.Batch.{bounds_in}
+use Rattle.sqljson.proofs.Batches.{rows_first, rows_asked, text_step, cost_step, cost_stop}
 use Rattle.sqljson.proofs.rows.print_rows.Goals as goal
 
-pub returns-in_err-print_outcome-clause-costs : goal.returns-in_err-print_outcome-clause-costs
-returns-in_err-print_outcome-clause-costs g c =
-    let within : c.loop-cursor.cursor-index < length c.loop-cursor.cursors = omega arith in
-    let spent : c.outcome-outcome.new.steps ≤ raised c.loop-cursor.steps (statement_cost (path_of (get_or c.loop-cursor.cursors c.loop-cursor.cursor-index c.cursor-item.result).path) c.args.line.now.doc) = search rules in
-    cost_stop (paths_of c.args.cursors.now) c.loop-cursor.cursor-index _ _ _ _ _ (cursor_first _ _ _ c.cursor-item.result within c.loop-cursor.invariant.paths) spent c.loop-cursor.invariant.costs
+pub returns-in_err-print_statement-clause-costs : goal.returns-in_err-print_statement-clause-costs
+returns-in_err-print_statement-clause-costs g c =
+    let within : c.loop-statement.statement-index < length c.loop-statement.rows = omega arith in
+    let spent : c.print_statement.new.steps ≤ raised c.loop-statement.steps (plain_cost (bound_of (get_or c.loop-statement.rows c.loop-statement.statement-index c.statement-item.result).bound) (line_read c.args.line.now.reading)) = search rules in
+    cost_stop (bounds_in c.args.rows.now) c.loop-statement.statement-index _ _ _ _ _ (rows_first _ _ _ c.statement-item.result within c.loop-statement.invariant.bounds) spent c.loop-statement.invariant.costs
 
-pub returns-in_err-print_outcome-clause-paths : goal.returns-in_err-print_outcome-clause-paths
-returns-in_err-print_outcome-clause-paths g c =
-    cursor_asked c.loop-cursor.cursors c.loop-cursor.cursor-index c.cursor-item.result c.outcome-outcome.new.cursor c.outcome-outcome.ensures.path ∙ c.loop-cursor.invariant.paths
+pub returns-in_err-print_statement-clause-bounds : goal.returns-in_err-print_statement-clause-bounds
+returns-in_err-print_statement-clause-bounds g c =
+    rows_asked c.loop-statement.rows c.loop-statement.statement-index c.statement-item.result c.print_statement.new.rows c.print_statement.ensures.bound ∙ c.loop-statement.invariant.bounds
 
-pub loop-cursor-preserved : goal.loop-cursor-preserved
-loop-cursor-preserved g c =
-    let within : c.loop-cursor.cursor-index < length c.loop-cursor.cursors = omega arith in
-    let first = cursor_first _ _ _ c.cursor-item.result within c.loop-cursor.invariant.paths in
-    let spent : c.outcome-outcome.new.steps ≤ raised c.loop-cursor.steps (statement_cost (path_of (get_or c.loop-cursor.cursors c.loop-cursor.cursor-index c.cursor-item.result).path) c.args.line.now.doc) = search rules in
-    let is : c.outcome-outcome.result ≡ statement_outcome (path_of (get_or c.loop-cursor.cursors c.loop-cursor.cursor-index c.cursor-item.result).path) c.args.line.now.doc = search rules in
-    let grown : c.print_outcome.new.page ≡ c.loop-cursor.page ++ statement_text c.args.line.now.number c.loop-cursor.number c.outcome-outcome.result = search rules in
+pub loop-statement-preserved : goal.loop-statement-preserved
+loop-statement-preserved g c =
+    let within : c.loop-statement.statement-index < length c.loop-statement.rows = omega arith in
+    let first = rows_first _ _ _ c.statement-item.result within c.loop-statement.invariant.bounds in
+    let spent : c.print_statement.new.steps ≤ raised c.loop-statement.steps (plain_cost (bound_of (get_or c.loop-statement.rows c.loop-statement.statement-index c.statement-item.result).bound) (line_read c.args.line.now.reading)) = search rules in
+    let grown : c.print_statement.new.page ≡ c.loop-statement.page ++ statement_text c.args.line.now.number c.loop-statement.number (plain_rows (bound_of (get_or c.loop-statement.rows c.loop-statement.statement-index c.statement-item.result).bound) (line_read c.args.line.now.reading)) = search rules in
     record {
-      number = ap (λ n. n + 1) c.loop-cursor.invariant.number;
-      paths = cursor_asked c.loop-cursor.cursors c.loop-cursor.cursor-index c.cursor-item.result c.outcome-outcome.new.cursor c.outcome-outcome.ensures.path ∙ c.loop-cursor.invariant.paths;
-      free = All-set (λ x. x.vars ≡ []) _ _ _ c.outcome-outcome.ensures.vars c.loop-cursor.invariant.free;
-      text = text_step (paths_of c.args.cursors.now) c.loop-cursor.cursor-index _ _ _ _ _ _ _ _ first is grown c.loop-cursor.invariant.text;
-      costs = cost_step (paths_of c.args.cursors.now) c.loop-cursor.cursor-index _ _ _ _ _ first spent c.loop-cursor.invariant.costs;
+      number = ap (λ n. n + 1) c.loop-statement.invariant.number;
+      bounds = rows_asked c.loop-statement.rows c.loop-statement.statement-index c.statement-item.result c.print_statement.new.rows c.print_statement.ensures.bound ∙ c.loop-statement.invariant.bounds;
+      text = text_step (bounds_in c.args.rows.now) c.loop-statement.statement-index _ _ _ _ _ _ _ first grown c.loop-statement.invariant.text;
+      costs = cost_step (bounds_in c.args.rows.now) c.loop-statement.statement-index _ _ _ _ _ first spent c.loop-statement.invariant.costs;
     }
