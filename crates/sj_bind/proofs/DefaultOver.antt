@@ -5,9 +5,9 @@ use Rattle.sj_statement.specs.declared.clauses.InOut.TheVariants as i
 use Rattle.sj_statement.specs.declared.clauses.Siblings.{Siblings}
 use Rattle.sj_statement.specs.declared.clauses.Siblings.TheVariants as s
 use Rattle.sj_statement.specs.Tree.{Columns, Last, More, ColumnOf, Ordinality, Regular, Formatted, Nested}
-use Rattle.sj_value.specs.Plans.{PlanTree}
+use Rattle.sj_value.specs.Plans.{PlanTree, one_at, times, root_of}
 use Rattle.sj_bind.specs.Paths.{paths_in, paths_below}
-use Rattle.sj_bind.specs.Plans.{one_at, times, root_of, joined, beside, grouped, over, default_in, default_below}
+use Rattle.sj_bind.specs.Plans.{joined, beside, grouped, over, default_in, default_below}
 use Rattle.sj_bind.proofs.Inside.{inside, inside-none, inside-append, inside-first}
 
 -- how often a number stands in plans

@@ -1,7 +1,7 @@
 -- Numbers that stand one after another.
 use Rattle.std.proofs.Common.{◌≡◌, ℕ, suc, ◌+◌, ◌<◌, ◌≤◌, ◌&&◌, nat_le, nat_lt, if◌then◌else◌, arith}
 use Rattle.std.proofs.lemmas.Bool.Decides.{nat_tests}
-use Rattle.sj_bind.specs.Plans.{one_at}
+use Rattle.sj_value.specs.Plans.{one_at}
 
 -- 1 where k is one of the m numbers from a, and else 0
 unfoldable pub inside : ℕ → ℕ → ℕ → ℕ

@@ -4,11 +4,11 @@ use Rattle.std.specs.Prelude.{Result, Ok, Err, IfOk}
 use Rattle.std.specs.Option.{option_to_list}
 use Rattle.sj_statement.specs.Tree.{Table, PlanTree, Default, Named}
 use Rattle.sj_value.specs.declared.plan.Plan.{Plan}
-use Rattle.sj_value.specs.Plans.{plan_tree}
+use Rattle.sj_value.specs.Plans.{plan_tree, IsPlanOver}
 use Rattle.sj_value.specs.Plans as v
 use Rattle.sj_bind.specs.Paths.{row_path, paths_below, table_paths}
 use Rattle.sj_bind.specs.Tables.{has_path_name_twice, path_names_below}
-use Rattle.sj_bind.specs.Plans.{IsPlanOver, has_root, fits, differs, has_plan_mismatch, default_below, plan_by, table_plan}
+use Rattle.sj_bind.specs.Plans.{has_root, fits, differs, has_plan_mismatch, default_below, plan_by, table_plan}
 use Rattle.sj_bind.proofs.Inside.{inside-yes, inside-no}
 use Rattle.sj_bind.proofs.DefaultOver.{default-times, default-root}
 use Rattle.sj_bind.proofs.NamedOver.{both, twice-right, named-times, named-root}

@@ -13,7 +13,8 @@ use Rattle.sj_statement.specs.Tree.{ColumnOf, Ordinality, Regular, Formatted, Ne
 use Rattle.sj_bind.specs.Clauses.{passed, sql_type, names_text, default_fails}
 use Rattle.sj_bind.specs.Meaning.{column_number, bound_column, bound_columns, bound_table}
 use Rattle.sj_bind.specs.Paths.{TablePath, paths_in, table_paths}
-use Rattle.sj_bind.specs.Plans.{IsPlanOver, table_plan}
+use Rattle.sj_value.specs.Plans.{IsPlanOver}
+use Rattle.sj_bind.specs.Plans.{table_plan}
 use Rattle.sj_bind.specs.Rules.{is_among, text_name, text_names, columns_alone, paths_alone, all_columns, all_paths, lacks_variable, column_lacks_variable, column_default_fails, table_lacks_variable}
 use Rattle.sj_bind.specs.Sound.{IsBindableColumn, IsBindableTable, IsTextColumn, IsSoundColumn, IsSoundTable}
 use Rattle.sj_bind.specs.Tables.{TableColumn, columns_in, columns_below, table_columns, names_in, names_below, column_names, has_twice}

@@ -16,7 +16,7 @@ use Rattle.sj_value.specs.Clauses.{IsValueSpec}
 use Rattle.sj_bind.specs.Bound.{PathWith, Value, Lit, Column, Exists, ValueOf, Query, IsJson, Object, Array, Values, NoValues, MoreValues, Members, NoMembers, MoreMembers, Item, Single, ArrayAgg, ObjectAgg, ColumnOf as BoundColumn, Ordinality, Regular, Formatted, Table as BoundTable, Bound}
 use Rattle.sj_bind.specs.Clauses.{IsBindableType, is_text_type}
 use Rattle.sj_bind.specs.Parts.{Call, exists_call, value_call, query_call, calls}
-use Rattle.sj_bind.specs.Plans.{IsPlanOver}
+use Rattle.sj_value.specs.Plans.{IsPlanOver}
 use Rattle.sj_bind.specs.Rules.{all_columns}
 
 -- ---- statements that can be bound

@@ -1,5 +1,5 @@
 -- A bound statement without where its parts lie in memory.
-use Rattle.std.specs.Prelude.{List, [], ◌∷◌, Option, Some, None}
+use Rattle.std.specs.Prelude.{List, [], ◌∷◌, map, Option, Some, None}
 use Rattle.sj_grammar.specs.Tree as g
 use Rattle.sj_path.specs.declared.tree.Path.{Path}
 use Rattle.sj_path.specs.Tree.{path_of}
@@ -58,8 +58,7 @@ columns_of [] = []
 columns_of (x ∷ xs) = column_of x ∷ columns_of xs
 
 abbrev pub paths_of : List Path → List g.Path
-paths_of [] = []
-paths_of (x ∷ xs) = path_of x ∷ paths_of xs
+paths_of xs = map path_of xs
 
 abbrev pub table_of : BoundTable → b.Table
 table_of x = record { paths = paths_of x.paths; vars = x.vars; plan = plan_tree x.plan; on_error = x.on_error; columns = columns_of x.columns }

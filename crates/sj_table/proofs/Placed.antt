@@ -1,8 +1,7 @@
 -- The numbers that stand in a plan over paths are those of paths.
 use Rattle.std.proofs.Common.{◌≡◌, ◌≤◌, ◌<◌, ℕ, ◌+◌, arith}
 use Rattle.std.proofs.lemmas.Bool.Decides.{nat_tests}
-use Rattle.sj_value.specs.Plans.{PlanTree, path_rows, outer_join, inner_join, union_of, cross_of}
-use Rattle.sj_table.specs.Plans.{one_at}
+use Rattle.sj_value.specs.Plans.{PlanTree, path_rows, outer_join, inner_join, union_of, cross_of, one_at}
 
 -- how many paths and operators a plan has
 abbrev pub tree_size : PlanTree → ℕ

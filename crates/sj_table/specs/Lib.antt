@@ -1,5 +1,4 @@
 pub mod Series
-pub mod Plans
 pub mod Rows
 pub mod Takes
 pub mod Cells

@@ -1,8 +1,7 @@
 // The cells of a plan, made whole: the only place that takes memory.
 ghost use Rattle.std.specs.Prelude.{◌≡◌, ◌≤◌, ◌<◌, ℕ, length, IfOk};
-ghost use Rattle.sj_value.specs.Plans.{plan_tree};
+ghost use Rattle.sj_value.specs.Plans.{plan_tree, times};
 ghost use Rattle.sj_table.specs.Cells.{core, path_source};
-ghost use Rattle.sj_table.specs.Plans.{times};
 ghost use Rattle.sj_table.specs.Rows.{nested as nested_of, source, sourced};
 
 use crate::cells::{At, Cell, Cross, Hand, Nested, PathCell, Side, Stage, Union};

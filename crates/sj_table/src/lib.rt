@@ -1,7 +1,7 @@
 //! The rows of the plan of a JSON_TABLE, one by one (ISO/IEC 9075-2, JSON table).
 //!
 //! `specs/Rows.antt` says which rows a plan over numbered paths has on an item, as whole lists with their end, and how many children of
-//! nodes may be handed out for them. `specs/Plans.antt` says which plans there are over a list of paths.
+//! nodes may be handed out for them. Which plans there are over a list of paths is said in sj_value.
 //!
 //! A [`TableCursor`] has a cell for each path and each operator of its plan, made in `TableCursor::new`, which takes all memory. The cell
 //! of a path holds the path's cursor and the item at hand; a row is read off the cells where it stands, and no list is built.

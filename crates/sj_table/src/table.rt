@@ -47,8 +47,7 @@ impl<'d> Model for TableCursor<'d> {
 
 impl<'d> TableCursor<'d> {
     ghost use Rattle.sj_item.specs.Items.{item_value};
-    ghost use Rattle.sj_value.specs.Plans.{plan_tree};
-    ghost use Rattle.sj_table.specs.Plans.{IsPlanOver};
+    ghost use Rattle.sj_value.specs.Plans.{plan_tree, IsPlanOver};
     ghost use Rattle.sj_table.specs.Rows.{entry, entry_value, plan_rows, plan_cost};
     ghost use Rattle.sj_table.specs.Takes.{Advances};
     ghost use Rattle.std.specs.Prelude.{[]};

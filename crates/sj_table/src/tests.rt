@@ -1,7 +1,6 @@
 // Rows of plans over documents, example by example.
 ghost use Rattle.std.specs.Prelude.{◌≡◌, length, IfOk};
-ghost use Rattle.sj_value.specs.Plans.{plan_tree, path_rows, outer_join, inner_join, union_of, cross_of};
-ghost use Rattle.sj_table.specs.Plans.{IsPlanOver};
+ghost use Rattle.sj_value.specs.Plans.{plan_tree, path_rows, outer_join, inner_join, union_of, cross_of, IsPlanOver};
 
 use crate::{RowPull, TableCursor};
 use sj_base::{Steps, Tally};

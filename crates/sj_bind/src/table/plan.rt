@@ -1,7 +1,7 @@
 //! The plan of a table over the numbers of its paths.
 
 ghost use Rattle.std.specs.Prelude.{◌≡◌, ◌+◌, ◌<◌, ◌≤◌, ◌^◌, ◌∷◌, [], true, false, length, option_map, None, IfOk};
-ghost use Rattle.sj_value.specs.Plans.{plan_tree, outer_join, inner_join, union_of, cross_of};
+ghost use Rattle.sj_value.specs.Plans.{plan_tree, outer_join, inner_join, union_of, cross_of, IsPlanOver};
 ghost use Rattle.sj_sql.specs.View.{table_of, columns_of, column_of, plan_of, plan_tree_of};
 ghost use Rattle.sj_bind.specs.Tables.{has_too_many, has_path_name_twice};
 ghost use Rattle.sj_bind.specs.Paths.{paths_in, paths_below, children, row_path, table_paths};
@@ -22,7 +22,7 @@ pub fn table_plan(alloc: Global, table: &Table) -> Result<Plan, Memory>
     requires names { has_path_name_twice (table_of table.now) ≡ false }
     requires matched { spec.has_plan_mismatch (table_of table.now) ≡ false }
     ensures same { IfOk result (λ plan. plan_tree plan ≡ spec.table_plan (table_of table.now)) }
-    ensures over { IfOk result (λ plan. spec.IsPlanOver (length (table_paths (table_of table.now))) (plan_tree plan)) }
+    ensures over { IfOk result (λ plan. IsPlanOver (length (table_paths (table_of table.now))) (plan_tree plan)) }
 {
     plan_by(alloc, &table.plan, table)
 }

@@ -1,6 +1,5 @@
 use Rattle.std.proofs.Common.{rules, arith, ap}
-use Rattle.sj_value.specs.Plans.{plan_tree}
-use Rattle.sj_table.specs.Plans.{one_at, times}
+use Rattle.sj_value.specs.Plans.{plan_tree, one_at, times}
 use Rattle.sj_table.proofs.Placed.{named, named_alone, in_left, in_right, some_size, tree_size}
 use Rattle.sj_table.proofs.build.+build.Goals as goal
 
