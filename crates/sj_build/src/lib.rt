@@ -18,8 +18,6 @@ mod object;
 mod object_agg;
 mod place;
 mod refusal;
-#[cfg(test)]
-mod tests;
 
 pub use array::json_array;
 pub use array_agg::ArrayAgg;

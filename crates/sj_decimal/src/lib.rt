@@ -20,8 +20,6 @@ mod parsing;
 mod rounding;
 mod significand;
 mod spelling;
-#[cfg(test)]
-mod tests;
 mod text;
 
 pub use arithmetic::NumFault;

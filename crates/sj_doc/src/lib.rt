@@ -18,8 +18,6 @@ mod children;
 mod doc;
 mod keys;
 mod node;
-#[cfg(test)]
-mod tests;
 mod tour;
 
 pub use builder::DocBuilder;

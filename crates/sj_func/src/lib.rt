@@ -13,8 +13,6 @@ mod exists;
 mod json;
 mod query;
 mod single;
-#[cfg(test)]
-mod tests;
 mod texts;
 mod value;
 

@@ -12,8 +12,6 @@
 mod comparison;
 mod held;
 mod item;
-#[cfg(test)]
-mod tests;
 mod texts;
 mod truth;
 

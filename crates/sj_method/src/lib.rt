@@ -12,8 +12,6 @@
 mod keyvalue;
 mod method;
 mod number;
-#[cfg(test)]
-mod tests;
 
 pub use keyvalue::{PairWalk, pairs};
 pub use method::{apply, sign};

@@ -19,8 +19,6 @@ mod predicate;
 mod raw;
 mod single;
 mod step;
-#[cfg(test)]
-mod tests;
 mod tree;
 mod vars;
 

@@ -10,8 +10,6 @@ mod plain;
 mod reader;
 mod scan;
 mod short;
-#[cfg(test)]
-mod tests;
 mod unescape;
 mod utf8;
 

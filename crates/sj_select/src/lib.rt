@@ -16,8 +16,6 @@ mod line;
 mod operation;
 mod pile;
 mod rows;
-#[cfg(test)]
-mod tests;
 
 pub use law::unique_keys;
 pub use line::LineDoc;

@@ -29,8 +29,6 @@ mod select;
 mod seq;
 mod single;
 mod table;
-#[cfg(test)]
-mod tests;
 mod tree;
 mod value;
 

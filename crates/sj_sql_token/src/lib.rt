@@ -13,8 +13,6 @@ mod lex;
 mod number;
 mod piece;
 mod quoted;
-#[cfg(test)]
-mod tests;
 mod token;
 mod utf8;
 mod word;

@@ -15,8 +15,6 @@ mod members;
 mod parts;
 mod reach;
 mod start;
-#[cfg(test)]
-mod tests;
 mod walk;
 mod whole;
 

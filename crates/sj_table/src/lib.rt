@@ -21,8 +21,6 @@ mod path;
 mod pull;
 mod rewind;
 mod table;
-#[cfg(test)]
-mod tests;
 
 pub use pull::RowPull;
 pub use table::TableCursor;

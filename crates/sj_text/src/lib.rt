@@ -12,8 +12,6 @@ mod item;
 mod node;
 mod scalar;
 mod string;
-#[cfg(test)]
-mod tests;
 
 pub use item::item_text;
 pub use string::string_text;

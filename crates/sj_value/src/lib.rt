@@ -12,8 +12,6 @@ mod copies;
 mod law;
 mod plan;
 mod refusal;
-#[cfg(test)]
-mod tests;
 mod types;
 mod value;
 

@@ -1,0 +1,58 @@
+// A document is built, walked and built anew.
+use sj_base::{Steps, Tally};
+use sj_decimal::Decimal;
+use sj_doc::{DocBuilder, Kind, Num, Want};
+use std::test::Fail;
+
+#[test]
+fn builds_and_walks(rt: HostRuntime) -> Result<(), Fail> {
+    let mut builder = DocBuilder::new(rt.alloc());
+    builder.open_object()?;
+    assert_eq!(rt; builder.wants(), Want::KeyOrClose);
+    builder.key("a")?;
+    builder.text("x")?;
+    builder.key("a")?;
+    builder.open_array()?;
+    builder.truth(true)?;
+    builder.null()?;
+    assert_eq!(rt; builder.depth(), 2);
+    builder.close();
+    builder.close();
+    let doc = builder.finish();
+    assert!(rt; !doc.unique_keys(rt.alloc())?);
+    let mut steps = Steps::new(Tally::new());
+    let mut members = doc.root().children();
+    let first = members.next(&mut steps).ok_or("no member")?;
+    assert_eq!(rt; first.key.ok_or("no key")?, "a");
+    assert_eq!(rt; first.node.kind(), Kind::String);
+    let second = members.next(&mut steps).ok_or("no second member")?;
+    assert_eq!(rt; second.node.len(), 2);
+    assert_eq!(rt; second.node.id(), 2);
+    let element = second.node.children().next(&mut steps).ok_or("no element")?;
+    assert_eq!(rt; element.node.kind(), Kind::Truth);
+    assert!(rt; doc.root().tour().next(&mut steps).is_some());
+    assert_eq!(rt; steps.ledger().count(), 3);
+    assert_eq!(rt; doc.recycle().wants(), Want::Value);
+    Ok(())
+}
+
+#[test]
+fn keeps_numbers(rt: HostRuntime) -> Result<(), Fail> {
+    let mut builder = DocBuilder::new(rt.alloc());
+    builder.open_array()?;
+    builder.exact(Decimal::from_parts(15, 1).ok_or("no decimal")?)?;
+    builder.exact(Decimal::from_parts(-7, 0).ok_or("no decimal")?)?;
+    builder.close();
+    let doc = builder.finish();
+    let mut steps = Steps::new(Tally::new());
+    let mut elements = doc.root().children();
+    for wanted in ["1.5", "-7"] {
+        let element = elements.next(&mut steps).ok_or("no element")?;
+        assert_eq!(rt; element.node.kind(), Kind::Number);
+        match element.node.number() {
+            Num::Exact(n) => assert_eq!(rt; n.text().as_str(), wanted),
+            Num::Wide(spelling) => assert_eq!(rt; spelling, wanted),
+        }
+    }
+    Ok(())
+}

@@ -1,0 +1,352 @@
+//! Examples, and hostile texts.
+
+use sj_base::Text;
+use sj_decimal::Compare;
+use sj_grammar::{Arith, Initial, Literal, Method, Mode, PathRefusal};
+use sj_path::{Expr, Path, Pred, Step, Sub, Subs, Vars, member_path, nodes, parse_path};
+use std::alloc::{AllocError, Global};
+use std::test::Fail;
+
+fn method(m: Method) -> &'static str {
+    match m {
+        Method::TypeOf => "type",
+        Method::Size => "size",
+        Method::Ceiling => "ceiling",
+        Method::Floor => "floor",
+        Method::Abs => "abs",
+        Method::KeyValue => "keyvalue",
+    }
+}
+
+fn arith(op: Arith) -> &'static str {
+    match op {
+        Arith::Add => " + ",
+        Arith::Sub => " - ",
+        Arith::Mul => " * ",
+        Arith::Div => " / ",
+        Arith::Rem => " % ",
+    }
+}
+
+fn compare(op: Compare) -> &'static str {
+    match op {
+        Compare::Eq => " == ",
+        Compare::Ne => " != ",
+        Compare::Lt => " < ",
+        Compare::Le => " <= ",
+        Compare::Gt => " > ",
+        Compare::Ge => " >= ",
+    }
+}
+
+fn quoted(out: &mut String, text: &Text) -> Result<(), AllocError> {
+    out.push_str("\"")?;
+    out.push_str(text.as_str())?;
+    out.push_str("\"")
+}
+
+fn variable(out: &mut String, name: &Text) -> Result<(), AllocError> {
+    out.push_str("$")?;
+    out.push_str(name.as_str())
+}
+
+fn literal(out: &mut String, l: &Literal) -> Result<(), AllocError> {
+    match l {
+        Literal::Text(text) => quoted(out, text),
+        Literal::Num(number) => out.push_str(number.text().as_str()),
+        Literal::Bool(true) => out.push_str("true"),
+        Literal::Bool(false) => out.push_str("false"),
+        Literal::Null => out.push_str("null"),
+    }
+}
+
+/// A tree as text: each operator with its operands in parentheses.
+#[cycle(shown)]
+fn expr(out: &mut String, e: &Expr) -> Result<(), AllocError> {
+    match e {
+        Expr::Root => out.push_str("$"),
+        Expr::Var(name) => variable(out, name),
+        Expr::Context => out.push_str("@"),
+        Expr::Last => out.push_str("last"),
+        Expr::Lit(l) => literal(out, l),
+        Expr::Access(e, s) => {
+            expr(out, e)?;
+            step(out, s)
+        }
+        Expr::Plus(e) => {
+            out.push_str("(+")?;
+            expr(out, e)?;
+            out.push_str(")")
+        }
+        Expr::Minus(e) => {
+            out.push_str("(-")?;
+            expr(out, e)?;
+            out.push_str(")")
+        }
+        Expr::Binary(op, a, b) => {
+            out.push_str("(")?;
+            expr(out, a)?;
+            out.push_str(arith(*op))?;
+            expr(out, b)?;
+            out.push_str(")")
+        }
+    }
+}
+
+#[cycle(shown)]
+fn step(out: &mut String, s: &Step) -> Result<(), AllocError> {
+    match s {
+        Step::Member(key) => {
+            out.push_str(".")?;
+            quoted(out, key)
+        }
+        Step::AllMembers => out.push_str(".*"),
+        Step::AllElements => out.push_str("[*]"),
+        Step::Elements(all) => {
+            out.push_str("[")?;
+            subs(out, all)?;
+            out.push_str("]")
+        }
+        Step::Filter(p) => {
+            out.push_str("?")?;
+            pred(out, p)
+        }
+        Step::Method(m) => {
+            out.push_str(".")?;
+            out.push_str(method(*m))?;
+            out.push_str("()")
+        }
+    }
+}
+
+#[cycle(shown)]
+fn sub(out: &mut String, s: &Sub) -> Result<(), AllocError> {
+    match s {
+        Sub::One(e) => expr(out, e),
+        Sub::Range(from, to) => {
+            expr(out, from)?;
+            out.push_str(" to ")?;
+            expr(out, to)
+        }
+    }
+}
+
+#[cycle(shown)]
+fn subs(out: &mut String, all: &Subs) -> Result<(), AllocError> {
+    match all {
+        Subs::Only(s) => sub(out, s),
+        Subs::More(s, others) => {
+            sub(out, s)?;
+            out.push_str(", ")?;
+            subs(out, others)
+        }
+    }
+}
+
+#[cycle(shown)]
+fn pred(out: &mut String, p: &Pred) -> Result<(), AllocError> {
+    out.push_str("(")?;
+    match p {
+        Pred::Compare(op, a, b) => {
+            expr(out, a)?;
+            out.push_str(compare(*op))?;
+            expr(out, b)?;
+        }
+        Pred::And(p, q) => {
+            pred(out, p)?;
+            out.push_str(" && ")?;
+            pred(out, q)?;
+        }
+        Pred::Or(p, q) => {
+            pred(out, p)?;
+            out.push_str(" || ")?;
+            pred(out, q)?;
+        }
+        Pred::Not(p) => {
+            out.push_str("!")?;
+            pred(out, p)?;
+        }
+        Pred::IsUnknown(p) => {
+            pred(out, p)?;
+            out.push_str(" is unknown")?;
+        }
+        Pred::Exists(e) => {
+            out.push_str("exists ")?;
+            expr(out, e)?;
+        }
+        Pred::StartsWith(e, initial) => {
+            expr(out, e)?;
+            out.push_str(" starts with ")?;
+            match initial {
+                Initial::Lit(text) => quoted(out, text)?,
+                Initial::Var(name) => variable(out, name)?,
+            }
+        }
+    }
+    out.push_str(")")
+}
+
+/// The path as text, or the refusal's message.
+fn shown(alloc: Global, answer: Result<Path, PathRefusal>) -> Result<String, AllocError> {
+    match answer {
+        Ok(path) => {
+            let mut out = String::new(alloc);
+            if path.mode == Mode::Strict {
+                out.push_str("strict ")?;
+            }
+            expr(&mut out, &path.expr)?;
+            Ok(out)
+        }
+        Err(refusal) => format!(in alloc; "{refusal}"),
+    }
+}
+
+const LEX: &str = "path: lexical error";
+
+const TOO_DEEP: &str = "path: too deep";
+
+const SYNTAX: &str = "path: syntax error";
+
+const MISPLACED: &str = "path: misplaced @ or last";
+
+#[test]
+fn examples(rt: HostRuntime) -> Result<(), Fail> {
+    for (text, answer) in [
+        ("$.a - $.b - $.c", "(($.\"a\" - $.\"b\") - $.\"c\")"),
+        ("$.a - ($.b - $.c)", "($.\"a\" - ($.\"b\" - $.\"c\"))"),
+        ("$[0to 1]", "$[0 to 1]"),
+        ("$ ? (@ == 1) ? (@ > 0)", "$?(@ == 1)?(@ > 0)"),
+        ("strict $[*]", "strict $[*]"),
+        ("lax $.a.lax", "$.\"a\".\"lax\""),
+        ("$.\"a b\".*", "$.\"a b\".*"),
+        ("$.size + $.size()", "($.\"size\" + $.size())"),
+        ("-$.a * 2", "((-$.\"a\") * 2)"),
+        ("- + $", "(-(+$))"),
+        ("1 - 2 * 3 % 4 / 5", "(1 - (((2 * 3) % 4) / 5))"),
+        (
+            "$ ? (@.a == 1 && @.b == 2 || !(@.c == 3))",
+            "$?(((@.\"a\" == 1) && (@.\"b\" == 2)) || (!(@.\"c\" == 3)))",
+        ),
+        ("$ ? ((@.a + 1) * 2 > 3)", "$?(((@.\"a\" + 1) * 2) > 3)"),
+        ("$ ? (((@.a == 1)))", "$?(@.\"a\" == 1)"),
+        (
+            "$ ? ((@.a == 1) is unknown)",
+            "$?((@.\"a\" == 1) is unknown)",
+        ),
+        ("$ ? (!exists(@.a))", "$?(!(exists @.\"a\"))"),
+        ("$ ? (@.s starts with $p)", "$?(@.\"s\" starts with $p)"),
+        ("$ ? (@ starts with \"a\")", "$?(@ starts with \"a\")"),
+        ("$[last - 1 to last, 0]", "$[(last - 1) to last, 0]"),
+        ("$[$ ? (@ == last)]", "$[$?(@ == last)]"),
+        ("$ ? (@ <> 5)", "$?(@ != 5)"),
+        ("$x.a", "$x.\"a\""),
+        ("$ + 1.e5", "($ + 1.\"e5\")"),
+        ("1.50e1", "15"),
+        ("(true)", "true"),
+        ("\t$\r\n.a ", "$.\"a\""),
+        (
+            "\"\\\"\\\\\\/\\b\\f\\n\\r\\t\\u00e9\\uD83D\\ude00\"",
+            "\"\"\\/\u{8}\u{c}\n\r\t\u{e9}\u{1f600}\"",
+        ),
+        ("$.\"\u{e9}\\u0000\"", "$.\"\u{e9}\u{0}\""),
+        ("$ == 1", SYNTAX),
+        ("$ ? (@)", SYNTAX),
+        ("$[", SYNTAX),
+        ("$.1a", SYNTAX),
+        ("$ x", SYNTAX),
+        ("$.nothing()", SYNTAX),
+        ("$.double(\"x\")", SYNTAX),
+        ("$ ? (! @ == 1)", SYNTAX),
+        ("", SYNTAX),
+        ("1e38", LEX),
+        ("'a'", LEX),
+        ("\u{0}", LEX),
+        ("\"a\u{1}b\"", LEX),
+        ("\"a", LEX),
+        ("\"\\x\"", LEX),
+        ("\"\\ud800\"", LEX),
+        ("\"\\ud800\\u0041\"", LEX),
+        ("\"\\udc00\"", LEX),
+        ("$ & $", LEX),
+        ("\u{e9}", LEX),
+        ("last", MISPLACED),
+        ("$ + @", MISPLACED),
+        ("@.datetime(\"x\")", MISPLACED),
+        ("$ ? (last == 1)", MISPLACED),
+        ("$.datetime(\"x\")", "unsupported datetime"),
+        ("$.datetime()", "unsupported datetime"),
+        ("$.double() ? (@ like_regex \"a\")", "unsupported double"),
+        (
+            "$ ? (@ like_regex \"a\" flag \"i\").double()",
+            "unsupported like_regex",
+        ),
+    ] {
+        let found = shown(rt.alloc(), parse_path(rt.alloc(), text))?;
+        assert_eq!(rt; found.as_str(), answer, "{text}");
+    }
+    Ok(())
+}
+
+/// `before`, then `many` times `part`, then `after`.
+fn repeated(
+    alloc: Global,
+    before: &str,
+    part: &str,
+    many: usize,
+    after: &str,
+) -> Result<String, AllocError> {
+    let mut text = String::from_str(alloc, before)?;
+    for _ in 0..many {
+        text.push_str(part)?;
+    }
+    text.push_str(after)?;
+    Ok(text)
+}
+
+#[test]
+fn limits_and_hostile_texts(rt: HostRuntime) -> Result<(), Fail> {
+    let alloc = rt.alloc();
+    let closed = repeated(alloc, "$", ")", 64, "")?;
+    for (before, part, many, after, answer) in [
+        ("", "(", 64, closed.as_str(), "$"),
+        ("", "(", 65, closed.as_str(), TOO_DEEP),
+        ("$", ".a", 257, "", TOO_DEEP),
+        ("$", " ", 1_000_000, "", "$"),
+        ("", "(", 1_000_000, "", TOO_DEEP),
+        ("", "-", 1_000_000, "", TOO_DEEP),
+        ("$", "[", 1_000_000, "", TOO_DEEP),
+        ("", "a", 1_000_000, "", SYNTAX),
+        ("", "$ ", 300_000, "", SYNTAX),
+        ("", "9", 1_000_000, "", LEX),
+        ("\"", "\\n", 500_000, "", LEX),
+    ] {
+        let text = repeated(alloc, before, part, many, after)?;
+        let found = shown(alloc, parse_path(alloc, text.as_str()))?;
+        assert_eq!(rt; found.as_str(), answer, "{part}");
+    }
+    let text = repeated(alloc, "$", ".a", 256, "")?;
+    let path = parse_path(alloc, text.as_str())?;
+    assert_eq!(rt; nodes(&path), 513);
+    Ok(())
+}
+
+#[test]
+fn members_and_variables(rt: HostRuntime) -> Result<(), Fail> {
+    let alloc = rt.alloc();
+    assert_eq!(rt; nodes(&parse_path(alloc, "lax $.a.b")?), 5);
+    assert_eq!(rt; nodes(&parse_path(alloc, "$[0, 1 to 2] ? (@ == 1)")?), 13);
+    let member = shown(alloc, Ok(member_path(alloc, "a\"b")?))?;
+    assert_eq!(rt; member.as_str(), "$.\"a\"b\"");
+
+    let mut vars = Vars::new(alloc);
+    vars.push(Text::from_str(alloc, "x")?, Literal::Bool(true))?;
+    let path = parse_path(alloc, "$x ? (@ starts with $y)")?;
+    assert!(rt; vars.has("x") && !vars.has("y") && !vars.covers(&path));
+    assert!(rt; !vars.has("y"));
+    if !vars.has("y") {
+        vars.push(Text::from_str(alloc, "y")?, Literal::Null)?;
+    }
+    assert!(rt; vars.covers(&path) && matches!(vars.get("x"), Some(Literal::Bool(true))));
+    assert!(rt; vars.get("z").is_none());
+    Ok(())
+}

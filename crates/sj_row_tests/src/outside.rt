@@ -1,0 +1,279 @@
+// Each call with ample memory, its answer compared; the objects in memory by tables of failing calls and cuts; the adapters over fakes and a file.
+use sj_base::{
+    Bytes, CountSink, Failed, FileShelf, Ledger, MemShelf, MemSink, MemSource, Memory, QuietShelf,
+    QuietSource, Shelf, Sink, Source, State, StderrSink, StdinSource, StdoutSink, Steps, Tally,
+    Text,
+};
+use std::fs;
+use std::io::{self, ErrorKind, Read, Write};
+use std::process::Abort;
+use std::test::Fail;
+
+#[test]
+fn states_have_their_codes(rt: HostRuntime) {
+    for (state, code) in [
+        (State::S22001, "22001"),
+        (State::S22003, "22003"),
+        (State::S22004, "22004"),
+        (State::S22012, "22012"),
+        (State::S22030, "22030"),
+        (State::S22032, "22032"),
+        (State::S22033, "22033"),
+        (State::S22034, "22034"),
+        (State::S22035, "22035"),
+        (State::S22036, "22036"),
+        (State::S22037, "22037"),
+        (State::S22038, "22038"),
+        (State::S22039, "22039"),
+        (State::S2203A, "2203A"),
+        (State::S2203C, "2203C"),
+        (State::S2203F, "2203F"),
+        (State::S2203G, "2203G"),
+    ] {
+        assert_eq!(rt; state.code(), code);
+    }
+}
+
+#[test]
+fn texts_and_bytes_are_what_was_put_in(rt: HostRuntime) -> Result<(), Fail> {
+    let text = Text::from_str(rt.alloc(), "grün")?;
+    assert_eq!(rt; text.as_str(), "grün");
+    assert_eq!(rt; Text::from_string(text.into_string()).as_str(), "grün");
+
+    let mut bytes = Bytes::new(rt.alloc());
+    assert!(rt; bytes.is_empty());
+    bytes.push(b"ab")?;
+    bytes.push(b"cde")?;
+    assert_eq!(rt; bytes.as_slice(), b"abcde".as_slice());
+    assert_eq!(rt; bytes.len(), 5);
+    bytes.remove(1);
+    assert_eq!(rt; bytes.as_slice(), b"acde".as_slice());
+    assert!(rt; bytes.len() >= 2);
+    bytes.truncate(2);
+    assert_eq!(rt;
+        Bytes::from_vec(bytes.into_vec()).as_slice(),
+        b"ac".as_slice()
+    );
+    Ok(())
+}
+
+#[test]
+fn steps_are_counted(rt: HostRuntime) {
+    let mut tally = Tally::new();
+    tally.raise();
+    let mut steps = Steps::new(tally);
+    steps.tick();
+    steps.tick();
+    assert_eq!(rt; steps.ledger().count(), 3);
+}
+
+/// Reads into four places once for each wanted answer, and compares the bytes.
+fn compare_reads<S: Source>(rt: &impl Abort, source: &mut S, wants: &[Result<&[u8], Failed>]) {
+    let mut buf = [0; 4];
+    for want in wants {
+        let answer = source.read(&mut buf);
+        assert_eq!(rt; answer, want.map(|bytes| bytes.len()));
+        if let Ok(bytes) = want {
+            assert!(rt; buf.starts_with(bytes));
+        }
+    }
+}
+
+#[test]
+fn a_source_fails_and_is_cut_at_the_listed_calls(rt: HostRuntime) -> Result<(), Fail> {
+    let bytes = b"abcdefghij".to_vec(rt.alloc())?;
+    let cuts = [3, 0, 9, 1].to_vec(rt.alloc())?;
+    let fails = [1, 5].to_vec(rt.alloc())?;
+    let mut source = MemSource::new(bytes, cuts, fails);
+    // the first call is cut to 3, a cut of 0 is none, a cut above the room changes nothing, and the last bytes are fewer than the room
+    let wants = [
+        Ok(b"abc".as_slice()),
+        Err(Failed),
+        Ok(b"defg".as_slice()),
+        Ok(b"h".as_slice()),
+        Ok(b"ij".as_slice()),
+        Err(Failed),
+        Ok(b"".as_slice()),
+    ];
+    compare_reads(&rt, &mut source, &wants);
+    assert_eq!(rt; source.calls(), 7);
+
+    let mut quiet = QuietSource::new(b"abcde".to_vec(rt.alloc())?);
+    let wants = [
+        Ok(b"abcd".as_slice()),
+        Ok(b"e".as_slice()),
+        Ok(b"".as_slice()),
+    ];
+    compare_reads(&rt, &mut quiet, &wants);
+    Ok(())
+}
+
+/// Writes three bytes once for each wanted answer.
+fn compare_writes<S: Sink>(rt: &impl Abort, sink: &mut S, wants: &[Result<usize, Failed>]) {
+    for want in wants {
+        assert_eq!(rt; sink.write(b"abc"), *want);
+    }
+}
+
+#[test]
+fn a_sink_fails_at_the_listed_calls_and_without_room(rt: HostRuntime) -> Result<(), Fail> {
+    let fails = [0, 2].to_vec(rt.alloc())?;
+    let mut sink = MemSink::new(rt.alloc(), 5, fails)?;
+    let wants = [Err(Failed), Ok(3), Err(Failed), Ok(2), Err(Failed)];
+    compare_writes(&rt, &mut sink, &wants);
+    assert_eq!(rt; sink.bytes(), b"abcab".as_slice());
+    assert_eq!(rt; sink.faults(), 3);
+
+    let mut counter = CountSink::new();
+    compare_writes(&rt, &mut counter, &[Ok(3), Ok(3)]);
+    assert_eq!(rt; counter.size(), 6);
+    Ok(())
+}
+
+/// A call on a shelf with its answer: a name that is picked, or bytes that are read.
+#[derive(Clone, Copy)]
+enum Call {
+    Picks(&'static str, Result<(), Failed>),
+    Reads(Result<&'static [u8], Failed>),
+}
+
+fn compare_calls<S: Shelf>(rt: &impl Abort, shelf: &mut S, calls: &[Call]) {
+    let mut buf = [0; 4];
+    for call in calls {
+        match *call {
+            Call::Picks(name, want) => assert_eq!(rt; shelf.pick(name), want),
+            Call::Reads(want) => {
+                let answer = shelf.read(&mut buf);
+                assert_eq!(rt; answer, want.map(|bytes| bytes.len()));
+                if let Ok(bytes) = want {
+                    assert!(rt; buf.starts_with(bytes));
+                }
+            }
+        }
+    }
+}
+
+#[test]
+fn a_shelf_gives_its_file_from_the_front_at_each_pick(rt: HostRuntime) -> Result<(), Fail> {
+    let name = Text::from_str(rt.alloc(), "f")?;
+    let fails = [4, 7].to_vec(rt.alloc())?;
+    let mut shelf = MemShelf::new(name, b"abcdef".to_vec(rt.alloc())?, fails);
+    // calls 4 and 7 are listed; a failed pick leaves no file chosen, and a failed read takes nothing
+    let calls = [
+        Call::Reads(Ok(b"")),
+        Call::Picks("f", Ok(())),
+        Call::Reads(Ok(b"abcd")),
+        Call::Reads(Ok(b"ef")),
+        Call::Picks("f", Err(Failed)),
+        Call::Reads(Ok(b"")),
+        Call::Picks("f", Ok(())),
+        Call::Reads(Err(Failed)),
+        Call::Reads(Ok(b"abcd")),
+        Call::Picks("ff", Err(Failed)),
+        Call::Reads(Ok(b"")),
+    ];
+    compare_calls(&rt, &mut shelf, &calls);
+
+    let name = Text::from_str(rt.alloc(), "f")?;
+    let mut quiet = QuietShelf::new(name, b"ab".to_vec(rt.alloc())?);
+    let calls = [
+        Call::Reads(Ok(b"")),
+        Call::Picks("g", Err(Failed)),
+        Call::Reads(Ok(b"")),
+        Call::Picks("f", Ok(())),
+        Call::Reads(Ok(b"ab")),
+    ];
+    compare_calls(&rt, &mut quiet, &calls);
+    Ok(())
+}
+
+#[test]
+fn failures_have_texts(rt: HostRuntime) -> Result<(), Fail> {
+    assert_eq!(rt;
+        format!(in rt.alloc(); "{Memory}")?.as_str(),
+        "out of memory"
+    );
+    assert_eq!(rt;
+        format!(in rt.alloc(); "{Failed}")?.as_str(),
+        "the outside failed"
+    );
+    Ok(())
+}
+
+/// A reader and writer that takes and gives a fixed number of bytes at most, or fails.
+#[derive(Drop)]
+struct Fake {
+    most: Option<usize>,
+    flushes: bool,
+}
+
+impl Read for Fake {
+    fn read(&mut self, buf: &mut [u8]) -> io::Result<usize> {
+        match self.most {
+            Some(most) => Ok(most.min(buf.len())),
+            None => Err(ErrorKind::Other.into()),
+        }
+    }
+}
+
+impl Write for Fake {
+    fn write(&mut self, buf: &[u8]) -> io::Result<usize> {
+        match self.most {
+            Some(most) => Ok(most.min(buf.len())),
+            None => Err(ErrorKind::Other.into()),
+        }
+    }
+
+    fn flush(&mut self) -> io::Result<()> {
+        if self.flushes {
+            Ok(())
+        } else {
+            Err(ErrorKind::Other.into())
+        }
+    }
+}
+
+#[test]
+fn the_adapters_pass_on_counts_and_failures(rt: HostRuntime) {
+    let mut input = StdinSource::new(b"abcde".as_slice());
+    let wants = [
+        Ok(b"abcd".as_slice()),
+        Ok(b"e".as_slice()),
+        Ok(b"".as_slice()),
+    ];
+    compare_reads(&rt, &mut input, &wants);
+    let mut broken = StdinSource::new(Fake {
+        most: None,
+        flushes: true,
+    });
+    compare_reads(&rt, &mut broken, &[Err(Failed)]);
+
+    for (most, flushes, want) in [
+        (Some(2), true, Ok(2)),
+        (Some(9), true, Ok(3)),
+        (Some(0), true, Err(Failed)),
+        (Some(2), false, Err(Failed)),
+        (None, true, Err(Failed)),
+    ] {
+        compare_writes(&rt, &mut StdoutSink::new(Fake { most, flushes }), &[want]);
+        compare_writes(&rt, &mut StderrSink::new(Fake { most, flushes }), &[want]);
+    }
+}
+
+#[test]
+fn the_shelf_of_files_opens_what_is_there(rt: HostRuntime) -> Result<(), Fail> {
+    fs::write(&rt, "a_file_of_the_shelf", "abcdef")?;
+    let calls = [
+        Call::Reads(Ok(b"")),
+        Call::Picks("no_such_file", Err(Failed)),
+        Call::Picks("a_file_of_the_shelf", Ok(())),
+        Call::Reads(Ok(b"abcd")),
+        Call::Reads(Ok(b"ef")),
+        Call::Reads(Ok(b"")),
+        Call::Picks("no_such_file", Err(Failed)),
+        Call::Reads(Ok(b"")),
+    ];
+    compare_calls(&rt, &mut FileShelf::new(&rt), &calls);
+    fs::remove_file(&rt, "a_file_of_the_shelf")?;
+    Ok(())
+}

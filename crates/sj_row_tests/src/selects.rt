@@ -1,0 +1,308 @@
+// The rows of statements for lines, from the texts of both.
+ghost use Rattle.std.specs.Prelude.{IfOk};
+ghost use Rattle.sj_bind.specs.Sound.{IsSound};
+ghost use Rattle.sj_bind.specs.View.{bound_of};
+
+use sj_base::{Steps, Tally};
+use sj_bind::{BindRefusal, Bound, bind};
+use sj_doc::Doc;
+use sj_read::{ReadRefusal, read};
+use sj_select::{LineDoc, RowsOf, Turn};
+use sj_sql::parse_file;
+use sj_value::SqlValue;
+use std::alloc::Global;
+use std::process::Abort;
+use std::test::Fail;
+
+/// A statement.
+fn bound(alloc: Global, text: &str) -> Result<Bound, Fail>
+    ensures { IfOk result (λ b. IsSound (bound_of b)) }
+{
+    if text.len() > 1_048_576 {
+        return Err(Fail::from("too long"));
+    }
+    let Ok(mut script) = parse_file(alloc, text.as_bytes()) else {
+        return Err(Fail::from("memory"));
+    };
+    let Some(statement) = script.statements.take_first() else {
+        return Err(Fail::from("no statement"));
+    };
+    match bind(alloc, statement) {
+        Ok(bound) => Ok(bound),
+        Err(BindRefusal::Kind(_)) => Err(Fail::from("refused")),
+        Err(BindRefusal::Memory) => Err(Fail::from("memory")),
+    }
+}
+
+/// Its rows for a line.
+fn rows_of<'d>(alloc: Global, bound: &'d Bound, line: LineDoc<'d>) -> Result<RowsOf<'d>, Fail>
+    requires { IsSound (bound_of bound.now) }
+{
+    if bound.table.is_some() {
+        return Err(Fail::from("a table"));
+    }
+    Ok(RowsOf::new(alloc, bound, line)?)
+}
+
+/// The document of a line, where the line is JSON.
+fn document(alloc: Global, text: &str) -> Result<Option<Doc>, Fail> {
+    match read(alloc, text.as_bytes()) {
+        Ok(doc) => Ok(Some(doc)),
+        Err(ReadRefusal::NotJson) => Ok(None),
+        Err(ReadRefusal::Memory) => Err(Fail::from("memory")),
+    }
+}
+
+/// What is asked of the keys of a line.
+#[derive(Clone, Copy)]
+enum Keys {
+    Any,
+    Unique,
+}
+
+/// The line of a document.
+fn line_of<'d>(alloc: Global, doc: &'d Option<Doc>, keys: Keys) -> Result<LineDoc<'d>, Fail> {
+    let Some(doc) = doc else {
+        return Ok(LineDoc::NotJson);
+    };
+    match keys {
+        Keys::Any => Ok(LineDoc::Json(doc)),
+        Keys::Unique => {
+            if doc.unique_keys(alloc)? {
+                Ok(LineDoc::Json(doc))
+            } else {
+                Ok(LineDoc::Repeated(doc))
+            }
+        }
+    }
+}
+
+/// Appends a value, in which a text stands between apostrophes, and a number with how many decimals it is to print.
+fn push_value(alloc: Global, value: &SqlValue, out: &mut String) -> Result<(), Fail> {
+    match value {
+        SqlValue::Null => out.push_str("NULL")?,
+        SqlValue::Text(text) => {
+            out.push_str("'")?;
+            out.push_str(text.as_str())?;
+            out.push_str("'")?;
+        }
+        SqlValue::Num(number, places) => {
+            let text = format!(in alloc; "{}:{places}", number.text().as_str())?;
+            out.push_str(text.as_str())?;
+        }
+        SqlValue::Bool(true) => out.push_str("TRUE")?,
+        SqlValue::Bool(false) => out.push_str("FALSE")?,
+        SqlValue::Json(text) => {
+            let text = std::str::from_utf8(text.as_slice()).unwrap_or("no text");
+            out.push_str(text)?;
+        }
+    }
+    Ok(())
+}
+
+/// The rows that are left, each with its values between bars, and the end behind them. An end comes again, with no row and without a
+/// step.
+fn shown(rt: &impl Abort, alloc: Global, rows: &mut RowsOf<'_>) -> Result<String, Fail> {
+    let mut out = String::new(alloc);
+    let mut steps = Steps::new(Tally::new());
+    for _ in 0..3 {
+        match rows.next(&mut steps)? {
+            Turn::Row => {
+                for value in rows.row() {
+                    out.push_str("|")?;
+                    push_value(alloc, value, &mut out)?;
+                }
+                out.push_str("|")?;
+            }
+            end => {
+                let count = steps.ledger().count();
+                assert!(rt; rows.row().is_empty());
+                assert!(rt; rows.next(&mut steps)? == end);
+                assert!(rt; rows.row().is_empty());
+                assert_eq!(rt; steps.ledger().count(), count);
+                if let Turn::Raised(state) = end {
+                    out.push_str(state.code())?;
+                }
+                return Ok(out);
+            }
+        }
+    }
+    Err(Fail::from("more rows than one"))
+}
+
+/// The rows of a statement for a line, from new ones and again from the same.
+fn expect_rows(
+    rt: &impl Abort,
+    alloc: Global,
+    (text, keys): (&str, Keys),
+    statement: &str,
+    want: &str,
+) -> Result<(), Fail> {
+    let doc = document(alloc, text)?;
+    let line = line_of(alloc, &doc, keys)?;
+    let bound = bound(alloc, statement)?;
+    let mut rows = rows_of(alloc, &bound, line)?;
+    let found = shown(rt, alloc, &mut rows)?;
+    assert_eq!(rt; found.as_str(), want, "{statement}");
+    rows.rewind(line);
+    let again = shown(rt, alloc, &mut rows)?;
+    assert_eq!(rt; again.as_str(), want, "{statement} again");
+    Ok(())
+}
+
+/// Lines, each with statements and their rows behind it.
+const ROWS: &str = r#"{"a":1,"a":2}
+SELECT JSON_VALUE(doc,'lax $.a' ERROR ON ERROR); => 22034
+SELECT JSON_QUERY(doc,'lax $.a' WITH WRAPPER), doc IS JSON OBJECT, doc IS JSON WITH UNIQUE KEYS; => |[1,2]|TRUE|FALSE|
+SELECT doc IS NOT JSON WITH UNIQUE KEYS, doc IS NOT JSON ARRAY, doc IS NOT JSON; => |TRUE|TRUE|FALSE|
+
+{"x":0.1,"y":0.2,"z":1.50,"w":1e400,"m":-0}
+SELECT JSON_VALUE(doc,'lax $.x + $.y'), JSON_VALUE(doc,'lax $.z'), JSON_VALUE(doc,'lax $.w'), JSON_VALUE(doc,'lax $.m'); => |'0.3'|'1.5'|'1e400'|'0'|
+SELECT JSON_VALUE(doc,'lax $.w + 1' ERROR ON ERROR); => 22003
+SELECT JSON_VALUE(doc,'lax $.x' RETURNING NUMERIC(5,2)), JSON_VALUE(doc,'lax $.x' RETURNING NUMERIC); => |0.1:2|0.1:0|
+
+{"a":[]}
+SELECT JSON_QUERY(doc,'lax $.a[*]' EMPTY ARRAY ON EMPTY); => |[]|
+SELECT JSON_VALUE(doc,'lax $.a[*]' ERROR ON EMPTY NULL ON ERROR); => 22035
+
+{"s":"x\"y"}
+SELECT JSON_QUERY(doc,'lax $.s'), JSON_QUERY(doc,'lax $.s' OMIT QUOTES); => |"x\"y"|'x"y'|
+
+{"a":[1,2],"b":3}
+SELECT JSON_QUERY(doc,'lax $.a' WITH CONDITIONAL WRAPPER), JSON_QUERY(doc,'lax $.b' WITH CONDITIONAL WRAPPER), JSON_QUERY(doc,'lax $.a' WITH WRAPPER); => |[1,2]|[3]|[[1,2]]|
+
+{"n":2.5,"m":-2.5,"big":2147483648,"t":"12x","b":true,"o":{}}
+SELECT JSON_VALUE(doc,'$.n' RETURNING INTEGER), JSON_VALUE(doc,'$.m' RETURNING INTEGER), JSON_VALUE(doc,'$.b'), JSON_VALUE(doc,'$.t' RETURNING NUMERIC DEFAULT 0 ON ERROR); => |3:0|-3:0|'true'|0:0|
+SELECT JSON_VALUE(doc,'$.big' RETURNING INTEGER ERROR ON ERROR); => 22003
+SELECT JSON_VALUE(doc,'$.o' ERROR ON ERROR); => 2203F
+SELECT JSON_VALUE(doc,'$.t' RETURNING VARCHAR(2) ERROR ON ERROR); => 22001
+SELECT JSON_VALUE(doc,'$.t' RETURNING BIGINT ERROR ON ERROR); => 2203G
+SELECT JSON_EXISTS(doc,'$.n'), JSON_EXISTS(doc,'strict $.none'), JSON_EXISTS(doc,'strict $.none' UNKNOWN ON ERROR), JSON_EXISTS(doc,'$.n ? (@ > $low)' PASSING 2 AS low); => |TRUE|FALSE|NULL|TRUE|
+SELECT JSON_EXISTS(doc,'$.n'), JSON_EXISTS(doc,'strict $.none' ERROR ON ERROR), JSON_VALUE(doc,'$.o' ERROR ON ERROR); => 2203A
+
+{}
+SELECT 1.50, 'it''s', TRUE, FALSE, NULL, -7; => |1.5:0|'it's'|TRUE|FALSE|NULL|-7:0|
+SELECT JSON_OBJECT('a' VALUE 1, 'b' VALUE NULL), JSON_ARRAY(1, NULL, 'x', TRUE), JSON_OBJECT(KEY 'k' VALUE JSON_ARRAY(1.50)); => |{"a":1,"b":null}|[1,"x",true]|{"k":[1.5]}|
+SELECT JSON_OBJECT('a' : 1, 'a' : 2 WITH UNIQUE KEYS); => 22030
+SELECT JSON_OBJECT('a' : 1, 'a' : 2); => |{"a":1,"a":2}|
+SELECT JSON_OBJECT(JSON_VALUE(doc,'$.none') VALUE 1); => 22004
+SELECT JSON_OBJECT(), JSON_ARRAY(), JSON_ARRAY(JSON_ARRAY(), JSON_OBJECT('a' : JSON_ARRAY(1, JSON_OBJECT()), 'b' : 2), 3); => |{}|[]|[[],{"a":[1,{}],"b":2},3]|
+SELECT 0, JSON_ARRAY(1, JSON_ARRAY(2, NULL NULL ON NULL), NULL NULL ON NULL), JSON_OBJECT('a' : NULL ABSENT ON NULL), 9; => |0:0|[1,[2,null],null]|{}|9:0|
+SELECT JSON_ARRAY(1, JSON_VALUE(doc,'$.none' ERROR ON EMPTY), JSON_OBJECT(NULL : 1)); => 22035
+SELECT JSON_OBJECT('a' : JSON_OBJECT(NULL : 1), JSON_VALUE(doc,'$.none' ERROR ON EMPTY) : 1); => 22004
+
+{"v":[1,"a"],"k":"key"}
+SELECT JSON_OBJECT(JSON_VALUE(doc,'$.k') : JSON_QUERY(doc,'$.v'), 'e' : JSON_EXISTS(doc,'$.v[2]')); => |{"key":[1,"a"],"e":false}|
+
+[]
+SELECT doc IS JSON, doc IS JSON VALUE, doc IS JSON ARRAY, doc IS JSON OBJECT, doc IS JSON SCALAR; => |TRUE|TRUE|TRUE|FALSE|FALSE|
+
+{"a":1,"b":3,"z":0}
+SELECT JSON_VALUE(doc,'$.a / $.b'), JSON_VALUE(doc,'-7 % 3'); => |'0.3333333333333333'|'-1'|
+SELECT JSON_VALUE(doc,'$.a / $.z' ERROR ON ERROR); => 22012
+
+{"a":
+SELECT JSON_VALUE(doc,'lax $.a'), JSON_EXISTS(doc,'$'), JSON_QUERY(doc,'$' EMPTY OBJECT ON ERROR), doc IS JSON, doc IS NOT JSON; => |NULL|FALSE|{}|FALSE|TRUE|
+SELECT JSON_VALUE(doc,'lax $.a' ERROR ON ERROR); => 22032
+SELECT 1, JSON_ARRAY(2); => |1:0|[2]|
+"#;
+
+#[test]
+fn gives_the_row_of_a_statement(rt: HostRuntime) -> Result<(), Fail> {
+    let alloc = rt.alloc();
+    let mut statements: usize = 0;
+    for group in ROWS.split("\n\n") {
+        let Some((text, lines)) = group.split_once('\n') else {
+            return Err(Fail::from("a line alone"));
+        };
+        for line in lines.lines() {
+            let Some((statement, want)) = line.split_once(" => ") else {
+                return Err(Fail::from("a statement alone"));
+            };
+            expect_rows(&rt, alloc, (text, Keys::Any), statement, want)?;
+            statements = statements.wrapping_add(1);
+        }
+    }
+    assert_eq!(rt; statements, 33);
+    Ok(())
+}
+
+#[test]
+fn asks_for_unique_keys(rt: HostRuntime) -> Result<(), Fail> {
+    let alloc = rt.alloc();
+    let twice = "{\"a\":1,\"a\":2}";
+    for (text, statement, want) in [
+        (
+            twice,
+            "SELECT JSON_VALUE(doc,'lax $.a' ERROR ON ERROR);",
+            "22037",
+        ),
+        (
+            twice,
+            "SELECT JSON_QUERY(doc,'lax $.a' WITH WRAPPER), doc IS JSON OBJECT, doc IS JSON WITH UNIQUE KEYS;",
+            "|NULL|TRUE|FALSE|",
+        ),
+        (
+            "{\"a\":1,\"b\":{\"a\":2}}",
+            "SELECT JSON_VALUE(doc,'lax $.a' ERROR ON ERROR), doc IS JSON WITH UNIQUE KEYS;",
+            "|'1'|TRUE|",
+        ),
+        (
+            "{\"a\"",
+            "SELECT JSON_VALUE(doc,'lax $.a' ERROR ON ERROR);",
+            "22032",
+        ),
+    ] {
+        expect_rows(&rt, alloc, (text, Keys::Unique), statement, want)?;
+    }
+    Ok(())
+}
+
+#[test]
+fn goes_from_line_to_line(rt: HostRuntime) -> Result<(), Fail> {
+    let alloc = rt.alloc();
+    let bound = bound(
+        alloc,
+        "SELECT JSON_ARRAY(JSON_VALUE(doc,'$.a' ERROR ON EMPTY), 7), JSON_VALUE(doc,'$.b' ERROR ON EMPTY);",
+    )?;
+    let both = document(alloc, "{\"a\":1,\"b\":2}")?;
+    let first = document(alloc, "{\"a\":1}")?;
+    let none = document(alloc, "[]")?;
+    let mut rows = rows_of(alloc, &bound, LineDoc::NotJson)?;
+    for (doc, want) in [
+        (&both, "|[\"1\",7]|'2'|"),
+        (&first, "22035"),
+        (&both, "|[\"1\",7]|'2'|"),
+        (&none, "22035"),
+        (&both, "|[\"1\",7]|'2'|"),
+    ] {
+        rows.rewind(line_of(alloc, doc, Keys::Any)?);
+        assert!(rt; rows.row().is_empty());
+        let found = shown(&rt, alloc, &mut rows)?;
+        assert_eq!(rt; found.as_str(), want);
+        rows.rewind(line_of(alloc, doc, Keys::Any)?);
+        let mut steps = Steps::new(Tally::new());
+        rows.next(&mut steps)?;
+    }
+    Ok(())
+}
+
+#[test]
+fn takes_long_lists(rt: HostRuntime) -> Result<(), Fail> {
+    let alloc = rt.alloc();
+    for (front, more, count, length) in [
+        ("SELECT JSON_ARRAY(1", ",1", 100_000, 200_005),
+        ("SELECT JSON_OBJECT('a':1", ",'a':1", 50_000, 300_009),
+    ] {
+        let mut statement = String::from_str(alloc, front)?;
+        for _ in 0..count {
+            statement.push_str(more)?;
+        }
+        statement.push_str(");")?;
+        let bound = bound(alloc, statement.as_str())?;
+        let mut rows = rows_of(alloc, &bound, LineDoc::NotJson)?;
+        let found = shown(&rt, alloc, &mut rows)?;
+        assert_eq!(rt; found.len(), length);
+    }
+    Ok(())
+}

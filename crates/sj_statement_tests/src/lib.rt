@@ -1,0 +1,7 @@
+//! TODO
+#![tactic(auto)]
+
+#[cfg(test)]
+mod statements;
+#[cfg(test)]
+mod tokens;
