@@ -1,4 +1,4 @@
--- Lines that are read together, and what the statements print for them.
+-- Lines that are read together, and what is asked of them.
 use Rattle.std.specs.Prelude.{◌≡◌, ◌≢◌, ℕ, ◌+◌, List, [], ◌∷◌, ◌++◌, length, map, Option, None, Some, if◌then◌else◌}
 use Rattle.std.specs.List.{list_all}
 use Rattle.sj_rows.specs.Lines.{is_blank_byte}
@@ -8,6 +8,7 @@ use Rattle.sj_json.specs.Document.{document}
 use Rattle.sj_bind.specs.Bound.{Bound}
 use Rattle.sj_bind.specs.View.{bound_of}
 use Rattle.sj_select.specs.Keys.{has_unique_keys}
+use Rattle.sj_select.specs.Line.{Line, not_json, repeated, json}
 use Rattle.sj_select.specs.Seen.{Seen}
 use Rattle.sqljson.specs.declared.batch.ReadLine.{ReadLine}
 use Rattle.sqljson.specs.declared.batch.Reading.{Reading}
@@ -16,8 +17,7 @@ use Rattle.sqljson.specs.declared.batch.Behind.{Behind}
 use Rattle.sqljson.specs.declared.batch.Behind.TheVariants.{Nothing, Perhaps}
 use Rattle.sqljson.specs.declared.job.Keys.{Keys}
 use Rattle.sqljson.specs.declared.job.Keys.TheVariants.{Any, Unique}
-use Rattle.sqljson.specs.Meaning.{line_read}
-use Rattle.sqljson.specs.Output.{rows_from, rows_cost}
+use Rattle.sqljson.specs.Output.{Asked, asked_from}
 
 -- a line by its tree, as it is kept
 abbrev pub reading : Keys → Option Tree → Reading
@@ -55,15 +55,16 @@ pub record ReadOn (keys : Keys) (old new : Held) (batch : List ReadLine) (behind
   pub read : ReadFront keys old new batch
   pub behind_is : IsBehind behind read.front new.waiting
 
--- the texts of lines that were read
-abbrev pub batch_text : List Bound → List ReadLine → List ℕ
-batch_text statements [] = []
-batch_text statements (line ∷ more) = rows_from 1 statements line.number (line_read line.reading) ++ batch_text statements more
+-- a line that was read, as statements see it
+abbrev pub line_read : Reading → Line
+line_read r.NotJson = not_json
+line_read (r.Repeated t) = repeated t
+line_read (r.Json t) = json t
 
--- what making them may take
-abbrev pub batch_cost : List Bound → List ReadLine → ℕ
-batch_cost statements [] = 0
-batch_cost statements (line ∷ more) = rows_cost statements (line_read line.reading) + batch_cost statements more
+-- what is asked of lines that were read
+abbrev pub batch_asked : List Bound → List ReadLine → List Asked
+batch_asked statements [] = []
+batch_asked statements (line ∷ more) = asked_from 1 statements line.number (line_read line.reading) ++ batch_asked statements more
 
 -- ---- the rows of statements, which go from line to line
 

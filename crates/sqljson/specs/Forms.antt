@@ -6,3 +6,4 @@ use Rattle.sqljson.specs.File as w
 abbrev pub form_value : Form → w.Form
 form_value (f.Run keys name) = w.running keys name.now
 form_value (f.Check name) = w.checking name.now
+form_value (f.Generated number name) = w.generating number name.now

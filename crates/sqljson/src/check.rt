@@ -1,21 +1,19 @@
 // The check of a file.
-ghost use Rattle.std.specs.Prelude.{◌≡◌, ◌∷◌, [], codes, decimal};
-ghost use Rattle.sqljson.specs.File.{shelf_side};
-ghost use Rattle.sqljson.specs.Sides.{output_side, InputSide, Wrote};
-ghost use Rattle.sqljson.specs.Ran.{ChecksSo, IsBefore};
-ghost use Rattle.sqljson.specs.Notes.{joined};
+ghost use Rattle.std.specs.Prelude.{◌≡◌, ◌∷◌, [], Some, codes, decimal};
+ghost use Rattle.sj_page.specs.Sides.{output_side, Wrote, joined};
+ghost use Rattle.sqljson.specs.File.{checking, shelf_side};
+ghost use Rattle.sqljson.specs.Input.{InputSide};
+ghost use Rattle.sqljson.specs.Ran.{IsBefore, Ran, moment};
 
-use crate::file::load;
-use crate::job::FileRefusal;
-use crate::notes::write_parts;
+use crate::accept::accept;
 use crate::status::Status;
-use crate::verdict::count_statements;
 use itoa::Buffer;
 use sj_base::{Failed, Shelf, Sink};
+use sj_page::write_parts;
 use std::alloc::Global;
 
 /// Writes that so many statements are accepted.
-fn write_count<O: Sink>(out: &mut O, count: u32) -> Result<(), Failed>
+fn write_count<O: Sink>(out: &mut O, count: usize) -> Result<(), Failed>
     ensures { Wrote (output_side O.taken O.size O.faults out.old) (output_side O.taken O.size O.faults out.new)
         (joined (codes "accepted " ∷ decimal count ∷ codes "\n" ∷ [])) result }
 {
@@ -25,29 +23,22 @@ fn write_count<O: Sink>(out: &mut O, count: u32) -> Result<(), Failed>
 }
 
 /// Checks the statements of a file, and tells how many they are. It reads no input.
-#[tactic(auto, using(crate::proofs::Checking::told_done, crate::proofs::Checking::told_cut))]
 pub(crate) fn check_file<H: Shelf, O: Sink>(
     alloc: Global,
     name: &str,
     shelf: &mut H,
     out: &mut O,
 ) -> Status
-    ensures ends { (from : InputSide) → ChecksSo name.now
-        (shelf_side H.files H.faults H.quiet shelf.old) (shelf_side H.files H.faults H.quiet shelf.new)
-        from from
-        (output_side O.taken O.size O.faults out.old) (output_side O.taken O.size O.faults out.new) result }
+    ensures ran { (from : InputSide) → Ran (Some (checking name.now))
+        (moment (shelf_side H.files H.faults H.quiet shelf.old) from (output_side O.taken O.size O.faults out.old))
+        (moment (shelf_side H.files H.faults H.quiet shelf.new) from (output_side O.taken O.size O.faults out.new)) result }
     ensures untouched { IsBefore result → out.new ≡ out.old }
 {
-    let file = match load(alloc, name, shelf) {
-        Ok(file) => file,
+    let statements = match accept(alloc, name, shelf) {
+        Ok(statements) => statements,
         Err(status) => return status,
     };
-    let count = match count_statements(alloc, file.as_slice()) {
-        Ok(count) => count,
-        Err(FileRefusal::Memory) => return Status::Memory,
-        Err(FileRefusal::Refused(k, kind)) => return Status::Refused(k, kind),
-    };
-    match write_count(out, count) {
+    match write_count(out, statements.len()) {
         Ok(()) => Status::Done,
         Err(_) => Status::WriteFault,
     }

@@ -12,7 +12,7 @@ pub(crate) enum Keys {
     Unique,
 }
 
-/// The statements of a file, which have no table, and how they see a line.
+/// The statements of a file, and how they see a line.
 #[derive(Drop)]
 pub(crate) struct Job {
     pub(crate) keys: Keys,

@@ -1,0 +1,23 @@
+-- What `selfrun` tells of a run over generated lines.
+use Rattle.std.specs.Prelude.{ℕ, ◌-◌, ◌^◌, min, List, [], ◌∷◌, length, codes, decimal}
+use Rattle.sj_bind.specs.Bound.{Bound}
+use Rattle.sj_generated.specs.Lines.{generated}
+use Rattle.sj_page.specs.Sides.{joined}
+use Rattle.sqljson.specs.declared.job.Keys.TheVariants.{Any}
+use Rattle.sqljson.specs.Job.{Job, job}
+use Rattle.sqljson.specs.Output.{Asked, asked, rows_in, errors_in, output}
+
+-- a count as it is told: it stays at its last value
+abbrev pub capped : ℕ → ℕ
+capped n = min n (2 ^ 64 - 1)
+
+abbrev pub counts_text : ℕ → ℕ → ℕ → ℕ → List ℕ
+counts_text lines rows errors bytes =
+    joined (codes "lines " ∷ decimal lines ∷ codes " rows " ∷ decimal rows ∷ codes " errors " ∷ decimal errors ∷ codes " bytes " ∷ decimal bytes ∷ codes "\n" ∷ [])
+
+-- THE SUMMARY: how many lines there are, and how many rows, error rows and bytes the output for them has
+abbrev pub summary_text : ℕ → List Bound → List ℕ
+summary_text number statements =
+    let here = job Any statements in
+    let all = asked here (generated number) in
+    counts_text number (capped (rows_in all)) (capped (errors_in all)) (capped (length (output here (generated number))))

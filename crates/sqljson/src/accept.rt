@@ -1,0 +1,37 @@
+// The statements of the file that the words name.
+ghost use Rattle.std.specs.Prelude.{◌<◌, ◌^◌, length, map, IfOk, MatchResult};
+ghost use Rattle.sj_bind.specs.View.{bound_of};
+ghost use Rattle.sqljson.specs.File.{shelf_side};
+ghost use Rattle.sqljson.specs.Job.{AreSound};
+ghost use Rattle.sqljson.specs.Ran.{Accepted, IsUnaccepted};
+
+use crate::file::load;
+use crate::job::FileRefusal;
+use crate::status::Status;
+use crate::verdict::statements_of;
+use sj_base::Shelf;
+use sj_bind::Bound;
+use std::alloc::Global;
+
+/// Reads a file whole, and binds its statements; or says how the command ends that names it.
+pub(crate) fn accept<H: Shelf>(
+    alloc: Global,
+    name: &str,
+    shelf: &mut H,
+) -> Result<Vec<Bound>, Status>
+    ensures file { let old = shelf_side H.files H.faults H.quiet shelf.old in
+        let new = shelf_side H.files H.faults H.quiet shelf.new in
+        MatchResult result (λ statements. Accepted name.now old new (map bound_of statements.items)) (λ status. IsUnaccepted name.now old new status) }
+    ensures few { IfOk result (λ statements. length statements.items < 2 ^ 32) }
+    ensures sound { IfOk result (λ statements. AreSound statements.items) }
+{
+    let file = match load(alloc, name, shelf) {
+        Ok(file) => file,
+        Err(status) => return Err(status),
+    };
+    match statements_of(alloc, file.as_slice()) {
+        Ok(statements) => Ok(statements),
+        Err(FileRefusal::Memory) => Err(Status::Memory),
+        Err(FileRefusal::Refused(k, kind)) => Err(Status::Refused(k, kind)),
+    }
+}

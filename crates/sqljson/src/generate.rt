@@ -1,0 +1,81 @@
+// The run over generated lines.
+ghost use Rattle.std.specs.Prelude.{◌≡◌, ◌≤◌, ℕ, List, Option, Some};
+ghost use Rattle.sj_generated.specs.Lines.{most_lines};
+ghost use Rattle.sj_page.specs.Sides.{output_side, Wrote};
+ghost use Rattle.sqljson.specs.File.{generating, shelf_side};
+ghost use Rattle.sqljson.specs.Summary.{counts_text};
+ghost use Rattle.sqljson.specs.Ran.{IsBefore, Ran, moment};
+
+use crate::accept::accept;
+use crate::job::{Job, Keys};
+use crate::status::Status;
+use crate::stream::stream;
+use itoa::Buffer;
+use sj_base::{CountSink, Failed, Ledger, Shelf, Sink, Steps};
+use sj_generated::GeneratedSource;
+use sj_page::{Counts, Page, write_parts};
+use std::alloc::Global;
+
+/// Writes how many lines, rows, error rows and bytes there are.
+fn write_summary<O: Sink>(
+    out: &mut O,
+    lines: u32,
+    counts: Counts,
+    bytes: u64,
+) -> Result<(), Failed>
+    ensures { Wrote (output_side O.taken O.size O.faults out.old) (output_side O.taken O.size O.faults out.new)
+        (counts_text lines counts.rows counts.errors bytes) result }
+{
+    let (mut a, mut b, mut c, mut d) = (Buffer::new(), Buffer::new(), Buffer::new(), Buffer::new());
+    write_parts(
+        out,
+        &[
+            b"lines ".as_slice(),
+            a.format(lines).as_bytes(),
+            b" rows ".as_slice(),
+            b.format(counts.rows).as_bytes(),
+            b" errors ".as_slice(),
+            c.format(counts.errors).as_bytes(),
+            b" bytes ".as_slice(),
+            d.format(bytes).as_bytes(),
+            b"\n".as_slice(),
+        ],
+    )
+}
+
+/// Runs the statements of a file over so many generated lines, keeps nothing of their output, and tells how much it is.
+/// It reads no input.
+pub(crate) fn run_generated<H: Shelf, O: Sink, L: Ledger>(
+    alloc: Global,
+    number: u32,
+    name: &str,
+    shelf: &mut H,
+    out: &mut O,
+    steps: &mut Steps<L>,
+) -> Status
+    requires { number ≤ most_lines }
+    ensures ran { (left : Option (List ℕ)) (faults : ℕ) → Ran (Some (generating number name.now))
+        (moment (shelf_side H.files H.faults H.quiet shelf.old) (record { left = left; faults = faults; steps = steps.old }) (output_side O.taken O.size O.faults out.old))
+        (moment (shelf_side H.files H.faults H.quiet shelf.new) (record { left = left; faults = faults; steps = steps.new }) (output_side O.taken O.size O.faults out.new)) result }
+    ensures untouched { IsBefore result → (out.new ≡ out.old) × (steps.new ≡ steps.old) }
+{
+    let statements = match accept(alloc, name, shelf) {
+        Ok(statements) => statements,
+        Err(status) => return status,
+    };
+    let job = Job {
+        keys: Keys::Any,
+        statements,
+    };
+    let mut lines = GeneratedSource::new(number);
+    let mut bytes = CountSink::new();
+    let mut page = Page::new(alloc);
+    match stream(alloc, &job, &mut lines, &mut bytes, &mut page, steps) {
+        Status::Done => {}
+        status => return status,
+    }
+    match write_summary(out, number, page.counts(), bytes.size()) {
+        Ok(()) => Status::Done,
+        Err(_) => Status::WriteFault,
+    }
+}
