@@ -10,22 +10,19 @@ use Rattle.sj_page.proofs.Writing.{grew_more, grew_none}
 
 -- ---- one behind the other
 
-print : List ℕ → ℕ → ℕ → Print
+abbrev pub print : List ℕ → ℕ → ℕ → Print
 print text rows errors = record { text = text; rows = rows; errors = errors }
 
-same_print : (s t : List ℕ) (m n k l : ℕ) → s ≡ t → m ≡ n → k ≡ l → print s m k ≡ print t n l
+pub same_print : (s t : List ℕ) (m n k l : ℕ) → s ≡ t → m ≡ n → k ≡ l → print s m k ≡ print t n l
 same_print s t m n k l a b c = cc
 
 pub nothing_before : (p : Print) → followed_by nothing p ≡ p
-unfolding print
 nothing_before p = same_print p.text p.text (0 + p.rows) p.rows (0 + p.errors) p.errors refl (omega arith) (omega arith)
 
 pub nothing_behind : (p : Print) → followed_by p nothing ≡ p
-unfolding print
 nothing_behind p = same_print (p.text ++ []) p.text (p.rows + 0) p.rows (p.errors + 0) p.errors (append-nil p.text) (omega arith) (omega arith)
 
 pub followed_assoc : (p q r : Print) → followed_by (followed_by p q) r ≡ followed_by p (followed_by q r)
-unfolding print
 followed_assoc p q r = same_print ((p.text ++ q.text) ++ r.text) (p.text ++ (q.text ++ r.text)) (p.rows + q.rows + r.rows) (p.rows + (q.rows + r.rows)) (p.errors + q.errors + r.errors) (p.errors + (q.errors + r.errors))
     (append_assoc p.text q.text r.text) (omega arith) (omega arith)
 
@@ -163,3 +160,8 @@ pub printing_stops : (whole left p rest : Print) (a b c : PrintState) (stop : St
 printing_stops whole left p rest a b c stop x is y =
     subst (λ (t : Print). Stopped t a c stop) (sym (x.split ∙ ap (followed_by x.so_far) is))
     (stopped_more x.so_far (followed_by p rest) a b c stop x.printed (stopped_early p rest b c stop y))
+
+-- memory ran out in the middle
+pub printing_memory : (whole left : Print) (a b : PrintState) → Printing whole left a b → Stopped whole a b Memory
+printing_memory whole left a b x =
+    subst (λ (t : Print). Stopped t a b Memory) (sym x.split) (stopped_more x.so_far left a b b Memory x.printed (stopped_before left b b refl))

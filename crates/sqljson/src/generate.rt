@@ -17,12 +17,7 @@ use sj_page::{Counts, Page, write_parts};
 use std::alloc::Global;
 
 /// Writes how many lines, rows, error rows and bytes there are.
-fn write_summary<O: Sink>(
-    out: &mut O,
-    lines: u32,
-    counts: Counts,
-    bytes: u64,
-) -> Result<(), Failed>
+fn write_summary<O: Sink>(out: &mut O, lines: u32, counts: Counts, bytes: u64) -> Result<(), Failed>
     ensures { Wrote (output_side O.taken O.size O.faults out.old) (output_side O.taken O.size O.faults out.new)
         (counts_text lines counts.rows counts.errors bytes) result }
 {

@@ -1,13 +1,19 @@
-use Rattle.std.proofs.Common.{◌≡◌, ◌≤◌, ◌++◌, drop}
+use Rattle.std.proofs.Common.{◌≡◌, ◌≤◌, drop}
 use Rattle.sj_base.specs.Outside.{raised}
-use Rattle.sqljson.specs.Batch.{batch_text, batch_cost, bounds_in}
+use Rattle.sj_page.specs.Pages.{print_state}
+use Rattle.sj_page.proofs.Printing.{Printing}
+use Rattle.sqljson.specs.Output.{prints, cost}
+use Rattle.sqljson.specs.Batch.{batch_asked, bounds_in}
 use Rattle.sqljson.specs.Job.{job_of}
 use Rattle.sqljson.proofs.rows.print_batch.Given as goal
 
--- the rows so far and those of the lines that are left are all, and so with what they may take
+-- what was asked of the lines so far and of those that are left is all, and so with what it may take
 abbrev pub invariant-loop-line : goal.invariant-loop-line
-invariant-loop-line g l = record {
-  bounds : bounds_in l.rows.items ≡ (job_of l.job).statements;
-  text : l.page ++ batch_text (job_of l.job).statements (drop l.line-index l.lines) ≡ l.fn.page ++ batch_text (job_of l.job).statements l.lines;
-  costs : raised l.steps (batch_cost (job_of l.job).statements (drop l.line-index l.lines)) ≤ raised l.fn.steps (batch_cost (job_of l.job).statements l.lines);
-}
+invariant-loop-line g l =
+    let state = print_state g.O.Sink.taken g.O.Sink.size g.O.Sink.faults in
+    let statements = (job_of l.job).statements in
+    record {
+      bounds : bounds_in l.rows.items ≡ statements;
+      printing : Printing (prints (batch_asked statements l.lines)) (prints (batch_asked statements (drop l.line-index l.lines))) (state l.fn.out l.fn.page) (state l.out l.page);
+      costs : raised l.steps (cost (batch_asked statements (drop l.line-index l.lines))) ≤ raised l.fn.steps (cost (batch_asked statements l.lines));
+    }

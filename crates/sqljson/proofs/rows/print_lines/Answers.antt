@@ -1,24 +1,39 @@
-use Rattle.std.proofs.Common.{◌∙◌, subst}
+use Rattle.std.proofs.Common.{◌∙◌, refl, subst, arith}
+use Rattle.sj_page.proofs.Printing.{printing_starts, printing_more, printing_done, printing_stops, printing_memory}
 use Rattle.sqljson.specs.declared.batch.Behind.{Behind}
 use Rattle.sqljson.specs.Batch.{ReadOn}
 use Rattle.sqljson.specs.Job.{job_of}
-use Rattle.sqljson.proofs.Batches.{page_step, page_end, spent_step, spent_end, drained_more}
+use Rattle.sqljson.proofs.Batches.{waiting_prints, waiting_cost, none_waits, drained_more}
+use Rattle.sqljson.proofs.Turns.{cost_step, cost_stop}
 use Rattle.sqljson.proofs.rows.print_lines.Goals as goal
 
-pub returns-in_err-print_batch-clause-costs : goal.returns-in_err-print_batch-clause-costs
-returns-in_err-print_batch-clause-costs g c = spent_end (job_of c.args.job.now) _ _ _ _ _ _ _ _ c.in_ok-behind.ensures c.lines.ensures c.print_batch.ensures.costs c.loop-behind.invariant.costs
+pub loop-behind-init : goal.loop-behind-init
+loop-behind-init g c = record { printing = printing_starts _ _; costs = omega arith; kept = refl }
 
-pub returns-in-Nothing-clause-page : goal.returns-in-Nothing-clause-page
-returns-in-Nothing-clause-page g c =
-    let read = subst (λ (b : Behind). ReadOn c.args.job.now.keys c.loop-behind.lines c.read_on.new.waiting c.read_on.new.self.lines.items b) c.in-Nothing.is c.in_ok-behind.ensures in
-    page_end (job_of c.args.job.now) _ _ _ _ _ _ _ read c.lines.ensures c.in_ok-print_batch.ensures.page c.loop-behind.invariant.text
+pub returns-in-Err-clause-prints : goal.returns-in-Err-clause-prints
+returns-in-Err-clause-prints g c = printing_memory _ _ _ _ c.loop-behind.invariant.printing
+
+pub returns-in-Err-print_batch-clause-prints : goal.returns-in-Err-print_batch-clause-prints
+returns-in-Err-print_batch-clause-prints g c =
+    printing_stops _ _ _ _ _ _ _ _ c.loop-behind.invariant.printing (waiting_prints (job_of c.args.job.now) _ _ _ _ _ c.in-Ok.ensures c.lines.ensures) c.in-Err-print_batch.ensures.prints
+
+pub returns-in-Err-print_batch-clause-costs : goal.returns-in-Err-print_batch-clause-costs
+returns-in-Err-print_batch-clause-costs g c =
+    cost_stop _ _ _ _ _ _ _ c.print_batch.ensures.costs (waiting_cost (job_of c.args.job.now) _ _ _ _ _ c.in-Ok.ensures c.lines.ensures) c.loop-behind.invariant.costs
+
+pub returns-in-Nothing-clause-prints : goal.returns-in-Nothing-clause-prints
+returns-in-Nothing-clause-prints g c =
+    let read = subst (λ (b : Behind). ReadOn c.args.job.now.keys c.loop-behind.lines c.read_on.new.waiting c.read_on.new.self.lines.items b) c.in-Nothing.is c.in-Ok.ensures in
+    printing_done _ _ _ _ (printing_more _ _ _ _ _ _ _ c.loop-behind.invariant.printing (waiting_prints (job_of c.args.job.now) _ _ _ _ _ c.in-Ok.ensures c.lines.ensures) c.in-Ok-print_batch.ensures.prints)
+    (none_waits (job_of c.args.job.now) _ _ _ read)
 
 pub returns-in-Nothing-clause-costs : goal.returns-in-Nothing-clause-costs
-returns-in-Nothing-clause-costs g c = spent_end (job_of c.args.job.now) _ _ _ _ _ _ _ _ c.in_ok-behind.ensures c.lines.ensures c.print_batch.ensures.costs c.loop-behind.invariant.costs
+returns-in-Nothing-clause-costs g c =
+    cost_stop _ _ _ _ _ _ _ c.print_batch.ensures.costs (waiting_cost (job_of c.args.job.now) _ _ _ _ _ c.in-Ok.ensures c.lines.ensures) c.loop-behind.invariant.costs
 
 pub loop-behind-preserved : goal.loop-behind-preserved
 loop-behind-preserved g c = record {
-  text = page_step (job_of c.args.job.now) _ _ _ _ _ _ _ _ c.in_ok-behind.ensures c.lines.ensures c.in_ok-print_batch.ensures.page c.loop-behind.invariant.text;
-  costs = spent_step (job_of c.args.job.now) _ _ _ _ _ _ _ _ c.in_ok-behind.ensures c.lines.ensures c.print_batch.ensures.costs c.loop-behind.invariant.costs;
-  kept = drained_more _ _ _ _ _ c.in_ok-behind.ensures ∙ c.loop-behind.invariant.kept;
+  printing = printing_more _ _ _ _ _ _ _ c.loop-behind.invariant.printing (waiting_prints (job_of c.args.job.now) _ _ _ _ _ c.in-Ok.ensures c.lines.ensures) c.in-Ok-print_batch.ensures.prints;
+  costs = cost_step _ _ _ _ _ _ _ c.print_batch.ensures.costs (waiting_cost (job_of c.args.job.now) _ _ _ _ _ c.in-Ok.ensures c.lines.ensures) c.loop-behind.invariant.costs;
+  kept = drained_more _ _ _ _ _ c.in-Ok.ensures ∙ c.loop-behind.invariant.kept;
 }

@@ -4,17 +4,16 @@ use Rattle.sj_sql.specs.View.{statement_of}
 use Rattle.std.specs.Prelude.{All}
 use Rattle.sj_bind.specs.Sound.{IsBindable}
 use Rattle.sj_bind.specs.View.{bound_of}
-use Rattle.sqljson.specs.Job.{CanRun}
-use Rattle.sqljson.specs.Verdict.{run_answer}
+use Rattle.sqljson.specs.Job.{AreSound}
 use Rattle.sqljson.proofs.Verdicts.{Judging}
-use Rattle.sqljson.proofs.verdict.statements_to_run.Given as goal
+use Rattle.sqljson.proofs.verdict.statements_of.Given as goal
 
 -- the statements so far, and those that are left
 abbrev pub invariant-loop-statement : goal.invariant-loop-statement
 invariant-loop-statement l = record {
-  judging : Judging run_answer l.file (map bound_of l.statements.items) (map statement_of l.script.statements) (fault_of l.script.fault) l.number;
+  judging : Judging l.file (map bound_of l.statements.items) (map statement_of l.script.statements) (fault_of l.script.fault) l.number;
   bindable : All IsBindable (map statement_of l.script.statements);
-  can_run : All CanRun l.statements.items;
+  sound : AreSound l.statements.items;
   so_far : l.number ≡ length l.statements.items;
   room : l.number + length l.script.statements ≡ l.count;
 }

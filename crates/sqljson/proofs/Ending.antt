@@ -1,0 +1,607 @@
+-- What follows of how a command ended.
+use Rattle.std.proofs.Common.{◌≡◌, ◌≢◌, ◌⊎◌, inl, inr, ◌↔◌, ℕ, ◌+◌, ◌-◌, ◌<◌, ◌≤◌, List, [], ◌++◌, length, take, drop, Option, None, Some, Result, Ok, Err, IsOk, IsTrue, IfSome, refl, sym, ◌∙◌, ap, subst, arith, length-append}
+use Rattle.std.proofs.lemmas.List.{take-append-drop, append-nil}
+use Rattle.std.specs.Io.KnownBytes.{Consumes, IsAtEnd}
+use Rattle.sj_base.specs.Outside.{Files, HasFile, Rose, raised}
+use Rattle.sj_statement.specs.declared.refusal.FileKind.{FileKind}
+use Rattle.sj_bind.specs.Bound.{Bound}
+use Rattle.sj_generated.specs.Lines.{generated}
+use Rattle.sj_page.specs.Sides.{OutputSide, Grew}
+use Rattle.sj_page.specs.Pages.{PageSeen, PrintState}
+use Rattle.sj_page.proofs.Writing.{grew_none}
+use Rattle.sqljson.specs.declared.job.Keys.{Keys}
+use Rattle.sqljson.specs.declared.job.Keys.TheVariants.{Any}
+use Rattle.sqljson.specs.declared.status.Status.{Status}
+use Rattle.sqljson.specs.declared.status.Status.TheVariants.{Done, Usage, Refused, ShelfFault, ReadFault, WriteFault, Memory, InputLimit, FileTooLong}
+use Rattle.sqljson.specs.Job.{Job, job}
+use Rattle.sqljson.specs.Input.{InputSide}
+use Rattle.sqljson.specs.Output.{output, whole_output, allowed}
+use Rattle.sqljson.specs.Stream.{IsPrefix, IsWhy, Streamed, IsFrontOf, WroteLeast, WroteWhole, StepsWithin, max_piece, max_input}
+use Rattle.sqljson.specs.File.{ShelfSide, Form, running, checking, generating, name_in, file_named, file_run, keys_run, file_checked, file_generated, lines_generated, file_shown, IsFile, IsTooLong, max_file}
+use Rattle.sqljson.specs.Verdict.{Accepts, Refuses}
+use Rattle.sqljson.specs.Summary.{summary_text}
+use Rattle.sqljson.specs.Ran.{Moment, Accepted, RefusedFile, IsUnaccepted, accepted_text, Tells, RanGenerated, Does, Idle, Did, Ran, IsBefore}
+use Rattle.sqljson.proofs.Streaming.{whole_output-append, output-end, prefix_trans, consumes_none, told, streamed_front}
+use Rattle.sqljson.proofs.Verdicts.{one_accepted, not_both, one_refusal}
+
+by_some : {A : Type 0} (x : Option A) (P : A → Type 0) → ((y : A) → x ≡ Some y → P y) → IfSome x P
+by_some None P h = tt
+by_some (Some y) P h = h y refl
+
+-- ---- the file
+
+-- no file is shown where none is named
+no_name : (files : Option Files) (file : List ℕ) → file_shown files None ≡ Some file → ⊥
+no_name None file shown = absurd (cc shown)
+no_name (Some files) file shown = absurd (cc shown)
+
+same_file : (files : Option Files) (name file file' : List ℕ) → file_shown files (Some name) ≡ Some file → IsFile files name file' → file' ≡ file
+same_file None name file file' shown is = absurd (cc shown)
+same_file (Some files) name file file' shown is = cc (shown, is)
+
+long_file : (files : Option Files) (name file : List ℕ) → file_shown files (Some name) ≡ Some file → IsTooLong files name → max_file < length file
+long_file files name file shown long = subst (λ (f : List ℕ). max_file < length f) (same_file files name file long.0 shown long.1) long.2
+
+accepted_as : (name : List ℕ) (s s' : ShelfSide) (K : List Bound) (file : List ℕ) → file_shown s.files (Some name) ≡ Some file → Accepted name s s' K → Accepts file K
+accepted_as name s s' K file shown a = subst (λ (f : List ℕ). Accepts f K) (same_file s.files name file a.file shown a.holds.is) a.accepted
+
+accepted_short : (name : List ℕ) (s s' : ShelfSide) (K : List Bound) (file : List ℕ) → file_shown s.files (Some name) ≡ Some file → Accepted name s s' K → length file ≤ max_file
+accepted_short name s s' K file shown a = subst (λ (f : List ℕ). length f ≤ max_file) (same_file s.files name file a.file shown a.holds.is) a.holds.short
+
+refused_as : (name : List ℕ) (s s' : ShelfSide) (k : ℕ) (kind : FileKind) (file : List ℕ) → file_shown s.files (Some name) ≡ Some file → RefusedFile name s s' k kind → (length file ≤ max_file) × Refuses file k kind
+refused_as name s s' k kind file shown r =
+    subst (λ (f : List ℕ). (length f ≤ max_file) × Refuses f k kind) (same_file s.files name file r.file shown r.holds.is) (r.holds.short, r.refused)
+
+-- where the file is accepted and the shelf did not fail, only want of memory is a reason
+only_memory : (name : List ℕ) (s s' : ShelfSide) (status : Status) (file : List ℕ) (K : List Bound) → file_shown s.files (Some name) ≡ Some file → Accepts file K → length file ≤ max_file → (Rose s.faults s'.faults → ⊥)
+    → IsUnaccepted name s s' status → status ≡ Memory
+only_memory name s s' ShelfFault file K shown accepts short shelf why = absurd (shelf why.0)
+only_memory name s s' FileTooLong file K shown accepts short shelf why = absurd (omega (arith, short, long_file s.files name file shown why.0))
+only_memory name s s' (Refused k kind) file K shown accepts short shelf why = absurd (not_both file K k kind accepts (refused_as name s s' k kind file shown why).1)
+only_memory name s s' Memory file K shown accepts short shelf why = refl
+only_memory name s s' Done file K shown accepts short shelf why = absurd why
+only_memory name s s' Usage file K shown accepts short shelf why = absurd why
+only_memory name s s' ReadFault file K shown accepts short shelf why = absurd why
+only_memory name s s' WriteFault file K shown accepts short shelf why = absurd why
+only_memory name s s' InputLimit file K shown accepts short shelf why = absurd why
+
+-- ---- what was done
+
+-- it was done with the statements of the file
+does_with : (f : Form) (b a : Moment) (status : Status) (file : List ℕ) (K : List Bound) → file_shown b.shelf.files (Some (name_in f)) ≡ Some file → Accepts file K → Did f b a status → Does f K b.input a.input b.out a.out status
+does_with f b a status file K shown accepts d =
+    subst (λ (k : List Bound). Does f k b.input a.input b.out a.out status) (one_accepted file d.statements K (accepted_as (name_in f) b.shelf a.shelf d.statements file shown d.accepted) accepts) d.does
+
+why_not_before : (K : Job) (i i' : InputSide) (o : OutputSide) (o' : PrintState) (bytes text : List ℕ) (status : Status) → IsWhy K i i' o o' bytes text status → IsBefore status → ⊥
+why_not_before K i i' o o' bytes text Done why is = is
+why_not_before K i i' o o' bytes text ReadFault why is = is
+why_not_before K i i' o o' bytes text WriteFault why is = is
+why_not_before K i i' o o' bytes text InputLimit why is = is
+why_not_before K i i' o o' bytes text Memory why is = is
+why_not_before K i i' o o' bytes text Usage why is = why
+why_not_before K i i' o o' bytes text ShelfFault why is = why
+why_not_before K i i' o o' bytes text FileTooLong why is = why
+why_not_before K i i' o o' bytes text (Refused k kind) why is = why
+
+pub streamed_not_before : (K : Job) (i i' : InputSide) (o : OutputSide) (o' : PrintState) (status : Status) → Streamed K i i' o o' status → IsBefore status → ⊥
+streamed_not_before K i i' o o' status s is = why_not_before K i i' o o' s.bytes s.text status s.why is
+
+tells_not_before : (text : List ℕ) (o o' : OutputSide) (status : Status) → Tells text o o' status → IsBefore status → ⊥
+tells_not_before text o o' Done why is = is
+tells_not_before text o o' ReadFault why is = is
+tells_not_before text o o' WriteFault why is = is
+tells_not_before text o o' InputLimit why is = is
+tells_not_before text o o' Memory why is = is
+tells_not_before text o o' Usage why is = why
+tells_not_before text o o' ShelfFault why is = why
+tells_not_before text o o' FileTooLong why is = why
+tells_not_before text o o' (Refused k kind) why is = why
+
+not_before : (f : Form) (K : List Bound) (i i' : InputSide) (o o' : OutputSide) (status : Status) → Does f K i i' o o' status → IsBefore status → ⊥
+not_before (running keys name) K i i' o o' status d is = streamed_not_before (job keys K) i i' o (record { out = o'; page = d.0 }) status d.1 is
+not_before (checking name) K i i' o o' status d is = tells_not_before (accepted_text K) o o' status d.1 is
+not_before (generating number name) K i i' o o' status d is = tells_not_before (summary_text number K) o o' status d.1 is
+
+-- ---- by the form
+
+for_run : (f : Option Form) (files : Option Files) (P : Keys → List ℕ → Type 0) → ((keys : Keys) (name file : List ℕ) → f ≡ Some (running keys name) → file_shown files (Some name) ≡ Some file → P keys file)
+    → IfSome (file_shown files (file_run f)) (λ file. P (keys_run f) file)
+for_run None files P h = by_some (file_shown files None) _ (λ file shown. absurd (no_name files file shown))
+for_run (Some (running keys name)) files P h = by_some (file_shown files (Some name)) _ (λ file shown. h keys name file refl shown)
+for_run (Some (checking name)) files P h = by_some (file_shown files None) _ (λ file shown. absurd (no_name files file shown))
+for_run (Some (generating number name)) files P h = by_some (file_shown files None) _ (λ file shown. absurd (no_name files file shown))
+
+for_check : (f : Option Form) (files : Option Files) (P : List ℕ → Type 0) → ((name file : List ℕ) → f ≡ Some (checking name) → file_shown files (Some name) ≡ Some file → P file)
+    → IfSome (file_shown files (file_checked f)) P
+for_check None files P h = by_some (file_shown files None) _ (λ file shown. absurd (no_name files file shown))
+for_check (Some (running keys name)) files P h = by_some (file_shown files None) _ (λ file shown. absurd (no_name files file shown))
+for_check (Some (checking name)) files P h = by_some (file_shown files (Some name)) _ (λ file shown. h name file refl shown)
+for_check (Some (generating number name)) files P h = by_some (file_shown files None) _ (λ file shown. absurd (no_name files file shown))
+
+for_generated : (f : Option Form) (files : Option Files) (P : ℕ → List ℕ → Type 0) → ((number : ℕ) (name file : List ℕ) → f ≡ Some (generating number name) → file_shown files (Some name) ≡ Some file → P number file)
+    → IfSome (file_shown files (file_generated f)) (λ file. P (lines_generated f) file)
+for_generated None files P h = by_some (file_shown files None) _ (λ file shown. absurd (no_name files file shown))
+for_generated (Some (running keys name)) files P h = by_some (file_shown files None) _ (λ file shown. absurd (no_name files file shown))
+for_generated (Some (checking name)) files P h = by_some (file_shown files None) _ (λ file shown. absurd (no_name files file shown))
+for_generated (Some (generating number name)) files P h = by_some (file_shown files (Some name)) _ (λ file shown. h number name file refl shown)
+
+-- either no file was accepted, or this was done with its statements
+either : (f : Form) (b a : Moment) (status : Status) (file : List ℕ) (K : List Bound) (Q : Type 0) → file_shown b.shelf.files (Some (name_in f)) ≡ Some file → Accepts file K → Ran (Some f) b a status
+    → (Idle (name_in f) b a status → Q) → (Does f K b.input a.input b.out a.out status → Q) → Q
+either f b a status file K Q shown accepts (inl idle) h g = h idle
+either f b a status file K Q shown accepts (inr d) h g = g (does_with f b a status file K shown accepts d)
+
+-- ---- runs over the input
+
+pub all_taken : (left left' : Option (List ℕ)) (all bytes : List ℕ) → left ≡ Some all → Consumes left left' bytes → IsAtEnd left' → bytes ≡ all
+all_taken left left' all bytes is took end =
+    let t = told left left' all bytes is took in
+    let none : t.0 ≡ [] = subst IsAtEnd t.1 end in
+    sym (t.2 ∙ ap (λ (r : List ℕ). bytes ++ r) none ∙ append-nil bytes)
+
+-- what a run that is Done has written
+pub ran_headline : (f : Option Form) (b a : Moment) (status : Status) → Ran f b a status → status ≡ Done
+    → IfSome (file_shown b.shelf.files (file_run f)) (λ file. (K : List Bound) → Accepts file K → IfSome b.input.left (λ all. Grew b.out a.out (output (job (keys_run f) K) all)))
+ran_headline f b a status r done =
+    for_run f b.shelf.files (λ keys file. (K : List Bound) → Accepts file K → IfSome b.input.left (λ all. Grew b.out a.out (output (job keys K) all)))
+    (λ keys name file is shown K accepts.
+    either (running keys name) b a Done file K _ shown accepts (subst (Ran (Some (running keys name)) b a) done (subst (λ (x : Option Form). Ran x b a status) is r))
+    (λ idle. absurd idle.why)
+    (λ d. by_some b.input.left _ (λ all left.
+    subst (Grew b.out a.out) (d.1.why.0 ∙ ap (output (job keys K)) (all_taken b.input.left a.input.left all d.1.bytes left d.1.consumed d.1.why.1)) d.1.grew)))
+
+idle_front : (whole : List ℕ) (o o' : OutputSide) → o' ≡ o → IsFrontOf whole o o'
+idle_front whole o o' same = record { text = []; grew = subst (λ (p : OutputSide). Grew o p []) (sym same) (grew_none o); front = (whole, refl) }
+
+-- what was written is a front of the output, however the run ended
+pub ran_front : (f : Option Form) (b a : Moment) (status : Status) → Ran f b a status
+    → IfSome (file_shown b.shelf.files (file_run f)) (λ file. (K : List Bound) → Accepts file K → IfSome b.input.left (λ all. IsFrontOf (output (job (keys_run f) K) all) b.out a.out))
+ran_front f b a status r =
+    for_run f b.shelf.files (λ keys file. (K : List Bound) → Accepts file K → IfSome b.input.left (λ all. IsFrontOf (output (job keys K) all) b.out a.out))
+    (λ keys name file is shown K accepts. by_some b.input.left _ (λ all left.
+    either (running keys name) b a status file K _ shown accepts (subst (λ (x : Option Form). Ran x b a status) is r)
+    (λ idle. idle_front (output (job keys K) all) b.out a.out idle.out)
+    (λ d. streamed_front (job keys K) b.input a.input b.out (record { out = a.out; page = d.0 }) status all d.1 left)))
+
+-- the texts of the whole lines of a front go in front of those of all
+front_whole : (K : Job) (h : List ℕ) (m : ℕ) → IsPrefix (whole_output K (take m h)) (whole_output K h)
+front_whole K h m = (_, ap (whole_output K) (sym (take-append-drop m h)) ∙ whole_output-append K (take m h) (drop m h))
+
+whole_front : (K : Job) (h : List ℕ) → IsPrefix (whole_output K h) (output K h)
+whole_front K h = (_, output-end K h)
+
+front_and_least : Job → List ℕ → List ℕ → Type 0
+front_and_least K bytes text = IsPrefix text (output K bytes) × IsPrefix (whole_output K (take (length bytes - max_piece) bytes)) text
+
+least_by_why : (K : Job) (i i' : InputSide) (o : OutputSide) (o' : PrintState) (bytes text : List ℕ) (status : Status) → IsWhy K i i' o o' bytes text status → front_and_least K bytes text
+unfolding front_and_least
+least_by_why K i i' o o' bytes text Done why =
+    subst (λ (t : List ℕ). IsPrefix t (output K bytes) × IsPrefix (whole_output K (take (length bytes - max_piece) bytes)) t) (sym why.0)
+    (([], sym (append-nil (output K bytes))), prefix_trans _ (whole_output K bytes) _ (front_whole K bytes (length bytes - max_piece)) (whole_front K bytes))
+least_by_why K i i' o o' bytes text ReadFault why =
+    subst (λ (t : List ℕ). IsPrefix t (output K bytes) × IsPrefix (whole_output K (take (length bytes - max_piece) bytes)) t) (sym why.0)
+    (whole_front K bytes, front_whole K bytes (length bytes - max_piece))
+least_by_why K i i' o o' bytes text InputLimit why =
+    subst (λ (t : List ℕ). IsPrefix t (output K bytes) × IsPrefix (whole_output K (take (length bytes - max_piece) bytes)) t) (sym why.0)
+    (whole_front K bytes, front_whole K bytes (length bytes - max_piece))
+least_by_why K i i' o o' bytes text WriteFault why = (why.0.front, why.0.least)
+least_by_why K i i' o o' bytes text Memory why = (why.front, why.least)
+least_by_why K i i' o o' bytes text Usage why = absurd why
+least_by_why K i i' o o' bytes text ShelfFault why = absurd why
+least_by_why K i i' o o' bytes text FileTooLong why = absurd why
+least_by_why K i i' o o' bytes text (Refused k kind) why = absurd why
+
+streamed_least : (K : Job) (i i' : InputSide) (o : OutputSide) (o' : PrintState) (status : Status) → Streamed K i i' o o' status → WroteLeast K i i' o o'.out
+unfolding front_and_least
+streamed_least K i i' o o' status s =
+    let l = least_by_why K i i' o o' s.bytes s.text status s.why in
+    record { bytes = s.bytes; consumed = s.consumed; text = s.text; grew = s.grew; front = l.0; least = l.1 }
+
+idle_consumes : (i i' : InputSide) → i' ≡ i → Consumes i.left i'.left []
+idle_consumes i i' same = subst (λ (p : InputSide). Consumes i.left p.left []) (sym same) (consumes_none i.left)
+
+idle_least : (K : Job) (i i' : InputSide) (o o' : OutputSide) → i' ≡ i → o' ≡ o → WroteLeast K i i' o o'
+idle_least K i i' o o' input out = record {
+  bytes = [];
+  consumed = idle_consumes i i' input;
+  text = [];
+  grew = subst (λ (p : OutputSide). Grew o p []) (sym out) (grew_none o);
+  front = (output K [], refl);
+  least = ([], refl);
+}
+
+-- however a run ended, it had written the lines whose LF stands before the last piece of the bytes taken
+pub ran_least : (f : Option Form) (b a : Moment) (status : Status) → Ran f b a status
+    → IfSome (file_shown b.shelf.files (file_run f)) (λ file. (K : List Bound) → Accepts file K → WroteLeast (job (keys_run f) K) b.input a.input b.out a.out)
+ran_least f b a status r =
+    for_run f b.shelf.files (λ keys file. (K : List Bound) → Accepts file K → WroteLeast (job keys K) b.input a.input b.out a.out)
+    (λ keys name file is shown K accepts.
+    either (running keys name) b a status file K _ shown accepts (subst (λ (x : Option Form). Ran x b a status) is r)
+    (λ idle. idle_least (job keys K) b.input a.input b.out a.out idle.input idle.out)
+    (λ d. streamed_least (job keys K) b.input a.input b.out (record { out = a.out; page = d.0 }) status d.1))
+
+idle_within : (K : Job) (i i' : InputSide) → i' ≡ i → StepsWithin K i i'
+idle_within K i i' same = subst (λ (p : InputSide). StepsWithin K i p) (sym same) (record { bytes = []; consumed = consumes_none i.left; costs = omega arith })
+
+-- however a run ended, its steps are within what the lines of the bytes taken allow
+pub ran_within : (f : Option Form) (b a : Moment) (status : Status) → Ran f b a status
+    → IfSome (file_shown b.shelf.files (file_run f)) (λ file. (K : List Bound) → Accepts file K → StepsWithin (job (keys_run f) K) b.input a.input)
+ran_within f b a status r =
+    for_run f b.shelf.files (λ keys file. (K : List Bound) → Accepts file K → StepsWithin (job keys K) b.input a.input)
+    (λ keys name file is shown K accepts.
+    either (running keys name) b a status file K _ shown accepts (subst (λ (x : Option Form). Ran x b a status) is r)
+    (λ idle. idle_within (job keys K) b.input a.input idle.input)
+    (λ d. record { bytes = d.1.bytes; consumed = d.1.consumed; costs = d.1.costs }))
+
+-- whole lines alone
+pub ran_read_fault : (f : Option Form) (b a : Moment) (status : Status) → Ran f b a status → status ≡ ReadFault
+    → IfSome (file_shown b.shelf.files (file_run f)) (λ file. (K : List Bound) → Accepts file K → WroteWhole (job (keys_run f) K) b.input a.input b.out a.out)
+ran_read_fault f b a status r so =
+    for_run f b.shelf.files (λ keys file. (K : List Bound) → Accepts file K → WroteWhole (job keys K) b.input a.input b.out a.out)
+    (λ keys name file is shown K accepts.
+    either (running keys name) b a ReadFault file K _ shown accepts (subst (Ran (Some (running keys name)) b a) so (subst (λ (x : Option Form). Ran x b a status) is r))
+    (λ idle. absurd idle.why)
+    (λ d. record { bytes = d.1.bytes; consumed = d.1.consumed; grew = subst (Grew b.out a.out) d.1.why.0 d.1.grew }))
+
+pub ran_limit : (f : Option Form) (b a : Moment) (status : Status) → Ran f b a status → status ≡ InputLimit
+    → IfSome (file_shown b.shelf.files (file_run f)) (λ file. (K : List Bound) → Accepts file K → WroteWhole (job (keys_run f) K) b.input a.input b.out a.out)
+ran_limit f b a status r so =
+    for_run f b.shelf.files (λ keys file. (K : List Bound) → Accepts file K → WroteWhole (job keys K) b.input a.input b.out a.out)
+    (λ keys name file is shown K accepts.
+    either (running keys name) b a InputLimit file K _ shown accepts (subst (Ran (Some (running keys name)) b a) so (subst (λ (x : Option Form). Ran x b a status) is r))
+    (λ idle. absurd idle.why)
+    (λ d. record { bytes = d.1.bytes; consumed = d.1.consumed; grew = subst (Grew b.out a.out) d.1.why.0 d.1.grew }))
+
+pub ran_to_end : (f : Option Form) (b a : Moment) (status : Status) → Ran f b a status → status ≡ Done → IfSome (file_run f) (λ _. IsAtEnd a.input.left)
+ran_to_end None b a status r so = tt
+ran_to_end (Some (running keys name)) b a status r so = at_end (subst (Ran (Some (running keys name)) b a) so r)
+  where
+    at_end : Ran (Some (running keys name)) b a Done → IsAtEnd a.input.left
+    at_end (inl idle) = absurd idle.why
+    at_end (inr d) = d.does.1.why.1
+ran_to_end (Some (checking name)) b a status r so = tt
+ran_to_end (Some (generating number name)) b a status r so = tt
+
+-- ---- when a command is done
+
+abbrev pub IsDoneOrMemory : Status → Type 0
+IsDoneOrMemory status = (status ≡ Done) ⊎ (status ≡ Memory)
+
+below_limit : (i i' : InputSide) (all bytes : List ℕ) → i.left ≡ Some all → Consumes i.left i'.left bytes → length all < max_input → length bytes ≡ max_input → ⊥
+below_limit i i' all bytes is took fits long =
+    let t = told i.left i'.left all bytes is took in
+    omega (arith, ap length t.2, length-append bytes t.0, fits, long)
+
+pub streamed_complete : (K : Job) (i i' : InputSide) (o : OutputSide) (o' : PrintState) (status : Status) (all : List ℕ) → i.left ≡ Some all → length all < max_input → (Rose i.faults i'.faults → ⊥) → (Rose o.faults o'.out.faults → ⊥) → Streamed K i i' o o' status → IsDoneOrMemory status
+streamed_complete K i i' o o' Done all left fits read out s = inl refl
+streamed_complete K i i' o o' Memory all left fits read out s = inr refl
+streamed_complete K i i' o o' ReadFault all left fits read out s = absurd (read s.why.1)
+streamed_complete K i i' o o' WriteFault all left fits read out s = absurd (out s.why.1)
+streamed_complete K i i' o o' InputLimit all left fits read out s = absurd (below_limit i i' all s.bytes left s.consumed fits s.why.1)
+streamed_complete K i i' o o' Usage all left fits read out s = absurd s.why
+streamed_complete K i i' o o' ShelfFault all left fits read out s = absurd s.why
+streamed_complete K i i' o o' FileTooLong all left fits read out s = absurd s.why
+streamed_complete K i i' o o' (Refused k kind) all left fits read out s = absurd s.why
+
+pub ran_completes : (f : Option Form) (b a : Moment) (status : Status) → Ran f b a status
+    → (Rose b.shelf.faults a.shelf.faults → ⊥) → (Rose b.input.faults a.input.faults → ⊥) → (Rose b.out.faults a.out.faults → ⊥)
+    → IfSome (file_shown b.shelf.files (file_run f)) (λ file. length file ≤ max_file → (K : List Bound) → Accepts file K → IfSome b.input.left (λ all. length all < max_input → IsDoneOrMemory status))
+ran_completes f b a status r shelf read out =
+    for_run f b.shelf.files (λ keys file. length file ≤ max_file → (K : List Bound) → Accepts file K → IfSome b.input.left (λ all. length all < max_input → IsDoneOrMemory status))
+    (λ keys name file is shown short K accepts. by_some b.input.left _ (λ all left fits.
+    either (running keys name) b a status file K _ shown accepts (subst (λ (x : Option Form). Ran x b a status) is r)
+    (λ idle. inr (only_memory name b.shelf a.shelf status file K shown accepts short shelf idle.why))
+    (λ d. streamed_complete (job keys K) b.input a.input b.out (record { out = a.out; page = d.0 }) status all left fits read out d.1)))
+
+tells_complete : (text : List ℕ) (o o' : OutputSide) (status : Status) → (Rose o.faults o'.faults → ⊥) → Tells text o o' status → IsDoneOrMemory status
+tells_complete text o o' Done out t = inl refl
+tells_complete text o o' Memory out t = inr refl
+tells_complete text o o' WriteFault out t = absurd (out t.1)
+tells_complete text o o' ReadFault out t = absurd t
+tells_complete text o o' InputLimit out t = absurd t
+tells_complete text o o' Usage out t = absurd t
+tells_complete text o o' ShelfFault out t = absurd t
+tells_complete text o o' FileTooLong out t = absurd t
+tells_complete text o o' (Refused k kind) out t = absurd t
+
+tells_front : (text : List ℕ) (o o' : OutputSide) (status : Status) → Tells text o o' status → IsFrontOf text o o'
+tells_front text o o' Done t = record { text = text; grew = t.0; front = ([], sym (append-nil text)) }
+tells_front text o o' Memory t = idle_front text o o' t
+tells_front text o o' WriteFault t = t.0
+tells_front text o o' ReadFault t = absurd t
+tells_front text o o' InputLimit t = absurd t
+tells_front text o o' Usage t = absurd t
+tells_front text o o' ShelfFault t = absurd t
+tells_front text o o' FileTooLong t = absurd t
+tells_front text o o' (Refused k kind) t = absurd t
+
+-- ---- checks
+
+pub ran_checked : (f : Option Form) (b a : Moment) (status : Status) → Ran f b a status → status ≡ Done
+    → IfSome (file_shown b.shelf.files (file_checked f)) (λ file. (K : List Bound) → Accepts file K → Grew b.out a.out (accepted_text K))
+ran_checked f b a status r so =
+    for_check f b.shelf.files (λ file. (K : List Bound) → Accepts file K → Grew b.out a.out (accepted_text K))
+    (λ name file is shown K accepts.
+    either (checking name) b a Done file K _ shown accepts (subst (Ran (Some (checking name)) b a) so (subst (λ (x : Option Form). Ran x b a status) is r)) (λ idle. absurd idle.why) (λ d. d.1.0))
+
+pub ran_check_front : (f : Option Form) (b a : Moment) (status : Status) → Ran f b a status
+    → IfSome (file_shown b.shelf.files (file_checked f)) (λ file. (K : List Bound) → Accepts file K → IsFrontOf (accepted_text K) b.out a.out)
+ran_check_front f b a status r =
+    for_check f b.shelf.files (λ file. (K : List Bound) → Accepts file K → IsFrontOf (accepted_text K) b.out a.out)
+    (λ name file is shown K accepts.
+    either (checking name) b a status file K _ shown accepts (subst (λ (x : Option Form). Ran x b a status) is r)
+    (λ idle. idle_front (accepted_text K) b.out a.out idle.out) (λ d. tells_front (accepted_text K) b.out a.out status d.1))
+
+pub ran_check_completes : (f : Option Form) (b a : Moment) (status : Status) → Ran f b a status → (Rose b.shelf.faults a.shelf.faults → ⊥) → (Rose b.out.faults a.out.faults → ⊥)
+    → IfSome (file_shown b.shelf.files (file_checked f)) (λ file. length file ≤ max_file → (K : List Bound) → Accepts file K → IsDoneOrMemory status)
+ran_check_completes f b a status r shelf out =
+    for_check f b.shelf.files (λ file. length file ≤ max_file → (K : List Bound) → Accepts file K → IsDoneOrMemory status)
+    (λ name file is shown short K accepts.
+    either (checking name) b a status file K _ shown accepts (subst (λ (x : Option Form). Ran x b a status) is r)
+    (λ idle. inr (only_memory name b.shelf a.shelf status file K shown accepts short shelf idle.why)) (λ d. tells_complete (accepted_text K) b.out a.out status out d.1))
+
+-- ---- runs over generated lines
+
+pub ran_generated : (f : Option Form) (b a : Moment) (status : Status) → Ran f b a status → status ≡ Done
+    → IfSome (file_shown b.shelf.files (file_generated f)) (λ file. (K : List Bound) → Accepts file K → Grew b.out a.out (summary_text (lines_generated f) K))
+ran_generated f b a status r so =
+    for_generated f b.shelf.files (λ number file. (K : List Bound) → Accepts file K → Grew b.out a.out (summary_text number K))
+    (λ number name file is shown K accepts.
+    either (generating number name) b a Done file K _ shown accepts (subst (Ran (Some (generating number name)) b a) so (subst (λ (x : Option Form). Ran x b a status) is r)) (λ idle. absurd idle.why) (λ d. d.1.0))
+
+pub ran_generated_front : (f : Option Form) (b a : Moment) (status : Status) → Ran f b a status
+    → IfSome (file_shown b.shelf.files (file_generated f)) (λ file. (K : List Bound) → Accepts file K → IsFrontOf (summary_text (lines_generated f) K) b.out a.out)
+ran_generated_front f b a status r =
+    for_generated f b.shelf.files (λ number file. (K : List Bound) → Accepts file K → IsFrontOf (summary_text number K) b.out a.out)
+    (λ number name file is shown K accepts.
+    either (generating number name) b a status file K _ shown accepts (subst (λ (x : Option Form). Ran x b a status) is r)
+    (λ idle. idle_front (summary_text number K) b.out a.out idle.out) (λ d. tells_front (summary_text number K) b.out a.out status d.1))
+
+pub ran_generated_completes : (f : Option Form) (b a : Moment) (status : Status) → Ran f b a status → (Rose b.shelf.faults a.shelf.faults → ⊥) → (Rose b.out.faults a.out.faults → ⊥)
+    → IfSome (file_shown b.shelf.files (file_generated f)) (λ file. length file ≤ max_file → (K : List Bound) → Accepts file K → IsDoneOrMemory status)
+ran_generated_completes f b a status r shelf out =
+    for_generated f b.shelf.files (λ number file. length file ≤ max_file → (K : List Bound) → Accepts file K → IsDoneOrMemory status)
+    (λ number name file is shown short K accepts.
+    either (generating number name) b a status file K _ shown accepts (subst (λ (x : Option Form). Ran x b a status) is r)
+    (λ idle. inr (only_memory name b.shelf a.shelf status file K shown accepts short shelf idle.why)) (λ d. tells_complete (summary_text number K) b.out a.out status out d.1))
+
+idle_steps : (i i' : InputSide) (n : ℕ) → i' ≡ i → i'.steps ≤ raised i.steps n
+idle_steps i i' n same = omega (arith, ap (λ (p : InputSide). p.steps) same)
+
+pub ran_generated_within : (f : Option Form) (b a : Moment) (status : Status) → Ran f b a status
+    → IfSome (file_shown b.shelf.files (file_generated f)) (λ file. (K : List Bound) → Accepts file K → a.input.steps ≤ raised b.input.steps (allowed (job Any K) (generated (lines_generated f))))
+ran_generated_within f b a status r =
+    for_generated f b.shelf.files (λ number file. (K : List Bound) → Accepts file K → a.input.steps ≤ raised b.input.steps (allowed (job Any K) (generated number)))
+    (λ number name file is shown K accepts.
+    either (generating number name) b a status file K _ shown accepts (subst (λ (x : Option Form). Ran x b a status) is r)
+    (λ idle. idle_steps b.input a.input (allowed (job Any K) (generated number)) idle.input) (λ d. d.0.costs))
+
+-- ---- refusals
+
+abbrev pub IsThisOrMemory : Status → ℕ → FileKind → Type 0
+IsThisOrMemory status k kind = (status ≡ Refused k kind) ⊎ (status ≡ Memory)
+
+same_refusal : (k n : ℕ) (kind other : FileKind) → ◌≡◌ {A = ℕ × FileKind} (k, kind) (n, other) → Refused k kind ≡ Refused n other
+same_refusal k n kind other is = ap (λ (e : ℕ × FileKind). Refused e.0 e.1) is
+
+this_refusal : (name : List ℕ) (s s' : ShelfSide) (status : Status) (file : List ℕ) (n : ℕ) (other : FileKind) → file_shown s.files (Some name) ≡ Some file → length file ≤ max_file → Refuses file n other → (Rose s.faults s'.faults → ⊥)
+    → IsUnaccepted name s s' status → IsThisOrMemory status n other
+this_refusal name s s' ShelfFault file n other shown short bad shelf why = absurd (shelf why.0)
+this_refusal name s s' FileTooLong file n other shown short bad shelf why = absurd (omega (arith, short, long_file s.files name file shown why.0))
+this_refusal name s s' (Refused k kind) file n other shown short bad shelf why = inl (same_refusal k n kind other (one_refusal file k n kind other (refused_as name s s' k kind file shown why).1 bad))
+this_refusal name s s' Memory file n other shown short bad shelf why = inr refl
+this_refusal name s s' Done file n other shown short bad shelf why = absurd why
+this_refusal name s s' Usage file n other shown short bad shelf why = absurd why
+this_refusal name s s' ReadFault file n other shown short bad shelf why = absurd why
+this_refusal name s s' WriteFault file n other shown short bad shelf why = absurd why
+this_refusal name s s' InputLimit file n other shown short bad shelf why = absurd why
+
+pub ran_refuses : (f : Option Form) (b a : Moment) (status : Status) → Ran f b a status → (Rose b.shelf.faults a.shelf.faults → ⊥)
+    → IfSome (file_shown b.shelf.files (file_named f)) (λ file. length file ≤ max_file → (n : ℕ) (other : FileKind) → Refuses file n other → IsThisOrMemory status n other)
+ran_refuses None b a status r shelf = by_some (file_shown b.shelf.files None) _ (λ file shown. absurd (no_name b.shelf.files file shown))
+ran_refuses (Some f) b a status (inl idle) shelf =
+    by_some (file_shown b.shelf.files (Some (name_in f))) _ (λ file shown short n other bad. this_refusal (name_in f) b.shelf a.shelf status file n other shown short bad shelf idle.why)
+ran_refuses (Some f) b a status (inr d) shelf =
+    by_some (file_shown b.shelf.files (Some (name_in f))) _ (λ file shown short n other bad. absurd (not_both file d.statements n other (accepted_as (name_in f) b.shelf a.shelf d.statements file shown d.accepted) bad))
+
+-- a refusal is that of the file
+pub ran_refused : (f : Option Form) (b a : Moment) (status : Status) → Ran f b a status → (k : ℕ) (kind : FileKind) → status ≡ Refused k kind
+    → (a.shelf.faults ≡ b.shelf.faults) × IfSome (file_shown b.shelf.files (file_named f)) (λ file. (length file ≤ max_file) × Refuses file k kind)
+ran_refused None b a status r k kind is = absurd (cc (r.0, is))
+ran_refused (Some f) b a status r k kind is = by_refusal (subst (Ran (Some f) b a) is r)
+  where
+    by_refusal : Ran (Some f) b a (Refused k kind) → (a.shelf.faults ≡ b.shelf.faults) × IfSome (file_shown b.shelf.files (Some (name_in f))) (λ file. (length file ≤ max_file) × Refuses file k kind)
+    by_refusal (inl idle) = (idle.why.holds.no_fault, by_some (file_shown b.shelf.files (Some (name_in f))) _ (λ file shown. refused_as (name_in f) b.shelf a.shelf k kind file shown idle.why))
+    by_refusal (inr d) = absurd (not_before f d.statements b.input a.input b.out a.out (Refused k kind) d.does tt)
+
+-- ---- files that are too long or absent
+
+pub ran_too_long : (f : Option Form) (b a : Moment) (status : Status) → Ran f b a status → status ≡ FileTooLong
+    → (a.shelf.faults ≡ b.shelf.faults) × IfSome (file_shown b.shelf.files (file_named f)) (λ file. max_file < length file)
+ran_too_long None b a status r is = absurd (cc (r.0, is))
+ran_too_long (Some f) b a status r is = by_length (subst (Ran (Some f) b a) is r)
+  where
+    by_length : Ran (Some f) b a FileTooLong → (a.shelf.faults ≡ b.shelf.faults) × IfSome (file_shown b.shelf.files (Some (name_in f))) (λ file. max_file < length file)
+    by_length (inl idle) = (idle.why.1, by_some (file_shown b.shelf.files (Some (name_in f))) _ (λ file shown. long_file b.shelf.files (name_in f) file shown idle.why.0))
+    by_length (inr d) = absurd (not_before f d.statements b.input a.input b.out a.out FileTooLong d.does tt)
+
+abbrev pub IsLongOrMemory : Status → Type 0
+IsLongOrMemory status = (status ≡ FileTooLong) ⊎ (status ≡ Memory)
+
+too_long_alone : (name : List ℕ) (s s' : ShelfSide) (status : Status) (file : List ℕ) → file_shown s.files (Some name) ≡ Some file → max_file < length file → (Rose s.faults s'.faults → ⊥) → IsUnaccepted name s s' status → IsLongOrMemory status
+too_long_alone name s s' ShelfFault file shown long shelf why = absurd (shelf why.0)
+too_long_alone name s s' FileTooLong file shown long shelf why = inl refl
+too_long_alone name s s' (Refused k kind) file shown long shelf why = absurd (omega (arith, long, (refused_as name s s' k kind file shown why).0))
+too_long_alone name s s' Memory file shown long shelf why = inr refl
+too_long_alone name s s' Done file shown long shelf why = absurd why
+too_long_alone name s s' Usage file shown long shelf why = absurd why
+too_long_alone name s s' ReadFault file shown long shelf why = absurd why
+too_long_alone name s s' WriteFault file shown long shelf why = absurd why
+too_long_alone name s s' InputLimit file shown long shelf why = absurd why
+
+pub ran_finds_too_long : (f : Option Form) (b a : Moment) (status : Status) → Ran f b a status → (Rose b.shelf.faults a.shelf.faults → ⊥)
+    → IfSome (file_shown b.shelf.files (file_named f)) (λ file. max_file < length file → IsLongOrMemory status)
+ran_finds_too_long None b a status r shelf = by_some (file_shown b.shelf.files None) _ (λ file shown. absurd (no_name b.shelf.files file shown))
+ran_finds_too_long (Some f) b a status (inl idle) shelf =
+    by_some (file_shown b.shelf.files (Some (name_in f))) _ (λ file shown long. too_long_alone (name_in f) b.shelf a.shelf status file shown long shelf idle.why)
+ran_finds_too_long (Some f) b a status (inr d) shelf =
+    by_some (file_shown b.shelf.files (Some (name_in f))) _ (λ file shown long. absurd (omega (arith, long, accepted_short (name_in f) b.shelf a.shelf d.statements file shown d.accepted)))
+
+abbrev pub IsFaultOrMemory : Status → Type 0
+IsFaultOrMemory status = (status ≡ ShelfFault) ⊎ (status ≡ Memory)
+
+no_file : (files : Option Files) (fs : Files) (name file : List ℕ) → files ≡ Some fs → fs name ≡ None → IsFile files name file → ⊥
+no_file None fs name file is none here = absurd (cc is)
+no_file (Some gs) fs name file is none here =
+    let same : gs ≡ fs = cc is in
+    let told : gs name ≡ fs name = ap (λ (x : Files). x name) same in
+    absurd (cc (told, none, here))
+
+absent_alone : (name : List ℕ) (s s' : ShelfSide) (status : Status) (fs : Files) → s.files ≡ Some fs → fs name ≡ None → IsUnaccepted name s s' status → IsFaultOrMemory status
+absent_alone name s s' ShelfFault fs is none why = inl refl
+absent_alone name s s' FileTooLong fs is none why = absurd (no_file s.files fs name why.0.0 is none why.0.1)
+absent_alone name s s' (Refused k kind) fs is none why = absurd (no_file s.files fs name why.file is none why.holds.is)
+absent_alone name s s' Memory fs is none why = inr refl
+absent_alone name s s' Done fs is none why = absurd why
+absent_alone name s s' Usage fs is none why = absurd why
+absent_alone name s s' ReadFault fs is none why = absurd why
+absent_alone name s s' WriteFault fs is none why = absurd why
+absent_alone name s s' InputLimit fs is none why = absurd why
+
+pub ran_absent : (f : Option Form) (b a : Moment) (status : Status) → Ran f b a status
+    → IfSome b.shelf.files (λ files. IfSome (file_named f) (λ name. files name ≡ None → IsFaultOrMemory status))
+ran_absent None b a status r = by_some b.shelf.files _ (λ files is. tt)
+ran_absent (Some f) b a status (inl idle) = by_some b.shelf.files _ (λ files is none. absent_alone (name_in f) b.shelf a.shelf status files is none idle.why)
+ran_absent (Some f) b a status (inr d) = by_some b.shelf.files _ (λ files is none. absurd (no_file b.shelf.files files (name_in f) d.accepted.file is none d.accepted.holds.is))
+
+-- ---- causes
+
+pub not_usage : (f : Form) (b a : Moment) (status : Status) → Ran (Some f) b a status → status ≡ Usage → ⊥
+not_usage f b a status r is = by_usage (subst (Ran (Some f) b a) is r)
+  where
+    by_usage : Ran (Some f) b a Usage → ⊥
+    by_usage (inl idle) = idle.why
+    by_usage (inr d) = not_before f d.statements b.input a.input b.out a.out Usage d.does tt
+
+pub ran_usage : (f : Option Form) (b a : Moment) (status : Status) → Ran f b a status → (status ≡ Usage) ↔ (f ≡ None)
+ran_usage None b a status r = (λ _. refl, λ _. r.0)
+ran_usage (Some f) b a status r = (λ is. absurd (not_usage f b a status r is), λ is. absurd (cc is))
+
+pub ran_shelf_fault : (f : Option Form) (b a : Moment) (status : Status) → Ran f b a status → status ≡ ShelfFault → Rose b.shelf.faults a.shelf.faults
+ran_shelf_fault None b a status r is = absurd (cc (r.0, is))
+ran_shelf_fault (Some f) b a status r is = by_fault (subst (Ran (Some f) b a) is r)
+  where
+    by_fault : Ran (Some f) b a ShelfFault → Rose b.shelf.faults a.shelf.faults
+    by_fault (inl idle) = idle.why.0
+    by_fault (inr d) = absurd (not_before f d.statements b.input a.input b.out a.out ShelfFault d.does tt)
+
+pub ran_quiet : (f : Option Form) (b a : Moment) (status : Status) → Ran f b a status → IsTrue b.shelf.quiet → IfSome (file_named f) (λ name. HasFile b.shelf.files name → status ≡ ShelfFault → ⊥)
+ran_quiet None b a status r quiet = tt
+ran_quiet (Some f) b a status r quiet = λ has is. by_fault has (subst (Ran (Some f) b a) is r)
+  where
+    by_fault : HasFile b.shelf.files (name_in f) → Ran (Some f) b a ShelfFault → ⊥
+    by_fault has (inl idle) = idle.why.1 quiet has
+    by_fault has (inr d) = not_before f d.statements b.input a.input b.out a.out ShelfFault d.does tt
+
+read_rose : (f : Form) (K : List Bound) (i i' : InputSide) (o o' : OutputSide) → Does f K i i' o o' ReadFault → Rose i.faults i'.faults
+read_rose (running keys name) K i i' o o' d = d.1.why.1
+read_rose (checking name) K i i' o o' d = absurd d.1
+read_rose (generating number name) K i i' o o' d = absurd d.1
+
+pub ran_read_rose : (f : Option Form) (b a : Moment) (status : Status) → Ran f b a status → status ≡ ReadFault → Rose b.input.faults a.input.faults
+ran_read_rose None b a status r is = absurd (cc (r.0, is))
+ran_read_rose (Some f) b a status r is = by_fault (subst (Ran (Some f) b a) is r)
+  where
+    by_fault : Ran (Some f) b a ReadFault → Rose b.input.faults a.input.faults
+    by_fault (inl idle) = absurd idle.why
+    by_fault (inr d) = read_rose f d.statements b.input a.input b.out a.out d.does
+
+write_rose : (f : Form) (K : List Bound) (i i' : InputSide) (o o' : OutputSide) → Does f K i i' o o' WriteFault → Rose o.faults o'.faults
+write_rose (running keys name) K i i' o o' d = d.1.why.1
+write_rose (checking name) K i i' o o' d = d.1.1
+write_rose (generating number name) K i i' o o' d = d.1.1
+
+pub ran_write_rose : (f : Option Form) (b a : Moment) (status : Status) → Ran f b a status → status ≡ WriteFault → Rose b.out.faults a.out.faults
+ran_write_rose None b a status r is = absurd (cc (r.0, is))
+ran_write_rose (Some f) b a status r is = by_fault (subst (Ran (Some f) b a) is r)
+  where
+    by_fault : Ran (Some f) b a WriteFault → Rose b.out.faults a.out.faults
+    by_fault (inl idle) = absurd idle.why
+    by_fault (inr d) = write_rose f d.statements b.input a.input b.out a.out d.does
+
+no_fault : (f : Form) (K : List Bound) (i i' : InputSide) (o o' : OutputSide) → Does f K i i' o o' Done → (i'.faults ≡ i.faults) × (o'.faults ≡ o.faults)
+no_fault (running keys name) K i i' o o' d = (d.1.why.3, d.1.why.4)
+no_fault (checking name) K i i' o o' d = (ap (λ (p : InputSide). p.faults) d.0, d.1.1)
+no_fault (generating number name) K i i' o o' d = (d.0.faults, d.1.1)
+
+pub ran_done : (f : Option Form) (b a : Moment) (status : Status) → Ran f b a status → status ≡ Done → (a.shelf.faults ≡ b.shelf.faults) × (a.input.faults ≡ b.input.faults) × (a.out.faults ≡ b.out.faults)
+ran_done None b a status r is = absurd (cc (r.0, is))
+ran_done (Some f) b a status r is = by_end (subst (Ran (Some f) b a) is r)
+  where
+    by_end : Ran (Some f) b a Done → (a.shelf.faults ≡ b.shelf.faults) × (a.input.faults ≡ b.input.faults) × (a.out.faults ≡ b.out.faults)
+    by_end (inl idle) = absurd idle.why
+    by_end (inr d) = let same = no_fault f d.statements b.input a.input b.out a.out d.does in (d.accepted.holds.no_fault, same.0, same.1)
+
+-- ---- the limit of an input
+
+abbrev pub TookMost : Moment → Moment → Type 0
+TookMost b a = (bytes : List ℕ) × Consumes b.input.left a.input.left bytes × (length bytes ≡ max_input)
+
+took_most : (f : Form) (K : List Bound) (b a : Moment) → Does f K b.input a.input b.out a.out InputLimit → (a.input.faults ≡ b.input.faults) × (a.out.faults ≡ b.out.faults) × TookMost b a
+took_most (running keys name) K b a d = (d.1.why.2, d.1.why.3, (d.1.bytes, d.1.consumed, d.1.why.1))
+took_most (checking name) K b a d = absurd d.1
+took_most (generating number name) K b a d = absurd d.1
+
+pub ran_input_limit : (f : Option Form) (b a : Moment) (status : Status) → Ran f b a status → status ≡ InputLimit → (a.input.faults ≡ b.input.faults) × (a.out.faults ≡ b.out.faults) × TookMost b a
+ran_input_limit None b a status r is = absurd (cc (r.0, is))
+ran_input_limit (Some f) b a status r is = by_limit (subst (Ran (Some f) b a) is r)
+  where
+    by_limit : Ran (Some f) b a InputLimit → (a.input.faults ≡ b.input.faults) × (a.out.faults ≡ b.out.faults) × TookMost b a
+    by_limit (inl idle) = absurd idle.why
+    by_limit (inr d) = took_most f d.statements b a d.does
+
+abbrev pub IsLimitOrMemory : Status → Type 0
+IsLimitOrMemory status = (status ≡ InputLimit) ⊎ (status ≡ Memory)
+
+-- where nothing is taken, the limit is not reached
+same_below : (i i' : InputSide) (all rest : List ℕ) → i'.left ≡ i.left → i.left ≡ Some all → i'.left ≡ Some rest → length all ≡ length rest + max_input → ⊥
+same_below i i' all rest same is is' len =
+    let these : all ≡ rest = cc (same, is, is') in
+    omega (arith, ap length these, len)
+
+-- as many were taken as the two sides tell
+taken : (a b : Option (List ℕ)) (all rest bytes : List ℕ) → a ≡ Some all → b ≡ Some rest → Consumes a b bytes → length all ≡ length bytes + length rest
+taken a b all rest bytes is is' c =
+    let t = told a b all bytes is c in
+    let same : t.0 ≡ rest = cc (t.1, is') in
+    ap length t.2 ∙ length-append bytes t.0 ∙ ap (λ (l : List ℕ). length bytes + length l) same
+
+limit_by_why : (K : Job) (i i' : InputSide) (o : OutputSide) (o' : PrintState) (status : Status) (all rest : List ℕ) → (s : Streamed K i i' o o' status) → i.left ≡ Some all → i'.left ≡ Some rest
+    → length all ≡ length rest + max_input → (Rose i.faults i'.faults → ⊥) → (Rose o.faults o'.out.faults → ⊥) → IsLimitOrMemory status
+limit_by_why K i i' o o' Done all rest s is is' len read write = absurd (omega (arith, s.why.2, taken i.left i'.left all rest s.bytes is is' s.consumed, len))
+limit_by_why K i i' o o' ReadFault all rest s is is' len read write = absurd (read s.why.1)
+limit_by_why K i i' o o' WriteFault all rest s is is' len read write = absurd (write s.why.1)
+limit_by_why K i i' o o' InputLimit all rest s is is' len read write = inl refl
+limit_by_why K i i' o o' Memory all rest s is is' len read write = inr refl
+limit_by_why K i i' o o' Usage all rest s is is' len read write = absurd s.why
+limit_by_why K i i' o o' ShelfFault all rest s is is' len read write = absurd s.why
+limit_by_why K i i' o o' FileTooLong all rest s is is' len read write = absurd s.why
+limit_by_why K i i' o o' (Refused k kind) all rest s is is' len read write = absurd s.why
+
+does_limit : (f : Form) (K : List Bound) (i i' : InputSide) (o o' : OutputSide) (status : Status) (all rest : List ℕ) → Does f K i i' o o' status → i.left ≡ Some all → i'.left ≡ Some rest
+    → length all ≡ length rest + max_input → (Rose i.faults i'.faults → ⊥) → (Rose o.faults o'.faults → ⊥) → IsLimitOrMemory status
+does_limit (running keys name) K i i' o o' status all rest d is is' len read write = limit_by_why (job keys K) i i' o (record { out = o'; page = d.0 }) status all rest d.1 is is' len read write
+does_limit (checking name) K i i' o o' status all rest d is is' len read write = absurd (same_below i i' all rest (ap (λ (p : InputSide). p.left) d.0) is is' len)
+does_limit (generating number name) K i i' o o' status all rest d is is' len read write = absurd (same_below i i' all rest d.0.left is is' len)
+
+ends_limit : (f : Option Form) (b a : Moment) (status : Status) (all rest : List ℕ) → Ran f b a status → b.input.left ≡ Some all → a.input.left ≡ Some rest
+    → length all ≡ length rest + max_input → (Rose b.input.faults a.input.faults → ⊥) → (Rose b.out.faults a.out.faults → ⊥) → IsLimitOrMemory status
+ends_limit None b a status all rest r is is' len read write = absurd (same_below b.input a.input all rest (ap (λ (m : Moment). m.input.left) r.1) is is' len)
+ends_limit (Some f) b a status all rest (inl idle) is is' len read write = absurd (same_below b.input a.input all rest (ap (λ (p : InputSide). p.left) idle.input) is is' len)
+ends_limit (Some f) b a status all rest (inr d) is is' len read write = does_limit f d.statements b.input a.input b.out a.out status all rest d.does is is' len read write
+
+-- where as many bytes were taken as an input may have, and no call failed, the run stops at the limit
+pub ran_finds_limit : (f : Option Form) (b a : Moment) (status : Status) → Ran f b a status → (Rose b.input.faults a.input.faults → ⊥) → (Rose b.out.faults a.out.faults → ⊥)
+    → IfSome b.input.left (λ all. IfSome a.input.left (λ rest. length all ≡ length rest + max_input → IsLimitOrMemory status))
+ran_finds_limit f b a status r read write =
+    by_some b.input.left _ (λ all is. by_some a.input.left _ (λ rest is' len. ends_limit f b a status all rest r is is' len read write))
