@@ -11,6 +11,8 @@ import sys
 from collections import defaultdict
 from pathlib import Path
 
+from checks.crates import listed
+
 TOP = Path(__file__).resolve().parent.parent
 LINE = re.compile(r"^\.\. ([\d:]+)  (\w+): (proof|tests|program|edit(?: \S+)?) in ([\d:]+), ([\d:]+) of processor time$", re.M)
 MOST_EDITS = 12  # that are listed
@@ -18,7 +20,7 @@ MOST_EDITS = 12  # that are listed
 
 def spoken(now, crate, part, wall, used):
     """The line that says of a check when it ended and how long it took."""
-    return f".. {now}  {crate}: {part} in {clock(wall)}, {clock(used)} of processor time\n"
+    return f".. {clock(now)}  {crate}: {part} in {clock(wall)}, {clock(used)} of processor time\n"
 
 
 def clock(seconds):
@@ -35,35 +37,30 @@ def seconds_of(clock):
 
 
 class Times:
-    """What the checks of a run took: by crate and part the wall time and the processor time, and the edits by name."""
+    """What the checks of a run took: wall and processor time by crate and part, the edits by name, and when the last check ended."""
 
     def __init__(self, log):
-        self.wall, self.used, self.edits, self.whole = defaultdict(int), defaultdict(int), [], 0
+        self.wall, self.used, self.edits, self.ended = defaultdict(int), defaultdict(int), [], 0
         for now, crate, part, wall, used in LINE.findall(log):
             kind, _, edit = part.partition(" ")
-            wall, used = seconds_of(wall), seconds_of(used)
-            self.whole = max(self.whole, seconds_of(now))
-            self.wall[crate, kind] += wall
-            self.used[crate, kind] += used
+            self.wall[crate, kind] += seconds_of(wall)
+            self.used[crate, kind] += seconds_of(used)
+            self.ended = max(self.ended, seconds_of(now))
             if edit:
-                self.edits.append((used, f"{crate}/{edit}"))
+                self.edits.append((seconds_of(used), f"{crate}/{edit}"))
 
-    def cells(self, crate):
-        """The row of a crate: wall and processor time of its proof and its tests, and processor time of its edits, which run side by side."""
-        both = [clock(times[crate, kind]) if (crate, kind) in times else "" for kind in ("proof", "tests") for times in (self.wall, self.used)]
-        return [*both, clock(self.used[crate, "edit"]) if (crate, "edit") in self.used else ""]
+    def row(self, crate):
+        """The row of a crate: the edits have no wall time, since they run side by side."""
+        columns = [(times, kind) for kind in ("proof", "tests") for times in (self.wall, self.used)] + [(self.used, "edit")]
+        return row(crate, [clock(times[crate, kind]) if (crate, kind) in times else "" for times, kind in columns])
 
     def sums(self):
-        return ["" if times is self.wall else clock(sum(it for (_, kind), it in times.items() if kind == part)) for part in ("proof", "tests") for times in (self.wall, self.used)] + [
-            clock(sum(it for (_, kind), it in self.used.items() if kind == "edit"))
-        ]
+        whole = {part: sum(used for (_, kind), used in self.used.items() if kind == part) for part in ("proof", "tests", "edit")}
+        return row("all", ["", clock(whole["proof"]), "", clock(whole["tests"]), clock(whole["edit"])])
 
 
-def below_of(top):
-    """What each crate of crates.txt stands on, of those that the file lists."""
-    lines = (line.partition("#")[0].partition(":") for line in (top / "crates.txt").read_text(encoding="utf-8").splitlines())
-    listed = {head.split()[0]: tail.split() for head, _, tail in lines if head.strip()}
-    return {crate: [it for it in below if it in listed] for crate, below in listed.items()}
+def row(name, cells):
+    return f"| {name} | {' | '.join(cells)} |"
 
 
 def longest_chain(below, wall):
@@ -80,17 +77,17 @@ def longest_chain(below, wall):
 
 
 def shown(times, below):
-    crates = [it for it in below if any((it, kind) in times.wall for kind in ("proof", "tests", "edit"))]
+    """The tables, where a check was made."""
+    crates = [crate for crate in below if any(made == crate for made, _ in times.wall)]
     if not crates:
-        return "No check was made: an earlier run had passed all.\n"
-    lines = ["| Crate | Proof | processors | Tests | processors | Edits, processors |", "|---|---|---|---|---|---|"]
-    lines += [f"| {' | '.join([crate, *times.cells(crate)])} |" for crate in crates]
-    lines += [f"| all | {' | '.join(times.sums())} |", ""]
+        return "No check was made, since earlier runs had passed all, or its times were not seen.\n"
+    lines = [row("Crate", ["Proof", "processors", "Tests", "processors", "Edits, processors"]), "|---|---|---|---|---|---|"]
+    lines += [*map(times.row, crates), times.sums(), ""]
     length, chain = longest_chain(below, times.wall)
     named = [f"{crate} {clock(times.wall[crate, 'proof'])}" for crate in chain if (crate, "proof") in times.wall]
-    lines += [f"The longest chain of proofs took {clock(length)}: {', '.join(named)}.", f"The last check ended {clock(times.whole)} after the first began.", ""]
-    lines += ["The edits that took most processor time:", ""]
-    lines += [f"- {clock(used)} {edit}" for used, edit in sorted(times.edits, reverse=True)[:MOST_EDITS]]
+    lines += [f"The longest chain of proofs took {clock(length)}: {', '.join(named)}."]
+    lines += [f"The last check ended {clock(times.ended)} after the run began. The edits that took most processor time:", ""]
+    lines += [f"- {edit} {clock(used)}" for used, edit in sorted(times.edits, reverse=True)[:MOST_EDITS]]
     return "\n".join(lines) + "\n"
 
 
@@ -99,7 +96,7 @@ def main():
         print("usage: python3 -B -m checks.times LOG", file=sys.stderr)
         return 2
     log = Path(sys.argv[1]).read_text(encoding="utf-8", errors="replace")
-    print(shown(Times(log), below_of(TOP)), end="")
+    print(shown(Times(log), listed(TOP)), end="")
     return 0
 
 

@@ -14,7 +14,7 @@ import time
 from dataclasses import dataclass
 from pathlib import Path
 
-from checks.times import clock, spoken
+from checks.times import spoken
 
 TOP = Path(__file__).resolve().parent.parent
 PROCESSES = Path("/proc")
@@ -38,7 +38,7 @@ class Watch:
     def __init__(self, log):
         self.log = log
         self.alone = threading.Lock()
-        self.began = time.monotonic()
+        self.began = since_boot()
         self.running = {}
 
     def say(self, line):
@@ -49,25 +49,38 @@ class Watch:
 
     def look(self, command):
         """Takes up the checks below the command that have begun, and tells those that have ended."""
-        now, seen = time.monotonic(), processes()
+        now, seen = since_boot(), processes()
         found = dict(checks_below(command, seen))
         for process in self.running.keys() - found.keys():
             check = self.running.pop(process)
-            self.say(spoken(clock(now - self.began), check.crate, check.part, now - check.began, check.used))
+            self.say(spoken(now - self.began, check.crate, check.part, now - check.began, check.used))
         for process, words in found.items():
             if process not in self.running:
                 crate = words[words.index("--crate-name") + 1]
-                self.running[process] = Check(crate, part_of(process, words, crate), now)
-            self.running[process].used = sum(seen[it][1] for it in below(process, seen)) / TICKS
+                self.running[process] = Check(crate, part_of(process, words, crate), seen[process].began)
+            self.running[process].used = sum(seen[it].used for it in below(process, seen))
+
+
+def since_boot():
+    return time.clock_gettime(time.CLOCK_BOOTTIME)
+
+
+@dataclass(frozen=True)
+class Process:
+    """A process of the system: its parent, the processor time that it and its children that have ended have used, and when it began."""
+
+    parent: int
+    used: float
+    began: float
 
 
 def processes():
-    """The processes of the system: the parent of each, and the ticks that it and its children that have ended have used."""
+    """The processes of the system by their numbers."""
     found = {}
     for folder in PROCESSES.glob("[0-9]*"):
         try:
             fields = (folder / "stat").read_text(errors="replace").rpartition(")")[2].split()
-            found[int(folder.name)] = int(fields[1]), sum(map(int, fields[11:15]))
+            found[int(folder.name)] = Process(int(fields[1]), sum(map(int, fields[11:15])) / TICKS, int(fields[19]) / TICKS)
         except (OSError, ValueError, IndexError):
             continue  # it has ended
     return found
@@ -76,13 +89,17 @@ def processes():
 def below(process, seen):
     """Yields the process and those that descend from it."""
     yield process
-    for child in [it for it, (parent, _) in seen.items() if parent == process]:
+    for child in children(process, seen):
         yield from below(child, seen)
+
+
+def children(process, seen):
+    return [it for it, found in seen.items() if found.parent == process]
 
 
 def checks_below(process, seen):
     """Yields each check that descends from the process, with its words."""
-    for child in [it for it, (parent, _) in seen.items() if parent == process]:
+    for child in children(process, seen):
         words = words_of(child)
         if "--crate-name" in words[:-1]:
             yield child, words
@@ -138,7 +155,8 @@ def is_made(edit, folder):
 def run(log, command):
     """Runs the command to its end, and returns its exit status."""
     watch = Watch(log)
-    with subprocess.Popen(command, stdin=subprocess.DEVNULL, stdout=subprocess.PIPE, stderr=subprocess.STDOUT, text=True, errors="replace") as started:
+    how = {"stdin": subprocess.DEVNULL, "stdout": subprocess.PIPE, "stderr": subprocess.STDOUT, "encoding": "utf-8", "errors": "replace"}
+    with subprocess.Popen(command, **how) as started:
         ended = threading.Event()
 
         def look_often():
@@ -160,6 +178,7 @@ def main():
     if len(sys.argv) < 3:
         print("usage: python3 -B -m checks.watch LOG COMMAND..", file=sys.stderr)
         return 2
+    sys.stdout.reconfigure(errors="replace")
     with open(sys.argv[1], "w", encoding="utf-8") as log:
         return run(log, sys.argv[2:])
 
