@@ -25,7 +25,7 @@ PROGRAM = "sqljson"
 ROOMS = TOP / "crates" / PROGRAM / "out" / "rooms"
 SOURCES = ["src", "specs", "proofs"]
 MADE = ["rlib", "incremental"]  # the library, and what a check of it can begin with
-EACH_TAKES = 4_000_000_000  # bytes of memory, at most, for a crate that is being proved
+EACH_TAKES = 3_000_000_000  # bytes of memory for a crate that is being proved: about 1.2 GB for each of two jobs, and some to spare
 PAUSE = 0.2  # seconds
 SHOWN = 20  # lines of a failed proof
 
@@ -174,7 +174,8 @@ def processors():
 
 
 def lanes():
-    """How many crates are proved at once: one for each processor, where memory lasts."""
+    """How many crates are proved at once: one for each processor, where memory lasts. `rt` itself reckons with far more memory for the upper crates than they
+    take, by the lines of all libraries below, and would prove them with one job."""
     free = re.search(r"^MemAvailable: +(\d+) kB", Path("/proc/meminfo").read_text(), re.M)
     return max(1, min(processors(), 1024 * int(free[1]) // EACH_TAKES))
 
@@ -188,7 +189,7 @@ def build_program():
     log = ROOMS / f"{PROGRAM}.log"
     with open(log, "wb") as said:
         how = {"cwd": TOP / "crates" / PROGRAM, "stdin": subprocess.DEVNULL, "stdout": said, "stderr": subprocess.STDOUT}
-        if subprocess.run(["rt", "run", "--", "run", os.devnull], **how).returncode:
+        if subprocess.run(["rt", "run", "--jobs", str(processors()), "--", "run", os.devnull], **how).returncode:
             raise Failed(log)
 
 
