@@ -14,7 +14,8 @@ from pathlib import Path
 from checks.crates import listed
 
 TOP = Path(__file__).resolve().parent.parent
-LINE = re.compile(r"^\.\. ([\d:]+)  (\w+): (proof|tests|program|edit(?: \S+)?) in ([\d:]+), ([\d:]+) of processor time$", re.M)
+BEFORE_EDITS = "proof for edits"  # which the checks of a crate's edits begin with
+LINE = re.compile(rf"^\.\. ([\d:]+)  (\w+): (proof|tests|program|{BEFORE_EDITS}|edit \S+) in ([\d:]+), ([\d:]+) of processor time$", re.M)
 MOST_EDITS = 12  # that are listed
 
 
@@ -42,7 +43,7 @@ class Times:
     def __init__(self, log):
         self.wall, self.used, self.edits, self.ended = defaultdict(int), defaultdict(int), [], 0
         for now, crate, part, wall, used in LINE.findall(log):
-            kind, _, edit = part.partition(" ")
+            kind, _, edit = part.replace(BEFORE_EDITS, "edit").partition(" ")
             self.wall[crate, kind] += seconds_of(wall)
             self.used[crate, kind] += seconds_of(used)
             self.ended = max(self.ended, seconds_of(now))

@@ -7,6 +7,7 @@ proof, its tests, one of the edits that must be refused, or the building of its 
 processes of the system, so their times are right to a second or two. A system that does not show its processes is told no times.
 """
 import os
+import shutil
 import subprocess
 import sys
 import threading
@@ -14,7 +15,7 @@ import time
 from dataclasses import dataclass
 from pathlib import Path
 
-from checks.times import spoken
+from checks.times import BEFORE_EDITS, spoken
 
 TOP = Path(__file__).resolve().parent.parent
 PROCESSES = Path("/proc")
@@ -128,14 +129,14 @@ def part_of(process, words, crate):
 
 
 def edit_in(folder, crate):
-    """Says which edit was made in this copy of the crate; none was made in the copy that the checks of edits begin with."""
+    """Says which edit was made in this copy of the crate. In the copy that the checks of edits begin with none was."""
     for edit in sorted((TOP / "crates" / crate / "must-fail").glob("*.edit")):
         try:
             if is_made(edit.read_text(encoding="utf-8"), folder):
                 return f"edit {edit.stem}"
         except (OSError, UnicodeDecodeError):
             continue
-    return "edit"
+    return BEFORE_EDITS
 
 
 def is_made(edit, folder):
@@ -178,6 +179,9 @@ def main():
     if len(sys.argv) < 3:
         print("usage: python3 -B -m checks.watch LOG COMMAND..", file=sys.stderr)
         return 2
+    if not shutil.which(sys.argv[2]):
+        print(f"the command {sys.argv[2]} is not on the path", file=sys.stderr)
+        return 127
     sys.stdout.reconfigure(errors="replace")
     with open(sys.argv[1], "w", encoding="utf-8") as log:
         return run(log, sys.argv[2:])
