@@ -3,6 +3,8 @@ import os
 import re
 from pathlib import Path
 
+from checks.crates import listed as listed_crates
+
 HANDLES = "Handles allowed: none.\n"
 # Folders of one machine, written apart so that this file doesn't name one.
 PLACE = re.compile(r"(?<![\w./-])/(?:" + "|".join(["home", "root", "tmp", "opt", "mnt", "srv", "work", "farm", "Users"]) + r")/\w")
@@ -20,7 +22,7 @@ def check_texts(tally, top):
     tally.check("places on one machine are named", listed(top, read, places))
     tally.check("links to what isn't there", listed(top, documents, lost_links))
     for name in TOLD_IN:
-        untold = [crate for crate in crates(top) if not re.search(rf"\b{crate}\b", documents.get(top / name, ""))]
+        untold = [crate for crate in listed_crates(top) if not re.search(rf"\b{crate}\b", documents.get(top / name, ""))]
         tally.check(name, untold and f"it says nothing of {', '.join(untold)}")
 
 
@@ -51,8 +53,3 @@ def text_of(path):
         return path.read_bytes().decode("utf-8")
     except (FileNotFoundError, UnicodeDecodeError):
         return None
-
-
-def crates(top):
-    lines = (top / "crates.txt").read_text(encoding="utf-8").split("\n")
-    return [line.partition("#")[0].partition(":")[0].split()[0] for line in lines if line.partition("#")[0].strip()]

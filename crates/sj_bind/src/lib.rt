@@ -22,8 +22,6 @@ mod row_parts;
 mod row_values;
 mod table;
 mod table_rules;
-#[cfg(test)]
-mod tests;
 mod values;
 mod variables;
 

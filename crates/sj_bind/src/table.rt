@@ -7,8 +7,6 @@ mod matching;
 mod names;
 mod paths;
 mod plan;
-#[cfg(test)]
-mod tests;
 mod whole;
 
 pub use count::has_too_many;

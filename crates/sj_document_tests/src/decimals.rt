@@ -161,13 +161,20 @@ fn long_texts(rt: HostRuntime) -> Result<(), Fail> {
     Ok(())
 }
 
+/// The text with this many decimals, of a number that has no more and that is within 38 digits with them.
 fn padded(number: Decimal, places: u32) -> Result<ArrayString<48>, Fail> {
-    if places > 38 {
-        return Err("too many places")?;
+    let (coefficient, scale) = number.parts();
+    if places > 38 || scale > places {
+        return Err("too few places")?;
     }
-    match number.round_to(38, places) {
-        Ok(rounded) => Ok(rounded.text_places(places)),
-        Err(_) => Err("too many digits")?,
+    let Some(power) = 10_u128.checked_pow(places - scale) else {
+        return Err("too many places")?;
+    };
+    match coefficient.unsigned_abs().checked_mul(power) {
+        Some(whole) if whole < 100_000_000_000_000_000_000_000_000_000_000_000_000 => {
+            Ok(number.text_places(places))
+        }
+        _ => Err("too many digits")?,
     }
 }
 

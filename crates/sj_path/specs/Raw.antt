@@ -2,9 +2,9 @@
 use Rattle.sj_grammar.specs.Tree as t
 use Rattle.sj_path.specs.declared.raw.Expr.{Expr, Root, Var, Context, Last, Lit, Access', Plus', Minus', Binary'}
 use Rattle.sj_path.specs.declared.raw.Step.{Step, Member, AllMembers, AllElements, Elements', Filter', Method, Double, Datetime, DatetimeBy}
-use Rattle.sj_path.specs.declared.raw.Sub.{Sub, One, Range}
+use Rattle.sj_path.specs.declared.raw.Sub.{Sub, One', Range'}
 use Rattle.sj_path.specs.declared.raw.Subs.{Subs, Only, More'}
-use Rattle.sj_path.specs.declared.raw.Pred.{Pred, Compare, And', Or', Not', IsUnknown', Exists, StartsWith, LikeRegex, LikeRegexBy}
+use Rattle.sj_path.specs.declared.raw.Pred.{Pred, Compare', And', Or', Not', IsUnknown', Exists', StartsWith', LikeRegex', LikeRegexBy'}
 use Rattle.sj_path.specs.declared.raw.Path.{Path}
 use Rattle.sj_path.specs.declared.raw.Thing.{Thing}
 use Rattle.sj_path.specs.declared.raw.Thing.TheVariants as thing
@@ -34,27 +34,27 @@ abbrev mutual
   step_of (DatetimeBy template) = t.DatetimeBy template
 
   pub sub_of : Sub → t.Sub
-  sub_of (One e) = t.One (expr_of e)
-  sub_of (Range from to) = t.Range (expr_of from) (expr_of to)
+  sub_of (One' p e) = t.One (expr_of e)
+  sub_of (Range' p from q to) = t.Range (expr_of from) (expr_of to)
 
   pub subs_of : Subs → t.Subs
   subs_of (Only s) = t.Only (sub_of s)
   subs_of (More' s p others) = t.More (sub_of s) (subs_of others)
 
   pub pred_of : Pred → t.Pred
-  pred_of (Compare op a b) = t.Compares op (expr_of a) (expr_of b)
+  pred_of (Compare' op p a q b) = t.Compares op (expr_of a) (expr_of b)
   pred_of (And' p x q y) = t.And (pred_of x) (pred_of y)
   pred_of (Or' p x q y) = t.Or (pred_of x) (pred_of y)
   pred_of (Not' p x) = t.Not (pred_of x)
   pred_of (IsUnknown' p x) = t.IsUnknown (pred_of x)
-  pred_of (Exists e) = t.Exists (expr_of e)
-  pred_of (StartsWith e initial) = t.StartsWith (expr_of e) initial
-  pred_of (LikeRegex e pattern) = t.LikeRegex (expr_of e) pattern
-  pred_of (LikeRegexBy e pattern flags) = t.LikeRegexBy (expr_of e) pattern flags
+  pred_of (Exists' p e) = t.Exists (expr_of e)
+  pred_of (StartsWith' p e initial) = t.StartsWith (expr_of e) initial
+  pred_of (LikeRegex' p e pattern) = t.LikeRegex (expr_of e) pattern
+  pred_of (LikeRegexBy' p e pattern flags) = t.LikeRegexBy (expr_of e) pattern flags
 
 abbrev pub path_of : Path → t.Path
-path_of p = record { mode = p.mode; expr = expr_of p.expr }
+path_of p = record { mode = p.mode; expr = expr_of p.expr.value }
 
 abbrev pub thing_of : Thing → r.Thing
-thing_of (thing.Value e) = r.Value (expr_of e)
-thing_of (thing.Test p) = r.Test (pred_of p)
+thing_of (thing.Value e) = r.Value (expr_of e.value)
+thing_of (thing.Test p) = r.Test (pred_of p.value)

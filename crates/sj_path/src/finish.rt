@@ -12,34 +12,27 @@ use sj_grammar::{Name, PathRefusal};
 use std::alloc::Global;
 
 #[cycle(finish)]
-fn expr(alloc: Global, e: Expr) -> Result<tree::Expr, PathRefusal>
-    ensures { Finishes tree.expr_of result (raw.expr_of e) (unsupported.unsupported_expr (raw.expr_of e)) }
+fn expr(alloc: Global, e: Box<Expr>) -> Result<Box<tree::Expr>, PathRefusal>
+    ensures { Finishes (λ x. tree.expr_of x.value) result (raw.expr_of e.value) (unsupported.unsupported_expr (raw.expr_of e.value)) }
 {
-    match e {
-        Expr::Root => Ok(tree::Expr::Root),
-        Expr::Var(name) => Ok(tree::Expr::Var(name)),
-        Expr::Context => Ok(tree::Expr::Context),
-        Expr::Last => Ok(tree::Expr::Last),
-        Expr::Lit(literal) => Ok(tree::Expr::Lit(literal)),
+    let finished = match Box::into_inner(e) {
+        Expr::Root => tree::Expr::Root,
+        Expr::Var(name) => tree::Expr::Var(name),
+        Expr::Context => tree::Expr::Context,
+        Expr::Last => tree::Expr::Last,
+        Expr::Lit(literal) => tree::Expr::Lit(literal),
         Expr::Access(e, s) => {
-            let e = expr(alloc, Box::into_inner(e))?;
-            let s = step(alloc, s)?;
-            Ok(tree::Expr::Access(Box::new(alloc, e)?, s))
+            let e = expr(alloc, e)?;
+            tree::Expr::Access(e, step(alloc, s)?)
         }
-        Expr::Plus(e) => {
-            let e = expr(alloc, Box::into_inner(e))?;
-            Ok(tree::Expr::Plus(Box::new(alloc, e)?))
-        }
-        Expr::Minus(e) => {
-            let e = expr(alloc, Box::into_inner(e))?;
-            Ok(tree::Expr::Minus(Box::new(alloc, e)?))
-        }
+        Expr::Plus(e) => tree::Expr::Plus(expr(alloc, e)?),
+        Expr::Minus(e) => tree::Expr::Minus(expr(alloc, e)?),
         Expr::Binary(op, a, b) => {
-            let a = expr(alloc, Box::into_inner(a))?;
-            let b = expr(alloc, Box::into_inner(b))?;
-            Ok(tree::Expr::Binary(op, Box::new(alloc, a)?, Box::new(alloc, b)?))
+            let a = expr(alloc, a)?;
+            tree::Expr::Binary(op, a, expr(alloc, b)?)
         }
-    }
+    };
+    Ok(Box::new(alloc, finished)?)
 }
 
 #[cycle(finish)]
@@ -50,14 +43,8 @@ fn step(alloc: Global, s: Step) -> Result<tree::Step, PathRefusal>
         Step::Member(key) => Ok(tree::Step::Member(key)),
         Step::AllMembers => Ok(tree::Step::AllMembers),
         Step::AllElements => Ok(tree::Step::AllElements),
-        Step::Elements(all) => {
-            let all = subs(alloc, Box::into_inner(all))?;
-            Ok(tree::Step::Elements(Box::new(alloc, all)?))
-        }
-        Step::Filter(p) => {
-            let p = pred(alloc, Box::into_inner(p))?;
-            Ok(tree::Step::Filter(Box::new(alloc, p)?))
-        }
+        Step::Elements(all) => Ok(tree::Step::Elements(subs(alloc, all)?)),
+        Step::Filter(p) => Ok(tree::Step::Filter(pred(alloc, p)?)),
         Step::Method(m) => Ok(tree::Step::Method(m)),
         Step::Double => Err(PathRefusal::Unsupported(Name::Double)),
         Step::Datetime => Err(PathRefusal::Unsupported(Name::Datetime)),
@@ -66,72 +53,74 @@ fn step(alloc: Global, s: Step) -> Result<tree::Step, PathRefusal>
 }
 
 #[cycle(finish)]
-fn sub(alloc: Global, s: Sub) -> Result<tree::Sub, PathRefusal>
-    ensures { Finishes tree.sub_of result (raw.sub_of s) (unsupported.unsupported_sub (raw.sub_of s)) }
+fn sub(alloc: Global, s: Sub) -> Result<Box<tree::Sub>, PathRefusal>
+    ensures { Finishes (λ x. tree.sub_of x.value) result (raw.sub_of s) (unsupported.unsupported_sub (raw.sub_of s)) }
 {
     match s {
-        Sub::One(e) => Ok(tree::Sub::One(expr(alloc, e)?)),
+        Sub::One(e) => {
+            let e = expr(alloc, e)?;
+            Ok(Box::new(alloc, tree::Sub::One(Box::into_inner(e)))?)
+        }
         Sub::Range(from, to) => {
             let from = expr(alloc, from)?;
             let to = expr(alloc, to)?;
-            Ok(tree::Sub::Range(from, to))
+            let range = tree::Sub::Range(Box::into_inner(from), Box::into_inner(to));
+            Ok(Box::new(alloc, range)?)
         }
     }
 }
 
 #[cycle(finish)]
-fn subs(alloc: Global, all: Subs) -> Result<tree::Subs, PathRefusal>
-    ensures { Finishes tree.subs_of result (raw.subs_of all) (unsupported.unsupported_subs (raw.subs_of all)) }
+fn subs(alloc: Global, all: Box<Subs>) -> Result<Box<tree::Subs>, PathRefusal>
+    ensures { Finishes (λ x. tree.subs_of x.value) result (raw.subs_of all.value) (unsupported.unsupported_subs (raw.subs_of all.value)) }
 {
-    match all {
-        Subs::Only(s) => Ok(tree::Subs::Only(sub(alloc, s)?)),
+    match Box::into_inner(all) {
+        Subs::Only(s) => {
+            let s = sub(alloc, s)?;
+            Ok(Box::new(alloc, tree::Subs::Only(Box::into_inner(s)))?)
+        }
         Subs::More(s, others) => {
             let s = sub(alloc, s)?;
-            let others = subs(alloc, Box::into_inner(others))?;
-            Ok(tree::Subs::More(s, Box::new(alloc, others)?))
+            let others = subs(alloc, others)?;
+            Ok(Box::new(alloc, tree::Subs::More(Box::into_inner(s), others))?)
         }
     }
 }
 
 #[cycle(finish)]
-fn pred(alloc: Global, p: Pred) -> Result<tree::Pred, PathRefusal>
-    ensures { Finishes tree.pred_of result (raw.pred_of p) (unsupported.unsupported_pred (raw.pred_of p)) }
+fn pred(alloc: Global, p: Box<Pred>) -> Result<Box<tree::Pred>, PathRefusal>
+    ensures { Finishes (λ x. tree.pred_of x.value) result (raw.pred_of p.value) (unsupported.unsupported_pred (raw.pred_of p.value)) }
 {
-    match p {
+    let finished = match Box::into_inner(p) {
         Pred::Compare(op, a, b) => {
             let a = expr(alloc, a)?;
             let b = expr(alloc, b)?;
-            Ok(tree::Pred::Compare(op, a, b))
+            tree::Pred::Compare(op, Box::into_inner(a), Box::into_inner(b))
         }
         Pred::And(p, q) => {
-            let p = pred(alloc, Box::into_inner(p))?;
-            let q = pred(alloc, Box::into_inner(q))?;
-            Ok(tree::Pred::And(Box::new(alloc, p)?, Box::new(alloc, q)?))
+            let p = pred(alloc, p)?;
+            tree::Pred::And(p, pred(alloc, q)?)
         }
         Pred::Or(p, q) => {
-            let p = pred(alloc, Box::into_inner(p))?;
-            let q = pred(alloc, Box::into_inner(q))?;
-            Ok(tree::Pred::Or(Box::new(alloc, p)?, Box::new(alloc, q)?))
+            let p = pred(alloc, p)?;
+            tree::Pred::Or(p, pred(alloc, q)?)
         }
-        Pred::Not(p) => {
-            let p = pred(alloc, Box::into_inner(p))?;
-            Ok(tree::Pred::Not(Box::new(alloc, p)?))
+        Pred::Not(p) => tree::Pred::Not(pred(alloc, p)?),
+        Pred::IsUnknown(p) => tree::Pred::IsUnknown(pred(alloc, p)?),
+        Pred::Exists(e) => tree::Pred::Exists(Box::into_inner(expr(alloc, e)?)),
+        Pred::StartsWith(e, initial) => {
+            tree::Pred::StartsWith(Box::into_inner(expr(alloc, e)?), initial)
         }
-        Pred::IsUnknown(p) => {
-            let p = pred(alloc, Box::into_inner(p))?;
-            Ok(tree::Pred::IsUnknown(Box::new(alloc, p)?))
-        }
-        Pred::Exists(e) => Ok(tree::Pred::Exists(expr(alloc, e)?)),
-        Pred::StartsWith(e, initial) => Ok(tree::Pred::StartsWith(expr(alloc, e)?, initial)),
         Pred::LikeRegex(e, _pattern) => {
             let _e = expr(alloc, e)?;
-            Err(PathRefusal::Unsupported(Name::LikeRegex))
+            return Err(PathRefusal::Unsupported(Name::LikeRegex));
         }
         Pred::LikeRegexBy(e, _pattern, _flags) => {
             let _e = expr(alloc, e)?;
-            Err(PathRefusal::Unsupported(Name::LikeRegex))
+            return Err(PathRefusal::Unsupported(Name::LikeRegex));
         }
-    }
+    };
+    Ok(Box::new(alloc, finished)?)
 }
 
 /// The parsed path, or the first part in the text that it lacks.
@@ -139,5 +128,8 @@ pub fn finished(alloc: Global, p: Path) -> Result<tree::Path, PathRefusal>
     ensures { Finishes tree.path_of result (raw.path_of p) (unsupported.unsupported (raw.path_of p)) }
 {
     let expr = expr(alloc, p.expr)?;
-    Ok(tree::Path { mode: p.mode, expr })
+    Ok(tree::Path {
+        mode: p.mode,
+        expr: Box::into_inner(expr),
+    })
 }

@@ -29,9 +29,12 @@ impl<F: Fn(Global, usize, &[Token]) -> Result<(Thing, &[Token]), PathRefusal>> L
     }
 
     #[tactic(auto, unfolding(sj_grammar::specs::Reading::inner_expr))]
-    pub fn inner_expr<'a>(&self, tokens: &'a [Token]) -> Result<(Expr, &'a [Token]), PathRefusal>
+    pub fn inner_expr<'a>(
+        &self,
+        tokens: &'a [Token],
+    ) -> Result<(Box<Expr>, &'a [Token]), PathRefusal>
         requires { Nests self.now.depth (F.pre self.now.thing) (F.post self.now.thing) }
-        ensures { Gives (λ x. (expr_of x.0, x.1.now)) result (reading.inner_expr (reading.thing_at self.now.depth) tokens.now) }
+        ensures { Gives (λ x. (expr_of x.0.value, x.1.now)) result (reading.inner_expr (reading.thing_at self.now.depth) tokens.now) }
     {
         let (thing, rest) = self.thing(tokens)?;
         match thing {
@@ -54,9 +57,9 @@ impl<F: Fn(Global, usize, &[Token]) -> Result<(Thing, &[Token]), PathRefusal>> L
     }
 
     #[tactic(auto, unfolding(sj_grammar::specs::Reading::primary_at))]
-    fn primary<'a>(&self, tokens: &'a [Token]) -> Result<(Expr, &'a [Token]), PathRefusal>
+    fn primary<'a>(&self, tokens: &'a [Token]) -> Result<(Box<Expr>, &'a [Token]), PathRefusal>
         requires { Nests self.now.depth (F.pre self.now.thing) (F.post self.now.thing) }
-        ensures { Gives (λ x. (expr_of x.0, x.1.now)) result (reading.primary_at (reading.thing_at self.now.depth) tokens.now) }
+        ensures { Gives (λ x. (expr_of x.0.value, x.1.now)) result (reading.primary_at (reading.thing_at self.now.depth) tokens.now) }
     {
         match tokens {
             [] => Err(PathRefusal::Syntax),
@@ -65,14 +68,17 @@ impl<F: Fn(Global, usize, &[Token]) -> Result<(Thing, &[Token]), PathRefusal>> L
                 let rest = single::close(rest).ok_or(PathRefusal::Syntax)?;
                 Ok((e, rest))
             }
-            [token, rest @ ..] => Ok((single::expr(self.alloc, token)?, rest)),
+            [token, rest @ ..] => {
+                let e = single::expr(self.alloc, token)?;
+                Ok((Box::new(self.alloc, e)?, rest))
+            }
         }
     }
 
     #[tactic(auto, unfolding(sj_grammar::specs::Reading::inner_pred))]
-    fn inner_pred<'a>(&self, tokens: &'a [Token]) -> Result<(Pred, &'a [Token]), PathRefusal>
+    fn inner_pred<'a>(&self, tokens: &'a [Token]) -> Result<(Box<Pred>, &'a [Token]), PathRefusal>
         requires { Nests self.now.depth (F.pre self.now.thing) (F.post self.now.thing) }
-        ensures { Gives (λ x. (pred_of x.0, x.1.now)) result (reading.inner_pred (reading.thing_at self.now.depth) tokens.now) }
+        ensures { Gives (λ x. (pred_of x.0.value, x.1.now)) result (reading.inner_pred (reading.thing_at self.now.depth) tokens.now) }
     {
         let (thing, rest) = self.thing(tokens)?;
         match thing {
@@ -86,19 +92,19 @@ impl<F: Fn(Global, usize, &[Token]) -> Result<(Thing, &[Token]), PathRefusal>> L
         &self,
         turns: usize,
         tokens: &'a [Token],
-    ) -> Result<(Subs, &'a [Token]), PathRefusal>
+    ) -> Result<(Box<Subs>, &'a [Token]), PathRefusal>
         requires { Nests self.now.depth (F.pre self.now.thing) (F.post self.now.thing) }
-        ensures { Gives (λ x. (subs_of x.0, x.1.now)) result (reading.subs_at (reading.thing_at self.now.depth) turns tokens.now) }
+        ensures { Gives (λ x. (subs_of x.0.value, x.1.now)) result (reading.subs_at (reading.thing_at self.now.depth) turns tokens.now) }
     {
         if turns == 0 {
             return Err(PathRefusal::Syntax);
         }
         let (sub, rest) = self.sub(tokens)?;
         let Some(rest) = single::comma(rest) else {
-            return Ok((Subs::Only(sub), rest));
+            return Ok((Box::new(self.alloc, Subs::Only(sub))?, rest));
         };
         let (others, rest) = self.subs(turns - 1, rest)?;
-        Ok((Subs::More(sub, Box::new(self.alloc, others)?), rest))
+        Ok((Box::new(self.alloc, Subs::More(sub, others))?, rest))
     }
 
     #[tactic(auto, unfolding(sj_grammar::specs::Reading::after_bracket))]
@@ -112,7 +118,7 @@ impl<F: Fn(Global, usize, &[Token]) -> Result<(Thing, &[Token]), PathRefusal>> L
         }
         let (subs, rest) = self.subs(tokens.len(), tokens)?;
         let rest = single::bracket(rest).ok_or(PathRefusal::Syntax)?;
-        Ok((Step::Elements(Box::new(self.alloc, subs)?), rest))
+        Ok((Step::Elements(subs), rest))
     }
 
     #[tactic(auto, unfolding(sj_grammar::specs::Reading::after_question))]
@@ -123,7 +129,7 @@ impl<F: Fn(Global, usize, &[Token]) -> Result<(Thing, &[Token]), PathRefusal>> L
         let rest = single::open(tokens).ok_or(PathRefusal::Syntax)?;
         let (p, rest) = self.inner_pred(rest)?;
         let rest = single::close(rest).ok_or(PathRefusal::Syntax)?;
-        Ok((Step::Filter(Box::new(self.alloc, p)?), rest))
+        Ok((Step::Filter(p), rest))
     }
 
     #[tactic(auto, unfolding(sj_grammar::specs::Reading::step_at))]
@@ -142,11 +148,11 @@ impl<F: Fn(Global, usize, &[Token]) -> Result<(Thing, &[Token]), PathRefusal>> L
     #[tactic(auto, unfolding(sj_grammar::specs::Reading::access_from))]
     fn access_from<'a>(
         &self,
-        x: Expr,
+        x: Box<Expr>,
         tokens: &'a [Token],
-    ) -> Result<(Expr, &'a [Token]), PathRefusal>
+    ) -> Result<(Box<Expr>, &'a [Token]), PathRefusal>
         requires { Nests self.now.depth (F.pre self.now.thing) (F.post self.now.thing) }
-        ensures { Gives (λ x. (expr_of x.0, x.1.now)) result (reading.access_from (reading.thing_at self.now.depth) (length tokens.now) (expr_of x) tokens.now) }
+        ensures { Gives (λ x. (expr_of x.0.value, x.1.now)) result (reading.access_from (reading.thing_at self.now.depth) (length tokens.now) (expr_of x.value) tokens.now) }
     {
         let mut e = x;
         let mut rest = tokens;
@@ -162,28 +168,28 @@ impl<F: Fn(Global, usize, &[Token]) -> Result<(Thing, &[Token]), PathRefusal>> L
     }
 
     #[tactic(auto, unfolding(sj_grammar::specs::Reading::access_at))]
-    fn access<'a>(&self, tokens: &'a [Token]) -> Result<(Expr, &'a [Token]), PathRefusal>
+    fn access<'a>(&self, tokens: &'a [Token]) -> Result<(Box<Expr>, &'a [Token]), PathRefusal>
         requires { Nests self.now.depth (F.pre self.now.thing) (F.post self.now.thing) }
-        ensures { Gives (λ x. (expr_of x.0, x.1.now)) result (reading.access_at (reading.thing_at self.now.depth) tokens.now) }
+        ensures { Gives (λ x. (expr_of x.0.value, x.1.now)) result (reading.access_at (reading.thing_at self.now.depth) tokens.now) }
     {
         let (x, rest) = self.primary(tokens)?;
         self.access_from(x, rest)
     }
 
     #[tactic(auto, unfolding(sj_grammar::specs::Reading::unary_at))]
-    fn unary<'a>(&self, tokens: &'a [Token]) -> Result<(Expr, &'a [Token]), PathRefusal>
+    fn unary<'a>(&self, tokens: &'a [Token]) -> Result<(Box<Expr>, &'a [Token]), PathRefusal>
         requires { Nests self.now.depth (F.pre self.now.thing) (F.post self.now.thing) }
-        ensures { Gives (λ x. (expr_of x.0, x.1.now)) result (reading.unary_at (reading.thing_at self.now.depth) tokens.now) }
+        ensures { Gives (λ x. (expr_of x.0.value, x.1.now)) result (reading.unary_at (reading.thing_at self.now.depth) tokens.now) }
     {
         match tokens {
             [] => Err(PathRefusal::Syntax),
             [Token::Plus, rest @ ..] => {
                 let (e, rest) = self.unary(rest)?;
-                Ok((Expr::Plus(Box::new(self.alloc, e)?), rest))
+                Ok((Box::new(self.alloc, Expr::Plus(e))?, rest))
             }
             [Token::Minus, rest @ ..] => {
                 let (e, rest) = self.unary(rest)?;
-                Ok((Expr::Minus(Box::new(self.alloc, e)?), rest))
+                Ok((Box::new(self.alloc, Expr::Minus(e))?, rest))
             }
             _ => self.access(tokens),
         }
@@ -192,11 +198,11 @@ impl<F: Fn(Global, usize, &[Token]) -> Result<(Thing, &[Token]), PathRefusal>> L
     #[tactic(auto, unfolding(sj_grammar::specs::Reading::product_from))]
     fn product_from<'a>(
         &self,
-        x: Expr,
+        x: Box<Expr>,
         tokens: &'a [Token],
-    ) -> Result<(Expr, &'a [Token]), PathRefusal>
+    ) -> Result<(Box<Expr>, &'a [Token]), PathRefusal>
         requires { Nests self.now.depth (F.pre self.now.thing) (F.post self.now.thing) }
-        ensures { Gives (λ x. (expr_of x.0, x.1.now)) result (reading.product_from (reading.thing_at self.now.depth) (length tokens.now) (expr_of x) tokens.now) }
+        ensures { Gives (λ x. (expr_of x.0.value, x.1.now)) result (reading.product_from (reading.thing_at self.now.depth) (length tokens.now) (expr_of x.value) tokens.now) }
     {
         let mut e = x;
         let mut rest = tokens;
@@ -212,18 +218,22 @@ impl<F: Fn(Global, usize, &[Token]) -> Result<(Thing, &[Token]), PathRefusal>> L
     }
 
     #[tactic(auto, unfolding(sj_grammar::specs::Reading::term_at))]
-    fn term<'a>(&self, tokens: &'a [Token]) -> Result<(Expr, &'a [Token]), PathRefusal>
+    fn term<'a>(&self, tokens: &'a [Token]) -> Result<(Box<Expr>, &'a [Token]), PathRefusal>
         requires { Nests self.now.depth (F.pre self.now.thing) (F.post self.now.thing) }
-        ensures { Gives (λ x. (expr_of x.0, x.1.now)) result (reading.term_at (reading.thing_at self.now.depth) tokens.now) }
+        ensures { Gives (λ x. (expr_of x.0.value, x.1.now)) result (reading.term_at (reading.thing_at self.now.depth) tokens.now) }
     {
         let (x, rest) = self.unary(tokens)?;
         self.product_from(x, rest)
     }
 
     #[tactic(auto, unfolding(sj_grammar::specs::Reading::sum_from))]
-    fn sum_from<'a>(&self, x: Expr, tokens: &'a [Token]) -> Result<(Expr, &'a [Token]), PathRefusal>
+    fn sum_from<'a>(
+        &self,
+        x: Box<Expr>,
+        tokens: &'a [Token],
+    ) -> Result<(Box<Expr>, &'a [Token]), PathRefusal>
         requires { Nests self.now.depth (F.pre self.now.thing) (F.post self.now.thing) }
-        ensures { Gives (λ x. (expr_of x.0, x.1.now)) result (reading.sum_from (reading.thing_at self.now.depth) (length tokens.now) (expr_of x) tokens.now) }
+        ensures { Gives (λ x. (expr_of x.0.value, x.1.now)) result (reading.sum_from (reading.thing_at self.now.depth) (length tokens.now) (expr_of x.value) tokens.now) }
     {
         let mut e = x;
         let mut rest = tokens;
@@ -239,9 +249,9 @@ impl<F: Fn(Global, usize, &[Token]) -> Result<(Thing, &[Token]), PathRefusal>> L
     }
 
     #[tactic(auto, unfolding(sj_grammar::specs::Reading::expr_at))]
-    fn expr<'a>(&self, tokens: &'a [Token]) -> Result<(Expr, &'a [Token]), PathRefusal>
+    fn expr<'a>(&self, tokens: &'a [Token]) -> Result<(Box<Expr>, &'a [Token]), PathRefusal>
         requires { Nests self.now.depth (F.pre self.now.thing) (F.post self.now.thing) }
-        ensures { Gives (λ x. (expr_of x.0, x.1.now)) result (reading.expr_at (reading.thing_at self.now.depth) tokens.now) }
+        ensures { Gives (λ x. (expr_of x.0.value, x.1.now)) result (reading.expr_at (reading.thing_at self.now.depth) tokens.now) }
     {
         let (x, rest) = self.term(tokens)?;
         self.sum_from(x, rest)
@@ -251,11 +261,11 @@ impl<F: Fn(Global, usize, &[Token]) -> Result<(Thing, &[Token]), PathRefusal>> L
     #[tactic(auto, unfolding(sj_grammar::specs::Reading::expr_from))]
     fn expr_from<'a>(
         &self,
-        x: Expr,
+        x: Box<Expr>,
         tokens: &'a [Token],
-    ) -> Result<(Expr, &'a [Token]), PathRefusal>
+    ) -> Result<(Box<Expr>, &'a [Token]), PathRefusal>
         requires { Nests self.now.depth (F.pre self.now.thing) (F.post self.now.thing) }
-        ensures { Gives (λ x. (expr_of x.0, x.1.now)) result (reading.expr_from (reading.thing_at self.now.depth) (expr_of x) tokens.now) }
+        ensures { Gives (λ x. (expr_of x.0.value, x.1.now)) result (reading.expr_from (reading.thing_at self.now.depth) (expr_of x.value) tokens.now) }
     {
         let (a, rest) = self.access_from(x, tokens)?;
         let (b, rest) = self.product_from(a, rest)?;
@@ -266,16 +276,17 @@ impl<F: Fn(Global, usize, &[Token]) -> Result<(Thing, &[Token]), PathRefusal>> L
     #[tactic(auto, unfolding(sj_grammar::specs::Reading::test_from))]
     fn test_from<'a>(
         &self,
-        e: Expr,
+        e: Box<Expr>,
         tokens: &'a [Token],
     ) -> Result<(Thing, &'a [Token]), PathRefusal>
         requires { Nests self.now.depth (F.pre self.now.thing) (F.post self.now.thing) }
-        ensures { Gives (λ x. (thing_of x.0, x.1.now)) result (reading.test_from (reading.thing_at self.now.depth) (expr_of e) tokens.now) }
+        ensures { Gives (λ x. (thing_of x.0, x.1.now)) result (reading.test_from (reading.thing_at self.now.depth) (expr_of e.value) tokens.now) }
     {
         match tokens {
             [Token::Compare(op), rest @ ..] => {
                 let (b, rest) = self.expr(rest)?;
-                Ok((Thing::Test(Pred::Compare(*op, e, b)), rest))
+                let p = Box::new(self.alloc, Pred::Compare(*op, e, b))?;
+                Ok((Thing::Test(p), rest))
             }
             [Token::Word(Keyword::Starts, _), rest @ ..] => {
                 let rest = single::with(rest).ok_or(PathRefusal::Syntax)?;
@@ -318,20 +329,20 @@ impl<F: Fn(Global, usize, &[Token]) -> Result<(Thing, &[Token]), PathRefusal>> L
     }
 
     #[tactic(auto, unfolding(sj_grammar::specs::Reading::exists_at))]
-    fn exists<'a>(&self, tokens: &'a [Token]) -> Result<(Pred, &'a [Token]), PathRefusal>
+    fn exists<'a>(&self, tokens: &'a [Token]) -> Result<(Box<Pred>, &'a [Token]), PathRefusal>
         requires { Nests self.now.depth (F.pre self.now.thing) (F.post self.now.thing) }
-        ensures { Gives (λ x. (pred_of x.0, x.1.now)) result (reading.exists_at (reading.thing_at self.now.depth) tokens.now) }
+        ensures { Gives (λ x. (pred_of x.0.value, x.1.now)) result (reading.exists_at (reading.thing_at self.now.depth) tokens.now) }
     {
         let rest = single::open(tokens).ok_or(PathRefusal::Syntax)?;
         let (e, rest) = self.inner_expr(rest)?;
         let rest = single::close(rest).ok_or(PathRefusal::Syntax)?;
-        Ok((Pred::Exists(e), rest))
+        Ok((Box::new(self.alloc, Pred::Exists(e))?, rest))
     }
 
     #[tactic(auto, unfolding(sj_grammar::specs::Reading::group_at))]
-    fn group<'a>(&self, tokens: &'a [Token]) -> Result<(Pred, &'a [Token]), PathRefusal>
+    fn group<'a>(&self, tokens: &'a [Token]) -> Result<(Box<Pred>, &'a [Token]), PathRefusal>
         requires { Nests self.now.depth (F.pre self.now.thing) (F.post self.now.thing) }
-        ensures { Gives (λ x. (pred_of x.0, x.1.now)) result (reading.group_at (reading.thing_at self.now.depth) tokens.now) }
+        ensures { Gives (λ x. (pred_of x.0.value, x.1.now)) result (reading.group_at (reading.thing_at self.now.depth) tokens.now) }
     {
         let (p, rest) = self.inner_pred(tokens)?;
         let rest = single::close(rest).ok_or(PathRefusal::Syntax)?;
@@ -339,9 +350,9 @@ impl<F: Fn(Global, usize, &[Token]) -> Result<(Thing, &[Token]), PathRefusal>> L
     }
 
     #[tactic(auto, unfolding(sj_grammar::specs::Reading::delim_at))]
-    fn delim<'a>(&self, tokens: &'a [Token]) -> Result<(Pred, &'a [Token]), PathRefusal>
+    fn delim<'a>(&self, tokens: &'a [Token]) -> Result<(Box<Pred>, &'a [Token]), PathRefusal>
         requires { Nests self.now.depth (F.pre self.now.thing) (F.post self.now.thing) }
-        ensures { Gives (λ x. (pred_of x.0, x.1.now)) result (reading.delim_at (reading.thing_at self.now.depth) tokens.now) }
+        ensures { Gives (λ x. (pred_of x.0.value, x.1.now)) result (reading.delim_at (reading.thing_at self.now.depth) tokens.now) }
     {
         match tokens {
             [Token::Open, rest @ ..] => self.group(rest),
@@ -360,7 +371,8 @@ impl<F: Fn(Global, usize, &[Token]) -> Result<(Thing, &[Token]), PathRefusal>> L
             [] => Err(PathRefusal::Syntax),
             [Token::Not, rest @ ..] => {
                 let (p, rest) = self.delim(rest)?;
-                Ok((Thing::Test(Pred::Not(Box::new(self.alloc, p)?)), rest))
+                let p = Box::new(self.alloc, Pred::Not(p))?;
+                Ok((Thing::Test(p), rest))
             }
             [Token::Open, rest @ ..] => {
                 let (x, rest) = self.thing(rest)?;
@@ -376,9 +388,9 @@ impl<F: Fn(Global, usize, &[Token]) -> Result<(Thing, &[Token]), PathRefusal>> L
     }
 
     #[tactic(auto, unfolding(sj_grammar::specs::Reading::test_at))]
-    fn test<'a>(&self, tokens: &'a [Token]) -> Result<(Pred, &'a [Token]), PathRefusal>
+    fn test<'a>(&self, tokens: &'a [Token]) -> Result<(Box<Pred>, &'a [Token]), PathRefusal>
         requires { Nests self.now.depth (F.pre self.now.thing) (F.post self.now.thing) }
-        ensures { Gives (λ x. (pred_of x.0, x.1.now)) result (reading.test_at (reading.thing_at self.now.depth) tokens.now) }
+        ensures { Gives (λ x. (pred_of x.0.value, x.1.now)) result (reading.test_at (reading.thing_at self.now.depth) tokens.now) }
     {
         let (thing, rest) = self.neg(tokens)?;
         match thing {
@@ -388,9 +400,13 @@ impl<F: Fn(Global, usize, &[Token]) -> Result<(Thing, &[Token]), PathRefusal>> L
     }
 
     #[tactic(auto, unfolding(sj_grammar::specs::Reading::and_from))]
-    fn and_from<'a>(&self, p: Pred, tokens: &'a [Token]) -> Result<(Pred, &'a [Token]), PathRefusal>
+    fn and_from<'a>(
+        &self,
+        p: Box<Pred>,
+        tokens: &'a [Token],
+    ) -> Result<(Box<Pred>, &'a [Token]), PathRefusal>
         requires { Nests self.now.depth (F.pre self.now.thing) (F.post self.now.thing) }
-        ensures { Gives (λ x. (pred_of x.0, x.1.now)) result (reading.and_from (reading.thing_at self.now.depth) (length tokens.now) (pred_of p) tokens.now) }
+        ensures { Gives (λ x. (pred_of x.0.value, x.1.now)) result (reading.and_from (reading.thing_at self.now.depth) (length tokens.now) (pred_of p.value) tokens.now) }
     {
         let mut q = p;
         let mut rest = tokens;
@@ -406,18 +422,22 @@ impl<F: Fn(Global, usize, &[Token]) -> Result<(Thing, &[Token]), PathRefusal>> L
     }
 
     #[tactic(auto, unfolding(sj_grammar::specs::Reading::conj_at))]
-    fn conj<'a>(&self, tokens: &'a [Token]) -> Result<(Pred, &'a [Token]), PathRefusal>
+    fn conj<'a>(&self, tokens: &'a [Token]) -> Result<(Box<Pred>, &'a [Token]), PathRefusal>
         requires { Nests self.now.depth (F.pre self.now.thing) (F.post self.now.thing) }
-        ensures { Gives (λ x. (pred_of x.0, x.1.now)) result (reading.conj_at (reading.thing_at self.now.depth) tokens.now) }
+        ensures { Gives (λ x. (pred_of x.0.value, x.1.now)) result (reading.conj_at (reading.thing_at self.now.depth) tokens.now) }
     {
         let (p, rest) = self.test(tokens)?;
         self.and_from(p, rest)
     }
 
     #[tactic(auto, unfolding(sj_grammar::specs::Reading::or_from))]
-    fn or_from<'a>(&self, p: Pred, tokens: &'a [Token]) -> Result<(Pred, &'a [Token]), PathRefusal>
+    fn or_from<'a>(
+        &self,
+        p: Box<Pred>,
+        tokens: &'a [Token],
+    ) -> Result<(Box<Pred>, &'a [Token]), PathRefusal>
         requires { Nests self.now.depth (F.pre self.now.thing) (F.post self.now.thing) }
-        ensures { Gives (λ x. (pred_of x.0, x.1.now)) result (reading.or_from (reading.thing_at self.now.depth) (length tokens.now) (pred_of p) tokens.now) }
+        ensures { Gives (λ x. (pred_of x.0.value, x.1.now)) result (reading.or_from (reading.thing_at self.now.depth) (length tokens.now) (pred_of p.value) tokens.now) }
     {
         let mut q = p;
         let mut rest = tokens;

@@ -8,26 +8,26 @@ use crate::raw::{Expr, Pred, Step};
 use sj_grammar::Arith;
 use std::alloc::{AllocError, Global};
 
-pub fn binary(alloc: Global, op: Arith, a: Expr, b: Expr) -> Result<Expr, AllocError>
-    ensures { IfOk result (λ e. expr_of e ≡ tree.Binary op (expr_of a) (expr_of b)) }
+pub fn binary(alloc: Global, op: Arith, a: Box<Expr>, b: Box<Expr>) -> Result<Box<Expr>, AllocError>
+    ensures { IfOk result (λ e. expr_of e.value ≡ tree.Binary op (expr_of a.value) (expr_of b.value)) }
 {
-    Ok(Expr::Binary(op, Box::new(alloc, a)?, Box::new(alloc, b)?))
+    Ok(Box::new(alloc, Expr::Binary(op, a, b))?)
 }
 
-pub fn access(alloc: Global, a: Expr, step: Step) -> Result<Expr, AllocError>
-    ensures { IfOk result (λ e. expr_of e ≡ tree.Access (expr_of a) (step_of step)) }
+pub fn access(alloc: Global, a: Box<Expr>, step: Step) -> Result<Box<Expr>, AllocError>
+    ensures { IfOk result (λ e. expr_of e.value ≡ tree.Access (expr_of a.value) (step_of step)) }
 {
-    Ok(Expr::Access(Box::new(alloc, a)?, step))
+    Ok(Box::new(alloc, Expr::Access(a, step))?)
 }
 
-pub fn and(alloc: Global, a: Pred, b: Pred) -> Result<Pred, AllocError>
-    ensures { IfOk result (λ p. pred_of p ≡ tree.And (pred_of a) (pred_of b)) }
+pub fn and(alloc: Global, a: Box<Pred>, b: Box<Pred>) -> Result<Box<Pred>, AllocError>
+    ensures { IfOk result (λ p. pred_of p.value ≡ tree.And (pred_of a.value) (pred_of b.value)) }
 {
-    Ok(Pred::And(Box::new(alloc, a)?, Box::new(alloc, b)?))
+    Ok(Box::new(alloc, Pred::And(a, b))?)
 }
 
-pub fn or(alloc: Global, a: Pred, b: Pred) -> Result<Pred, AllocError>
-    ensures { IfOk result (λ p. pred_of p ≡ tree.Or (pred_of a) (pred_of b)) }
+pub fn or(alloc: Global, a: Box<Pred>, b: Box<Pred>) -> Result<Box<Pred>, AllocError>
+    ensures { IfOk result (λ p. pred_of p.value ≡ tree.Or (pred_of a.value) (pred_of b.value)) }
 {
-    Ok(Pred::Or(Box::new(alloc, a)?, Box::new(alloc, b)?))
+    Ok(Box::new(alloc, Pred::Or(a, b))?)
 }

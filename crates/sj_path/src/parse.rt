@@ -18,8 +18,8 @@ use sj_token::{LexError, Token, tokens_of};
 use std::alloc::Global;
 
 #[tactic(auto, unfolding(sj_grammar::specs::Reading::whole_at))]
-fn whole(alloc: Global, tokens: &[Token]) -> Result<raw::Expr, PathRefusal>
-    ensures { Gives raw.expr_of result (reading.whole_at tokens.now) }
+fn whole(alloc: Global, tokens: &[Token]) -> Result<Box<raw::Expr>, PathRefusal>
+    ensures { Gives (λ e. raw.expr_of e.value) result (reading.whole_at tokens.now) }
 {
     let level = Level {
         alloc,

@@ -14,17 +14,23 @@ use std::alloc::Global;
 
 /// Behind `starts with`.
 #[tactic(auto, unfolding(sj_grammar::specs::Reading::initial_at))]
-pub fn initial(alloc: Global, e: Expr, tokens: &[Token]) -> Result<(Thing, &[Token]), PathRefusal>
-    ensures { Gives (λ x. (thing_of x.0, x.1.now)) result (reading.initial_at (expr_of e) tokens.now) }
+pub fn initial(
+    alloc: Global,
+    e: Box<Expr>,
+    tokens: &[Token],
+) -> Result<(Thing, &[Token]), PathRefusal>
+    ensures { Gives (λ x. (thing_of x.0, x.1.now)) result (reading.initial_at (expr_of e.value) tokens.now) }
 {
     match tokens {
         [Token::Quoted(text), rest @ ..] => {
             let initial = Initial::Lit(single::copy(alloc, text)?);
-            Ok((Thing::Test(Pred::StartsWith(e, initial)), rest))
+            let p = Box::new(alloc, Pred::StartsWith(e, initial))?;
+            Ok((Thing::Test(p), rest))
         }
         [Token::Variable(name), rest @ ..] => {
             let initial = Initial::Var(single::copy(alloc, name)?);
-            Ok((Thing::Test(Pred::StartsWith(e, initial)), rest))
+            let p = Box::new(alloc, Pred::StartsWith(e, initial))?;
+            Ok((Thing::Test(p), rest))
         }
         _ => Err(PathRefusal::Syntax),
     }
@@ -34,27 +40,34 @@ pub fn initial(alloc: Global, e: Expr, tokens: &[Token]) -> Result<(Thing, &[Tok
 #[tactic(auto, unfolding(sj_grammar::specs::Reading::flags_at))]
 pub fn flags(
     alloc: Global,
-    e: Expr,
+    e: Box<Expr>,
     pattern: Text,
     tokens: &[Token],
 ) -> Result<(Thing, &[Token]), PathRefusal>
-    ensures { Gives (λ x. (thing_of x.0, x.1.now)) result (reading.flags_at (expr_of e) pattern tokens.now) }
+    ensures { Gives (λ x. (thing_of x.0, x.1.now)) result (reading.flags_at (expr_of e.value) pattern tokens.now) }
 {
     let Some(rest) = single::flag(tokens) else {
-        return Ok((Thing::Test(Pred::LikeRegex(e, pattern)), tokens));
+        let p = Box::new(alloc, Pred::LikeRegex(e, pattern))?;
+        return Ok((Thing::Test(p), tokens));
     };
     let (flags, rest) = single::quoted(alloc, rest)?;
-    Ok((Thing::Test(Pred::LikeRegexBy(e, pattern, flags)), rest))
+    let p = Box::new(alloc, Pred::LikeRegexBy(e, pattern, flags))?;
+    Ok((Thing::Test(p), rest))
 }
 
 /// Behind a predicate in parentheses.
 #[tactic(auto, unfolding(sj_grammar::specs::Reading::unknown_from))]
-pub fn unknown(alloc: Global, p: Pred, tokens: &[Token]) -> Result<(Thing, &[Token]), PathRefusal>
-    ensures { Gives (λ x. (thing_of x.0, x.1.now)) result (reading.unknown_from (pred_of p) tokens.now) }
+pub fn unknown(
+    alloc: Global,
+    p: Box<Pred>,
+    tokens: &[Token],
+) -> Result<(Thing, &[Token]), PathRefusal>
+    ensures { Gives (λ x. (thing_of x.0, x.1.now)) result (reading.unknown_from (pred_of p.value) tokens.now) }
 {
     let Some(rest) = single::is(tokens) else {
         return Ok((Thing::Test(p), tokens));
     };
     let rest = single::unknown(rest).ok_or(PathRefusal::Syntax)?;
-    Ok((Thing::Test(Pred::IsUnknown(Box::new(alloc, p)?)), rest))
+    let p = Box::new(alloc, Pred::IsUnknown(p))?;
+    Ok((Thing::Test(p), rest))
 }

@@ -1,4 +1,8 @@
 //! Trees as the grammar has them, with the parts that a parsed path lacks.
+//!
+//! Expressions and predicates are handed on in boxes. One call drops a box. A tree that is held by
+//! value is dropped part by part, wherever a function may return early, and each such place has to
+//! be proved.
 
 use sj_base::Text;
 use sj_decimal::Compare;
@@ -7,7 +11,7 @@ use sj_grammar::{Arith, Initial, Literal, Method, Mode};
 #[derive(Drop)]
 pub struct Path {
     pub mode: Mode,
-    pub expr: Expr,
+    pub expr: Box<Expr>,
 }
 
 #[cycle(raw)]
@@ -41,8 +45,8 @@ pub enum Step {
 #[cycle(raw)]
 #[derive(Drop)]
 pub enum Sub {
-    One(Expr),
-    Range(Expr, Expr),
+    One(Box<Expr>),
+    Range(Box<Expr>, Box<Expr>),
 }
 
 #[cycle(raw)]
@@ -55,20 +59,20 @@ pub enum Subs {
 #[cycle(raw)]
 #[derive(Drop)]
 pub enum Pred {
-    Compare(Compare, Expr, Expr),
+    Compare(Compare, Box<Expr>, Box<Expr>),
     And(Box<Pred>, Box<Pred>),
     Or(Box<Pred>, Box<Pred>),
     Not(Box<Pred>),
     IsUnknown(Box<Pred>),
-    Exists(Expr),
-    StartsWith(Expr, Initial),
-    LikeRegex(Expr, Text),
-    LikeRegexBy(Expr, Text, Text),
+    Exists(Box<Expr>),
+    StartsWith(Box<Expr>, Initial),
+    LikeRegex(Box<Expr>, Text),
+    LikeRegexBy(Box<Expr>, Text, Text),
 }
 
 /// An expression or a predicate: which of them it is shows at its end alone.
 #[derive(Drop)]
 pub enum Thing {
-    Value(Expr),
-    Test(Pred),
+    Value(Box<Expr>),
+    Test(Box<Pred>),
 }

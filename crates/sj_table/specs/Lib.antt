@@ -1,4 +1,5 @@
 pub mod Series
+pub mod Coding
 pub mod Rows
 pub mod Takes
 pub mod Cells

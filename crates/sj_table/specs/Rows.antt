@@ -4,8 +4,7 @@ use Rattle.std.specs.Prelude.{ℕ, ◌+◌, ◌-◌, ◌*◌, ◌^◌, ◌==◌,
 use Rattle.sj_base.specs.declared.state.State.{State}
 use Rattle.sj_item.specs.Items.{ItemValue, item_value}
 use Rattle.sj_item.specs.declared.item.Item.{Item}
-use Rattle.sj_path.specs.Tree.{path_of}
-use Rattle.sj_path.specs.declared.tree.Path.{Path}
+use Rattle.sj_grammar.specs.Tree as g
 use Rattle.sj_step.specs.Trace.{Trace, stop, items, visits, fault_of}
 use Rattle.sj_cursor.specs.Meaning.{Variables, path_trace}
 use Rattle.sj_value.specs.Plans.{PlanTree, path_rows, outer_join, inner_join, union_of, cross_of}
@@ -118,17 +117,17 @@ cost action (cross a b) x = cost action a x + sum_over (rows action a x) (λ row
 -- ---- the plan of a table
 
 -- the trace of a path where there is one
-abbrev pub trace_on : Option Path → Variables → ItemValue → Trace
-trace_on (Some path) vars x = path_trace (path_of path) vars x
+abbrev pub trace_on : Option g.Path → Variables → ItemValue → Trace
+trace_on (Some path) vars x = path_trace path vars x
 trace_on None vars x = stop
 
-abbrev pub source_of : ℕ → Option Path → Variables → Source
+abbrev pub source_of : ℕ → Option g.Path → Variables → Source
 source_of n path vars = record { number = n; trace = λ x. trace_on path vars x }
 
-abbrev pub source : List Path → Variables → ℕ → Source
+abbrev pub source : List g.Path → Variables → ℕ → Source
 source paths vars n = source_of n (slice_get paths n) vars
 
-abbrev pub sourced : List Path → Variables → PlanTree → SourcePlan
+abbrev pub sourced : List g.Path → Variables → PlanTree → SourcePlan
 sourced paths vars (path_rows n) = single (source paths vars n)
 sourced paths vars (outer_join n below) = nested Outer (source paths vars n) (sourced paths vars below)
 sourced paths vars (inner_join n below) = nested Inner (source paths vars n) (sourced paths vars below)
@@ -136,9 +135,9 @@ sourced paths vars (union_of a b) = union (sourced paths vars a) (sourced paths 
 sourced paths vars (cross_of a b) = cross (sourced paths vars a) (sourced paths vars b)
 
 -- the rows of a plan over numbered paths, on an item
-unfoldable pub plan_rows : List Path → Variables → TableAction → PlanTree → ItemValue → PlanRows
+unfoldable pub plan_rows : List g.Path → Variables → TableAction → PlanTree → ItemValue → PlanRows
 plan_rows paths vars action plan x = rows action (sourced paths vars plan) x
 
 -- the visits that giving them may take
-unfoldable pub plan_cost : List Path → Variables → TableAction → PlanTree → ItemValue → ℕ
+unfoldable pub plan_cost : List g.Path → Variables → TableAction → PlanTree → ItemValue → ℕ
 plan_cost paths vars action plan x = cost action (sourced paths vars plan) x

@@ -45,3 +45,17 @@ abbrev pub size : {A : Type 0} → Series A → ℕ
 size done = 0
 size (raises s) = 0
 size (more x xs) = size xs + 1
+
+-- ---- a series that is taken element by element
+
+-- the first of its elements, where they are lists, and the empty list where there is none
+abbrev pub first : {A : Type 0} → Series (List A) → List A
+first done = []
+first (raises s) = []
+first (more x xs) = x
+
+-- what is left behind the first element, and the end alone where there is none
+abbrev pub rest : {A : Type 0} → Series A → Series A
+rest done = done
+rest (raises s) = raises s
+rest (more x xs) = xs

@@ -1,7 +1,7 @@
 -- One call that takes the first element of a series or its end, and what it may take.
-use Rattle.std.specs.Prelude.{◌≡◌, ◌≤◌, ◌-◌, ℕ, []}
+use Rattle.std.specs.Prelude.{◌≡◌, ◌≤◌, ◌-◌, ℕ}
 use Rattle.sj_base.specs.Outside.{raised}
-use Rattle.sj_table.specs.Series.{Series, done, raises, more}
+use Rattle.sj_table.specs.Series.{Series, done, raises, more, first, rest}
 use Rattle.sj_table.specs.Rows.{Row, PlanRows}
 use Rattle.sj_table.specs.declared.pull.RowPull.{RowPull}
 use Rattle.sj_table.specs.declared.pull.RowPull.TheVariants as pulls
@@ -12,19 +12,7 @@ use Rattle.sj_table.specs.declared.pull.RowPull.TheVariants as pulls
 abbrev pub answer_of : PlanRows → RowPull
 answer_of done = pulls.End
 answer_of (raises s) = pulls.Raised s
-answer_of (more row rest) = pulls.Row
-
--- the first row, and nothing where there is none
-abbrev pub first_row : PlanRows → Row
-first_row done = []
-first_row (raises s) = []
-first_row (more row rest) = row
-
--- what is left behind the first row, and the end alone where there is none
-abbrev pub rest_rows : PlanRows → PlanRows
-rest_rows done = done
-rest_rows (raises s) = raises s
-rest_rows (more row rest) = rest
+answer_of (more row others) = pulls.Row
 
 -- what may still be taken behind an answer: nothing behind the end
 abbrev pub due_behind : RowPull → ℕ → ℕ
@@ -40,8 +28,8 @@ pub record Spends (due due' steps later : ℕ) : Type 0 where
 -- The answer tells whether there is a row, which is then the one given; the rest is left. Behind the end nothing is due.
 pub record Advances (left : PlanRows) (due : ℕ) (answer : RowPull) (given : Row) (left' : PlanRows) (due' : ℕ) (steps later : ℕ) : Type 0 where
   pub answers : answer ≡ answer_of left
-  pub gives : given ≡ first_row left
-  pub leaves : left' ≡ rest_rows left
+  pub gives : given ≡ first left
+  pub leaves : left' ≡ rest left
   pub ends : due' ≡ due_behind answer due'
   pub spends : Spends due due' steps later
 

@@ -1,10 +1,7 @@
 -- What a table cursor is seen as: a plan over paths with their variables and what a fault does, the rows that are left and what they may
 -- take, and the row just given.
-use Rattle.std.specs.Prelude.{◌≡◌, ℕ, List, [], ◌∷◌, Option, Some, None, refl}
-use Rattle.std.proofs.Common.{ap}
-use Rattle.std.specs.Coded.{Coded, code_by, coded×, coded_ℕ, coded_list, coded_option}
-use Rattle.sj_base.specs.declared.state.State.{State}
-use Rattle.sj_base.specs.contracts.state.State as state
+use Rattle.std.specs.Prelude.{ℕ, List, refl}
+use Rattle.std.specs.Coded.{Coded, code_by, coded×, coded_ℕ, coded_list}
 use Rattle.sj_item.specs.Items.{ItemValue}
 use Rattle.sj_item.specs.Coding.{item_code}
 use Rattle.sj_path.specs.declared.tree.Path.{Path}
@@ -15,7 +12,7 @@ use Rattle.sj_value.specs.declared.plan.Plan.{Plan}
 use Rattle.sj_value.specs.contracts.plan.Plan as plan
 use Rattle.sj_value.specs.declared.clauses.TableAction.{TableAction}
 use Rattle.sj_value.specs.contracts.clauses.TableAction as table_action
-use Rattle.sj_table.specs.Series.{Series, done, raises, more, elements, end_of}
+use Rattle.sj_table.specs.Coding.{series_code}
 use Rattle.sj_table.specs.Rows.{Entry, Row, PlanRows}
 
 pub record TableView : Type 0 where
@@ -40,28 +37,10 @@ entry_code =
 abbrev pub row_code : Coded Row
 row_code = coded_list entry_code
 
-abbrev pub end_series : {A : Type 0} → Option State → Series A
-end_series None = done
-end_series (Some s) = raises s
-
-abbrev pub series_from : {A : Type 0} → List A → Option State → Series A
-series_from [] end = end_series end
-series_from (x ∷ xs) end = more x (series_from xs end)
-
-pub series_from-elements : {A : Type 0} → (xs : Series A) → series_from (elements xs) (end_of xs) ≡ xs
-series_from-elements done = refl
-series_from-elements (raises s) = refl
-series_from-elements (more x xs) = ap (more x) (series_from-elements xs)
-
-abbrev pub rows_code : Coded PlanRows
-rows_code =
-    code_by (List Row × Option State) (coded× (coded_list row_code) (coded_option state.the_row.coded))
-    (λ xs. (elements xs, end_of xs)) (λ p. series_from p.0 p.1) series_from-elements
-
 abbrev pub table_code : Coded TableView
 table_code =
     code_by (Plan × (List Path × (Variables × (TableAction × (PlanRows × (Row × ℕ))))))
-    (coded× plan.the_row.coded (coded× (coded_list path.the_row.coded) (coded× variables_code (coded× table_action.the_row.coded (coded× rows_code (coded× row_code coded_ℕ))))))
+    (coded× plan.the_row.coded (coded× (coded_list path.the_row.coded) (coded× variables_code (coded× table_action.the_row.coded (coded× (series_code row_code) (coded× row_code coded_ℕ))))))
     (λ t. (t.plan, (t.paths, (t.vars, (t.on_error, (t.left, (t.given, t.due)))))))
     (λ p. record { plan = p.0; paths = p.1.0; vars = p.1.1.0; on_error = p.1.1.1.0; left = p.1.1.1.1.0; given = p.1.1.1.1.1.0; due = p.1.1.1.1.1.1 })
     (λ _. refl)

@@ -1,5 +1,6 @@
 // The cells of a plan, made whole: the only place that takes memory.
-ghost use Rattle.std.specs.Prelude.{◌≡◌, ◌≤◌, ◌<◌, ℕ, length, IfOk};
+ghost use Rattle.std.specs.Prelude.{◌≡◌, ◌≤◌, ◌<◌, ℕ, length, map, IfOk};
+ghost use Rattle.sj_path.specs.Tree.{path_of};
 ghost use Rattle.sj_value.specs.Plans.{plan_tree, times};
 ghost use Rattle.sj_table.specs.Cells.{core, path_source};
 ghost use Rattle.sj_table.specs.Rows.{nested as nested_of, source, sourced};
@@ -22,7 +23,7 @@ pub(crate) fn plan_cell<'d>(
     vars: &'d Vars,
 ) -> Result<Cell<'d>, Memory>
     requires { (k : ℕ) → length paths.now ≤ k → times k (plan_tree plan.now) ≡ 0 }
-    ensures { IfOk result (λ c. core c ≡ sourced paths.now vars.now (plan_tree plan.now)) }
+    ensures { IfOk result (λ c. core c ≡ sourced (map path_of paths.now) vars.now (plan_tree plan.now)) }
 {
     match plan {
         Plan::Path(number) => Ok(Cell::Single(path_cell(alloc, *number, paths, vars)?)),
@@ -61,7 +62,7 @@ fn nested<'d>(
 ) -> Result<Cell<'d>, Memory>
     requires here { number < length paths.now }
     requires below { (k : ℕ) → length paths.now ≤ k → times k (plan_tree below.now) ≡ 0 }
-    ensures { IfOk result (λ c. core c ≡ nested_of join (source paths.now vars.now number) (sourced paths.now vars.now (plan_tree below.now))) }
+    ensures { IfOk result (λ c. core c ≡ nested_of join (source (map path_of paths.now) vars.now number) (sourced (map path_of paths.now) vars.now (plan_tree below.now))) }
 {
     let parent = path_cell(alloc, number, paths, vars)?;
     let below = plan_cell(alloc, below, paths, vars)?;
@@ -73,6 +74,7 @@ fn nested<'d>(
     }))
 }
 
+#[tactic(auto, using(crate::proofs::Sources::source_named))]
 fn path_cell<'d>(
     alloc: Global,
     number: u32,
@@ -80,7 +82,7 @@ fn path_cell<'d>(
     vars: &'d Vars,
 ) -> Result<PathCell<'d>, Memory>
     requires { number < length paths.now }
-    ensures { IfOk result (λ c. path_source c ≡ source paths.now vars.now number) }
+    ensures { IfOk result (λ c. path_source c ≡ source (map path_of paths.now) vars.now number) }
 {
     Ok(PathCell {
         number,

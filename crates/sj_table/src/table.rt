@@ -29,28 +29,30 @@ pub struct TableCursor<'d> {
 
 impl<'d> Model for TableCursor<'d> {
     ghost use Rattle.sj_table.specs.View.{TableView, table_code};
-    ghost use Rattle.std.specs.Prelude.{◌≡◌};
+    ghost use Rattle.std.specs.Prelude.{◌≡◌, map};
 
     ghost Value = { TableView };
 
     ghost coded = { table_code };
 
     ghost use Rattle.sj_item.specs.Items.{item_value};
+    ghost use Rattle.sj_path.specs.Tree.{path_of};
     ghost use Rattle.sj_value.specs.Plans.{plan_tree};
     ghost use Rattle.sj_table.specs.Cells.{core, rows_left, rows_due, row_of, answered_left, answered_row, answered_due};
     ghost use Rattle.sj_table.specs.Rows.{sourced};
 
     ghost view = { λ t. record { plan = t.plan.now; paths = t.paths.now; vars = t.vars.now; on_error = t.on_error; left = answered_left t.answered (rows_left t.on_error t.cell (item_value t.root)); given = answered_row t.answered (row_of t.cell); due = answered_due t.answered (rows_due t.on_error t.cell (item_value t.root)) } };
 
-    ghost invariant = { λ t. core t.cell ≡ sourced t.paths.now t.vars.now (plan_tree t.plan.now) };
+    ghost invariant = { λ t. core t.cell ≡ sourced (map path_of t.paths.now) t.vars.now (plan_tree t.plan.now) };
 }
 
 impl<'d> TableCursor<'d> {
     ghost use Rattle.sj_item.specs.Items.{item_value};
+    ghost use Rattle.sj_path.specs.Tree.{path_of};
     ghost use Rattle.sj_value.specs.Plans.{plan_tree, IsPlanOver};
     ghost use Rattle.sj_table.specs.Rows.{entry, entry_value, plan_rows, plan_cost};
     ghost use Rattle.sj_table.specs.Takes.{Advances};
-    ghost use Rattle.std.specs.Prelude.{[]};
+    ghost use Rattle.std.specs.Prelude.{[], map};
 
     /// A cursor before the first row of a plan on a root item. It takes all memory that the cursor will use. The row path, number 0,
     /// stands at the plan's root, and each of the paths once in it. A variable that a path names and that is not passed counts as null.
@@ -70,9 +72,9 @@ impl<'d> TableCursor<'d> {
         ensures paths { IfOk result (λ t. t.paths ≡ paths.now) }
         ensures vars { IfOk result (λ t. t.vars ≡ vars.now) }
         ensures on_error { IfOk result (λ t. t.on_error ≡ on_error) }
-        ensures left { IfOk result (λ t. t.left ≡ plan_rows paths.now vars.now on_error (plan_tree plan.now) (item_value root.entry)) }
+        ensures left { IfOk result (λ t. t.left ≡ plan_rows (map path_of paths.now) vars.now on_error (plan_tree plan.now) (item_value root.entry)) }
         ensures given { IfOk result (λ t. t.given ≡ []) }
-        ensures due { IfOk result (λ t. t.due ≡ plan_cost paths.now vars.now on_error (plan_tree plan.now) (item_value root.entry)) }
+        ensures due { IfOk result (λ t. t.due ≡ plan_cost (map path_of paths.now) vars.now on_error (plan_tree plan.now) (item_value root.entry)) }
     {
         let mut cell = plan_cell(alloc, plan, paths, vars)?;
         cell.rewind();
@@ -120,9 +122,9 @@ impl<'d> TableCursor<'d> {
 
     /// From the beginning, on another root, wherever the cursor stood. It takes no memory.
     pub fn rewind(&mut self, root: Item<'d>)
-        ensures left { self.new.left ≡ plan_rows self.old.paths self.old.vars self.old.on_error (plan_tree self.old.plan) (item_value root.entry) }
+        ensures left { self.new.left ≡ plan_rows (map path_of self.old.paths) self.old.vars self.old.on_error (plan_tree self.old.plan) (item_value root.entry) }
         ensures given { self.new.given ≡ [] }
-        ensures due { self.new.due ≡ plan_cost self.old.paths self.old.vars self.old.on_error (plan_tree self.old.plan) (item_value root.entry) }
+        ensures due { self.new.due ≡ plan_cost (map path_of self.old.paths) self.old.vars self.old.on_error (plan_tree self.old.plan) (item_value root.entry) }
         ensures plan { self.new.plan ≡ self.old.plan }
         ensures paths { self.new.paths ≡ self.old.paths }
         ensures vars { self.new.vars ≡ self.old.vars }

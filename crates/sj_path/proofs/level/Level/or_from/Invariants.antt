@@ -5,5 +5,5 @@ use Rattle.sj_path.proofs.level.Level.or_from.Given as goal
 
 abbrev pub invariant-loop-turn : goal.invariant-loop-turn
 invariant-loop-turn g l =
-    or_from (thing_at l.self.depth) (length l.tokens) (pred_of l.fn.p) l.tokens
-    ≡ or_from (thing_at l.self.depth) (l._turn-end - l._turn) (pred_of l.q) l.rest
+    or_from (thing_at l.self.depth) (length l.tokens) (pred_of l.fn.p.value) l.tokens
+    ≡ or_from (thing_at l.self.depth) (l._turn-end - l._turn) (pred_of l.q.value) l.rest

@@ -5,5 +5,5 @@ use Rattle.sj_path.proofs.level.Level.sum_from.Given as goal
 
 abbrev pub invariant-loop-turn : goal.invariant-loop-turn
 invariant-loop-turn g l =
-    sum_from (thing_at l.self.depth) (length l.tokens) (expr_of l.fn.x) l.tokens
-    ≡ sum_from (thing_at l.self.depth) (l._turn-end - l._turn) (expr_of l.e) l.rest
+    sum_from (thing_at l.self.depth) (length l.tokens) (expr_of l.fn.x.value) l.tokens
+    ≡ sum_from (thing_at l.self.depth) (l._turn-end - l._turn) (expr_of l.e.value) l.rest

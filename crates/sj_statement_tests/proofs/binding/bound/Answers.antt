@@ -1,7 +1,7 @@
 use Rattle.sj_sql_token.specs.Tokens.{lexed}
 use Rattle.sj_sql.specs.File.{fault_of}
 use Rattle.sj_bind.proofs.Bindable.{first_bindable}
-use Rattle.sj_bind.proofs.tests.texts.answer_of.Goals as goal
+use Rattle.sj_statement_tests.proofs.binding.bound.Goals as goal
 
 pub bind-requires : goal.bind-requires
 bind-requires c =

@@ -1,4 +1,4 @@
-"""Prints the digests that src/tests/generated.rt compares with.
+"""Prints the digests that src/decimals/generated.rt compares with.
 
 It generates the numbers of that file, and computes each answer with Python's whole numbers and fractions, which have no limit.
 """

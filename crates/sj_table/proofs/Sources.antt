@@ -1,0 +1,11 @@
+-- The source of a path, by its number among paths as they lie in memory.
+use Rattle.std.proofs.Common.{◌≡◌, ℕ, List, map, Some, option_map, slice_get, ap, ◌∙◌}
+use Rattle.std.proofs.lemmas.Option.{slice_get-map}
+use Rattle.sj_path.specs.Tree.{path_of}
+use Rattle.sj_path.specs.declared.tree.Path.{Path}
+use Rattle.sj_cursor.specs.Meaning.{Variables}
+use Rattle.sj_table.specs.Rows.{source, source_of}
+
+pub source_named : (paths : List Path) (vars : Variables) (n : ℕ) (path : Path)
+    → slice_get paths n ≡ Some path → source (map path_of paths) vars n ≡ source_of n (Some (path_of path)) vars
+source_named paths vars n path e = ap (λ p. source_of n p vars) (slice_get-map path_of paths n ∙ ap (option_map path_of) e)
