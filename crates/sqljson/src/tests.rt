@@ -1,19 +1,23 @@
 // Runs over the objects in memory.
+mod generated;
 mod selects;
+mod tables;
 
 use crate::run::run;
 use crate::status::Status;
 use sj_base::{MemShelf, MemSink, MemSource, Steps, Tally, Text};
+use sj_path::Name;
 use sj_sql::FileKind;
 use std::alloc::Global;
 use std::test::Fail;
 
-/// What a run gave: how it ended, what it wrote, and the steps that it took.
+/// What a run gave: how it ended, what it wrote, how often it read, and the steps that it took.
 #[derive(Drop)]
 struct Outcome {
     status: Status,
     out: Vec<u8>,
     notes: Vec<u8>,
+    reads: u64,
     steps: u64,
 }
 
@@ -27,6 +31,7 @@ struct Setup<'a> {
     cut: usize,
     input_fails: &'a [u64],
     room: usize,
+    note_room: usize,
 }
 
 /// The common case: `run f`, with nothing that fails and room enough.
@@ -39,6 +44,7 @@ fn plain<'a>(file: &'a [u8], input: &'a [u8], cut: usize) -> Setup<'a> {
         cut,
         input_fails: &[],
         room: 4096,
+        note_room: 4096,
     }
 }
 
@@ -61,7 +67,7 @@ fn run_on(alloc: Global, setup: &Setup<'_>) -> Result<Outcome, Fail> {
         setup.input_fails.to_vec(alloc)?,
     );
     let mut out = MemSink::new(alloc, setup.room, Vec::new(alloc)).map_err(|_| "memory")?;
-    let mut notes = MemSink::new(alloc, 4096, Vec::new(alloc)).map_err(|_| "memory")?;
+    let mut notes = MemSink::new(alloc, setup.note_room, Vec::new(alloc)).map_err(|_| "memory")?;
     let mut steps = Steps::new(Tally::new());
     let status = run(
         alloc, &words, &mut shelf, &mut input, &mut out, &mut notes, &mut steps,
@@ -70,8 +76,31 @@ fn run_on(alloc: Global, setup: &Setup<'_>) -> Result<Outcome, Fail> {
         status,
         out: out.bytes().to_vec(alloc)?,
         notes: notes.bytes().to_vec(alloc)?,
+        reads: input.calls(),
         steps: steps.ledger().count(),
     })
+}
+
+/// A file, the input, and what is written.
+type Case = (&'static str, &'static str, &'static str);
+
+fn check_cases(alloc: Global, words: &[&str], cases: &[Case]) -> Result<(), Fail> {
+    for (file, input, out) in cases {
+        for cut in [0, 1] {
+            let setup = Setup {
+                words,
+                ..plain(file.as_bytes(), input.as_bytes(), cut)
+            };
+            let ran = run_on(alloc, &setup)?;
+            if ran.status != Status::Done || ran.out.as_slice() != out.as_bytes() {
+                return Err(format!(in alloc;
+                    "{file} on {input}: {:?}, {:?}",
+                    ran.status, ran.out
+                )?)?;
+            }
+        }
+    }
+    Ok(())
 }
 
 const AB: &[u8] = b"SELECT JSON_EXISTS(doc, 'lax $.a.b');";
@@ -144,16 +173,69 @@ fn early_stops(rt: HostRuntime) -> Result<(), Fail> {
         assert_eq!(rt; ran.out.as_slice(), row.as_bytes());
         assert!(rt; ran.steps <= most, "{} steps", ran.steps);
     }
-    let file = statement_of(alloc, b"lax $[*] ? (@ == 1)")?;
-    let mut ones = long(alloc, b'1', 1, b"[")?;
-    ones.truncate(2);
-    for _ in 0..1_000_000 {
+    Ok(())
+}
+
+/// An array of a million ones.
+fn a_million_ones(alloc: Global) -> Result<Vec<u8>, Fail> {
+    let mut ones = vec![in alloc; b'['; 1]?;
+    ones.push(b'1')?;
+    for _ in 1..1_000_000 {
         ones.extend_from_slice(b",1")?;
     }
     ones.push(b']')?;
-    let ran = run_on(alloc, &plain(&file, &ones, 0))?;
-    assert_eq!(rt; ran.out.as_slice(), b"1\t1\tR\tTRUE\n".as_slice());
-    assert_eq!(rt; ran.steps, 1);
+    Ok(ones)
+}
+
+// A second item is all that a function of one item asks for, and a table is asked for its rows alone.
+#[test]
+fn steps_of_values_and_tables(rt: HostRuntime) -> Result<(), Fail> {
+    let alloc = rt.alloc();
+    let pairs = b"{\"p\":[{\"n\":1,\"x\":[5,6],\"y\":[]},{\"n\":2,\"x\":[],\"y\":[]}]}".as_slice();
+    let ones = a_million_ones(alloc)?;
+    let cases: [(&[u8], &[u8], &str, u64); 6] = [
+        (
+            b"SELECT JSON_VALUE(doc,'lax $[*].abs()' ERROR ON ERROR);",
+            b"[1,2,\"x\"]",
+            "1\t1\tE\t22034\n",
+            2,
+        ),
+        (
+            b"SELECT JSON_VALUE(doc,'strict $[*].abs()' ERROR ON ERROR);",
+            b"[1,2,\"x\"]",
+            "1\t1\tE\t22036\n",
+            3,
+        ),
+        (
+            b"SELECT JSON_EXISTS(doc,'strict $[*].abs()' ERROR ON ERROR);",
+            b"[1,\"x\"]",
+            "1\t1\tE\t22036\n",
+            2,
+        ),
+        (
+            b"SELECT * FROM JSON_TABLE(doc,'lax $.p[*]' COLUMNS (n INTEGER, NESTED PATH 'lax $.x[*]' COLUMNS (x INTEGER PATH 'lax $'), NESTED PATH 'lax $.y[*]' COLUMNS (y INTEGER PATH 'lax $')));",
+            pairs,
+            "1\t1\tR\t1\t5\t\\N\n1\t1\tR\t1\t6\t\\N\n1\t1\tR\t2\t\\N\t\\N\n",
+            43,
+        ),
+        (
+            b"SELECT JSON_VALUE(doc,'lax $[*]' ERROR ON ERROR);",
+            ones.as_slice(),
+            "1\t1\tE\t22034\n",
+            2,
+        ),
+        (
+            b"SELECT JSON_EXISTS(doc,'lax $[*] ? (@ == 1)');",
+            ones.as_slice(),
+            "1\t1\tR\tTRUE\n",
+            1,
+        ),
+    ];
+    for (file, input, out, most) in cases {
+        let ran = run_on(alloc, &plain(file, input, 0))?;
+        assert_eq!(rt; ran.out.as_slice(), out.as_bytes());
+        assert!(rt; ran.steps <= most, "{} steps", ran.steps);
+    }
     Ok(())
 }
 
@@ -216,6 +298,34 @@ fn endings_and_messages(rt: HostRuntime) -> Result<(), Fail> {
         ),
         (
             Setup {
+                words: &["selfrun", "3", "f"],
+                ..plain(ROOT, three, 0)
+            },
+            Status::Done,
+            "lines 3 rows 3 errors 0 bytes 33\n",
+            "",
+        ),
+        (
+            Setup {
+                words: &["selfrun", "3", "f"],
+                room: 9,
+                ..plain(ROOT, three, 0)
+            },
+            Status::WriteFault,
+            "lines 3 r",
+            "output failed\n",
+        ),
+        (
+            Setup {
+                words: &["selfrun", "3", "g"],
+                ..plain(ROOT, three, 0)
+            },
+            Status::ShelfFault,
+            "",
+            absent,
+        ),
+        (
+            Setup {
                 words: &["run", "g"],
                 ..plain(AB, three, 0)
             },
@@ -249,6 +359,16 @@ fn endings_and_messages(rt: HostRuntime) -> Result<(), Fail> {
             "statement 2: path: syntax error\n",
         ),
         (
+            plain(
+                b"SELECT 1; SELECT JSON_EXISTS(doc,'$ ? (@ like_regex \"a\")');",
+                three,
+                0,
+            ),
+            Status::Refused(2, FileKind::Unsupported(Name::LikeRegex)),
+            "",
+            "statement 2: unsupported like_regex\n",
+        ),
+        (
             Setup {
                 input_fails: &[1],
                 ..plain(AB, half, 26)
@@ -272,6 +392,16 @@ fn endings_and_messages(rt: HostRuntime) -> Result<(), Fail> {
         assert_eq!(rt; ran.status, status);
         assert_eq!(rt; ran.out.as_slice(), out.as_bytes());
         assert_eq!(rt; ran.notes.as_slice(), note.as_bytes());
+        let untold = run_on(
+            alloc,
+            &Setup {
+                note_room: 0,
+                ..setup
+            },
+        )?;
+        assert_eq!(rt; untold.status, status, "where notes fail");
+        assert_eq!(rt; untold.out.as_slice(), out.as_bytes());
+        assert_eq!(rt; untold.notes.as_slice(), b"".as_slice());
     }
     Ok(())
 }
@@ -408,6 +538,27 @@ fn long(alloc: Global, byte: u8, count: usize, around: &[u8]) -> Result<Vec<u8>,
     Ok(text)
 }
 
+// Arrays as deep as a line may be, and texts as long, each with what is one past it.
+#[test]
+fn json_at_its_limits(rt: HostRuntime) -> Result<(), Fail> {
+    let alloc = rt.alloc();
+    for (depth, row) in [(512, "1\t1\tR\tTRUE\n"), (513, "1\t1\tR\tFALSE\n")] {
+        let mut nested = long(alloc, b'[', depth, b"")?;
+        nested.extend_from_slice(long(alloc, b']', depth, b"")?.as_slice())?;
+        let ran = run_on(alloc, &plain(b"SELECT doc IS JSON ARRAY;", &nested, 0))?;
+        assert_eq!(rt; ran.out.as_slice(), row.as_bytes());
+    }
+    for (letters, row) in [
+        (16_777_214, "1\t1\tR\tTRUE\n"),
+        (16_777_215, "1\t1\tR\tFALSE\n"),
+    ] {
+        let text = long(alloc, b'a', letters, b"\"")?;
+        let ran = run_on(alloc, &plain(b"SELECT doc IS JSON SCALAR;", &text, 0))?;
+        assert_eq!(rt; ran.out.as_slice(), row.as_bytes());
+    }
+    Ok(())
+}
+
 // Lines and files at their limits and one byte past them.
 #[test]
 fn limits(rt: HostRuntime) -> Result<(), Fail> {
@@ -439,5 +590,9 @@ fn limits(rt: HostRuntime) -> Result<(), Fail> {
     )?;
     assert_eq!(rt; long_file.status, Status::FileTooLong);
     assert_eq!(rt; long_file.status.number(), 8);
+    assert_eq!(rt;
+        long_file.notes.as_slice(),
+        b"statement file too long\n".as_slice()
+    );
     Ok(())
 }

@@ -1,30 +1,6 @@
 // What statements without a table give, line by line.
-use super::{Setup, plain, run_on};
-use crate::status::Status;
-use std::alloc::Global;
+use super::check_cases;
 use std::test::Fail;
-
-/// A file, the input, and what is written.
-type Case = (&'static str, &'static str, &'static str);
-
-fn check_cases(alloc: Global, words: &[&str], cases: &[Case]) -> Result<(), Fail> {
-    for (file, input, out) in cases {
-        for cut in [0, 1] {
-            let setup = Setup {
-                words,
-                ..plain(file.as_bytes(), input.as_bytes(), cut)
-            };
-            let ran = run_on(alloc, &setup)?;
-            if ran.status != Status::Done || ran.out.as_slice() != out.as_bytes() {
-                return Err(format!(in alloc;
-                    "{file} on {input}: {:?}, {:?}",
-                    ran.status, ran.out
-                )?)?;
-            }
-        }
-    }
-    Ok(())
-}
 
 const GROUPS: &str = r#"{"a":[{"b":1},[{"b":2}],{"c":3}]}"#;
 
@@ -174,6 +150,26 @@ fn predicates(rt: HostRuntime) -> Result<(), Fail> {
         (
             "SELECT JSON_EXISTS(doc,'$ ? (@.n >= $lim && @.s starts with $p)' PASSING 5 AS lim, 'An' AS p);",
             "{\"n\":5,\"s\":\"Anna\"}",
+            "1\t1\tR\tTRUE\n",
+        ),
+        (
+            "SELECT JSON_EXISTS(doc,'lax $ ? (@.v[*] > 5)'), JSON_EXISTS(doc,'strict $ ? (@.v[*] > 5)');",
+            "{\"v\":[\"a\",7]}",
+            "1\t1\tR\tTRUE\tFALSE\n",
+        ),
+        (
+            "SELECT JSON_EXISTS(doc,'lax $ ? (@.a != 1)'), JSON_EXISTS(doc,'lax $ ? (!(@.a < 1))'), JSON_EXISTS(doc,'lax $ ? ((@.b == 1) is unknown)'), JSON_EXISTS(doc,'strict $ ? ((@.b == 1) is unknown)');",
+            "{\"a\":null}",
+            "1\t1\tR\tTRUE\tTRUE\tFALSE\tTRUE\n",
+        ),
+        (
+            "SELECT JSON_EXISTS(doc,'lax $ ? (exists(@.v[*].abs()))'), JSON_EXISTS(doc,'strict $ ? (exists(@.v[*].abs()))');",
+            "{\"v\":[1,\"a\"]}\n{\"v\":[\"a\",1]}",
+            "1\t1\tR\tTRUE\tFALSE\n2\t1\tR\tFALSE\tFALSE\n",
+        ),
+        (
+            "SELECT JSON_EXISTS(doc,'lax $ ? ((@.none == @.v.abs()) is unknown)');",
+            "{\"v\":\"a\"}",
             "1\t1\tR\tTRUE\n",
         ),
         (

@@ -1,0 +1,62 @@
+// Runs over generated lines.
+use super::{ROOT, Setup, plain, run_on};
+use crate::status::Status;
+use sj_sql::FileKind;
+use std::test::Fail;
+
+const TWO: &[u8] =
+    b"SELECT JSON_VALUE(doc, 'lax $.n' RETURNING INTEGER ERROR ON ERROR);\nSELECT x, o FROM JSON_TABLE(doc, 'lax $.v[*] ? (@ > 2)'\n  COLUMNS (o FOR ORDINALITY, x INTEGER PATH 'lax $'));\n";
+
+const TEXT: &[u8] = b"SELECT JSON_EXISTS(doc, 'lax $.s');";
+
+// What is told of lines, rows, error rows and bytes; the input is not read.
+#[test]
+fn summaries(rt: HostRuntime) -> Result<(), Fail> {
+    let alloc = rt.alloc();
+    let cases: [(&str, &[u8], &str); 5] = [
+        ("2000", TWO, "lines 2000 rows 2828 errors 200 bytes 38890\n"),
+        ("0", TWO, "lines 0 rows 0 errors 0 bytes 0\n"),
+        ("1", TWO, "lines 1 rows 1 errors 0 bytes 8\n"),
+        ("10", TEXT, "lines 10 rows 10 errors 0 bytes 112\n"),
+        ("000003", TEXT, "lines 3 rows 3 errors 0 bytes 33\n"),
+    ];
+    for (number, file, told) in cases {
+        let ran = run_on(
+            alloc,
+            &Setup {
+                words: &["selfrun", number, "f"],
+                ..plain(file, b"null", 0)
+            },
+        )?;
+        assert_eq!(rt; ran.status, Status::Done);
+        assert_eq!(rt; ran.out.as_slice(), told.as_bytes());
+        assert_eq!(rt; ran.reads, 0);
+    }
+    Ok(())
+}
+
+// A refused file writes nothing, and words that are no number of one to six digits are of no form.
+#[test]
+fn refused_files_and_words(rt: HostRuntime) -> Result<(), Fail> {
+    let alloc = rt.alloc();
+    let refused = run_on(
+        alloc,
+        &Setup {
+            words: &["selfrun", "2000", "f"],
+            ..plain(b"SELECT 1", b"null", 0)
+        },
+    )?;
+    assert_eq!(rt; refused.status, Status::Refused(1, FileKind::Syntax));
+    assert_eq!(rt; refused.out.as_slice(), b"".as_slice());
+    for number in ["", "1234567", "-1", "1a", "+1", " 1"] {
+        let ran = run_on(
+            alloc,
+            &Setup {
+                words: &["selfrun", number, "f"],
+                ..plain(ROOT, b"null", 0)
+            },
+        )?;
+        assert_eq!(rt; ran.status, Status::Usage, "{number}");
+    }
+    Ok(())
+}
