@@ -7,7 +7,5 @@
 
 mod line;
 mod source;
-#[cfg(test)]
-mod tests;
 
 pub use source::GeneratedSource;
