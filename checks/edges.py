@@ -28,6 +28,7 @@ def check_edges(tally, program):
         check_words(tally, program, folder)
         check_files(tally, program, folder)
         check_checks(tally, program, folder)
+        check_generated(tally, program, folder)
         check_lines(tally, program, folder)
         check_cuts(tally, program, folder)
         check_faults(tally, program, folder)
@@ -35,7 +36,7 @@ def check_edges(tally, program):
 
 def check_words(tally, program, folder):
     """Words that are no command of the program are refused, and nothing is read or written."""
-    for words in [[], ["run"], ["run", ""], ["run", "-x"], ["run", "root.sql", "more"], ["RUN", "root.sql"], ["check", "-x"], ["root.sql"]]:
+    for words in [[], ["run"], ["run", ""], ["run", "-x"], ["run", "root.sql", "more"], ["RUN", "root.sql"], ["check", "-x"], ["selfrun", "1000000", "root.sql"], ["root.sql"]]:
         ended = program.run(words, b"true\n", folder)
         tally.check(f"the words {words}", difference(Ended(1, note=USAGE), ended))
 
@@ -57,6 +58,20 @@ def check_checks(tally, program, folder):
     for name, file, wanted in cases:
         (folder / "checked.sql").write_bytes(file)
         tally.check(f"a check of {name}", difference(wanted, program.run(["check", "checked.sql"], b"true\n", folder)))
+
+
+def check_generated(tally, program, folder):
+    """A run over generated lines tells how much the same run over these lines writes."""
+    number = 2000
+    tail = lambda i: b",\n" if i % 10 == 0 else b',"v":[%d,%d],"s":"k%d"}\n' % (i % 7, i % 3, i % 5)
+    lines = b"".join(b'{"n":%d' % i + tail(i) for i in range(1, number + 1))
+    (folder / "generated.sql").write_bytes(b"SELECT JSON_VALUE(doc, '$.v[0]' ERROR ON ERROR), JSON_VALUE(doc, '$.s');\n" + ROOT)
+    written = program.run(["run", "generated.sql"], lines, folder).output
+    rows = written.splitlines()
+    errors = sum(row.split(b"\t")[2] == b"E" for row in rows)
+    summary = b"lines %d rows %d errors %d bytes %d\n" % (number, len(rows) - errors, errors, len(written))
+    ended = program.run(["selfrun", str(number), "generated.sql"], b"true\n", folder)
+    tally.check("a run over generated lines", difference(Ended(0, summary), ended))
 
 
 def check_files(tally, program, folder):

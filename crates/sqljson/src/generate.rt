@@ -21,18 +21,21 @@ fn write_summary<O: Sink>(out: &mut O, lines: u32, counts: Counts, bytes: u64) -
     ensures { Wrote (output_side O.taken O.size O.faults out.old) (output_side O.taken O.size O.faults out.new)
         (counts_text lines counts.rows counts.errors bytes) result }
 {
-    let (mut a, mut b, mut c, mut d) = (Buffer::new(), Buffer::new(), Buffer::new(), Buffer::new());
+    let mut line_digits = Buffer::new();
+    let mut row_digits = Buffer::new();
+    let mut error_digits = Buffer::new();
+    let mut byte_digits = Buffer::new();
     write_parts(
         out,
         &[
             b"lines ".as_slice(),
-            a.format(lines).as_bytes(),
+            line_digits.format(lines).as_bytes(),
             b" rows ".as_slice(),
-            b.format(counts.rows).as_bytes(),
+            row_digits.format(counts.rows).as_bytes(),
             b" errors ".as_slice(),
-            c.format(counts.errors).as_bytes(),
+            error_digits.format(counts.errors).as_bytes(),
             b" bytes ".as_slice(),
-            d.format(bytes).as_bytes(),
+            byte_digits.format(bytes).as_bytes(),
             b"\n".as_slice(),
         ],
     )
