@@ -38,9 +38,6 @@ fn bound(alloc: Global, text: &str) -> Result<Bound, Fail>
 fn rows_of<'d>(alloc: Global, bound: &'d Bound, line: LineDoc<'d>) -> Result<RowsOf<'d>, Fail>
     requires { IsSound (bound_of bound.now) }
 {
-    if bound.table.is_some() {
-        return Err(Fail::from("a table"));
-    }
     Ok(RowsOf::new(alloc, bound, line)?)
 }
 
@@ -100,12 +97,15 @@ fn push_value(alloc: Global, value: &SqlValue, out: &mut String) -> Result<(), F
     Ok(())
 }
 
+/// More rows than any test has.
+const MOST_ROWS: u32 = 1_000;
+
 /// The rows that are left, each with its values between bars, and the end behind them. An end comes again, with no row and without a
 /// step.
 fn shown(rt: &impl Abort, alloc: Global, rows: &mut RowsOf<'_>) -> Result<String, Fail> {
     let mut out = String::new(alloc);
     let mut steps = Steps::new(Tally::new());
-    for _ in 0..3 {
+    for _ in 0..MOST_ROWS {
         match rows.next(&mut steps)? {
             Turn::Row => {
                 for value in rows.row() {
@@ -127,7 +127,7 @@ fn shown(rt: &impl Abort, alloc: Global, rows: &mut RowsOf<'_>) -> Result<String
             }
         }
     }
-    Err(Fail::from("more rows than one"))
+    Err(Fail::from("too many rows"))
 }
 
 /// The rows of a statement for a line, from new ones and again from the same.
@@ -207,23 +207,72 @@ SELECT JSON_VALUE(doc,'lax $.a' ERROR ON ERROR); => 22032
 SELECT 1, JSON_ARRAY(2); => |1:0|[2]|
 "#;
 
-#[test]
-fn gives_the_row_of_a_statement(rt: HostRuntime) -> Result<(), Fail> {
-    let alloc = rt.alloc();
+/// The same of statements with a table.
+const TABLE_ROWS: &str = r#"{"p":[{"n":1,"x":[5,6],"y":[]},{"n":2,"x":[],"y":[]}]}
+SELECT * FROM JSON_TABLE(doc,'lax $.p[*]' COLUMNS (n INTEGER, NESTED PATH 'lax $.x[*]' COLUMNS (x INTEGER PATH 'lax $'), NESTED PATH 'lax $.y[*]' COLUMNS (y INTEGER PATH 'lax $'))); => |1:0|5:0|NULL||1:0|6:0|NULL||2:0|NULL|NULL|
+SELECT * FROM JSON_TABLE(doc,'lax $.p[*]' COLUMNS (n INTEGER, NESTED PATH 'lax $.x[*]' COLUMNS (x INTEGER PATH 'lax $'), NESTED PATH 'lax $.y[*]' COLUMNS (y INTEGER PATH 'lax $')) PLAN DEFAULT (INNER, CROSS)); =>
+SELECT x, 'k', n FROM JSON_TABLE(doc,'lax $.p[*]' COLUMNS (n INTEGER, NESTED PATH 'lax $.x[*]' COLUMNS (x INTEGER PATH 'lax $')) PLAN DEFAULT (INNER)); => |5:0|'k'|1:0||6:0|'k'|1:0|
+SELECT JSON_ARRAYAGG(x), JSON_ARRAYAGG(x NULL ON NULL), JSON_OBJECTAGG(KEY 'n' VALUE n) FROM JSON_TABLE(doc,'lax $.p[*]' COLUMNS (n INTEGER, NESTED PATH 'lax $.x[*]' COLUMNS (x INTEGER PATH 'lax $'))); => |[5,6]|[5,6,null]|{"n":1,"n":1,"n":2}|
+SELECT JSON_OBJECTAGG('n' : n WITH UNIQUE KEYS) FROM JSON_TABLE(doc,'lax $.p[*]' COLUMNS (n INTEGER)); => 22030
+SELECT JSON_ARRAYAGG(n), JSON_OBJECTAGG(NULL : n) FROM JSON_TABLE(doc,'lax $.p[*]' COLUMNS (n INTEGER)); => 22004
+SELECT JSON_ARRAYAGG(n), JSON_OBJECTAGG(NULL : n) FROM JSON_TABLE(doc,'lax $.none' COLUMNS (n INTEGER)); => |NULL|NULL|
+SELECT JSON_ARRAYAGG(JSON_ARRAY(n, 'a')) FROM JSON_TABLE(doc,'lax $.p[*]' COLUMNS (n INTEGER)); => |[[1,"a"],[2,"a"]]|
+
+{"lines":[{"sku":"A-1","qty":2,"price":9.95},{"sku":"B-7","qty":1,"price":120}]}
+SELECT * FROM JSON_TABLE(doc,'lax $.lines[*]' COLUMNS (o FOR ORDINALITY, sku VARCHAR, total NUMERIC(10,2) PATH 'lax $.qty * $.price')) AS t; => |1:0|'A-1'|19.9:2||2:0|'B-7'|120:2|
+SELECT JSON_ARRAYAGG(sku), JSON_OBJECTAGG(KEY sku VALUE qty) FROM JSON_TABLE(doc,'lax $.lines[*]' COLUMNS (sku VARCHAR, qty INTEGER)); => |["A-1","B-7"]|{"A-1":2,"B-7":1}|
+SELECT sku, JSON_OBJECT(sku : qty), JSON_ARRAY(qty, rest) FROM JSON_TABLE(doc,'lax $.lines[*]' COLUMNS (sku VARCHAR, qty INTEGER, rest VARCHAR FORMAT JSON PATH 'lax $.price' WITH WRAPPER)); => |'A-1'|{"A-1":2}|[2,[9.95]]||'B-7'|{"B-7":1}|[1,[120]]|
+SELECT sku FROM JSON_TABLE(doc,'lax $.lines[*]' COLUMNS (sku VARCHAR, qty INTEGER PATH '$.none' ERROR ON EMPTY)); => 22035
+SELECT o, more FROM JSON_TABLE(doc,'lax $.lines[*] ? (@.qty >= $low)' PASSING 2 AS low COLUMNS (o FOR ORDINALITY, more NUMERIC PATH '$.qty + $low')); => |1:0|4:0|
+
+{"x":[1,2],"y":["a","b"]}
+SELECT * FROM JSON_TABLE(doc,'lax $' AS r COLUMNS (NESTED PATH 'lax $.x[*]' AS x COLUMNS (a INTEGER PATH 'lax $'), NESTED 'lax $.y[*]' AS y COLUMNS (b VARCHAR PATH 'lax $')) PLAN (r OUTER (x CROSS y))); => |1:0|'a'||1:0|'b'||2:0|'a'||2:0|'b'|
+SELECT * FROM JSON_TABLE(doc,'lax $' AS r COLUMNS (NESTED PATH 'lax $.x[*]' AS x COLUMNS (a INTEGER PATH 'lax $'), NESTED 'lax $.y[*]' AS y COLUMNS (b VARCHAR PATH 'lax $')) PLAN (r OUTER (y UNION x))); => |NULL|'a'||NULL|'b'||1:0|NULL||2:0|NULL|
+SELECT JSON_ARRAYAGG(JSON_ARRAY(a, b)) FROM JSON_TABLE(doc,'lax $' COLUMNS (NESTED 'lax $.x[*]' COLUMNS (a INTEGER PATH 'lax $'), NESTED 'lax $.y[*]' COLUMNS (b VARCHAR PATH 'lax $')) PLAN DEFAULT (CROSS)); => |[[1,"a"],[1,"b"],[2,"a"],[2,"b"]]|
+
+{"x":[]}
+SELECT a, 'k' FROM JSON_TABLE(doc,'lax $' COLUMNS (NESTED 'lax $.x[*]' COLUMNS (a VARCHAR PATH 'lax $'))); => |NULL|'k'|
+
+{"g":[{"e":[1]},{"e":["x"]},{"e":[2]}]}
+SELECT * FROM JSON_TABLE(doc,'lax $.g[*]' COLUMNS (i FOR ORDINALITY, NESTED PATH 'lax $.e[*].abs()' COLUMNS (k FOR ORDINALITY, v INTEGER PATH 'lax $'))); => |1:0|1:0|1:0||2:0|NULL|NULL||3:0|1:0|2:0|
+SELECT * FROM JSON_TABLE(doc,'lax $.g[*]' COLUMNS (i FOR ORDINALITY, NESTED PATH 'lax $.e[*].abs()' COLUMNS (k FOR ORDINALITY, v INTEGER PATH 'lax $')) ERROR ON ERROR); => |1:0|1:0|1:0|22036
+SELECT JSON_ARRAYAGG(v) FROM JSON_TABLE(doc,'lax $.g[*]' COLUMNS (i FOR ORDINALITY, NESTED PATH 'lax $.e[*].abs()' COLUMNS (v INTEGER PATH 'lax $')) ERROR ON ERROR); => 22036
+SELECT i, v FROM JSON_TABLE(doc,'lax $.g[*]' COLUMNS (i FOR ORDINALITY, v INTEGER PATH 'lax $.e[0]' ERROR ON ERROR)); => |1:0|1:0|2203G
+
+{"a":
+SELECT a FROM JSON_TABLE(doc,'lax $' COLUMNS (a VARCHAR)); =>
+SELECT a FROM JSON_TABLE(doc,'lax $' COLUMNS (a VARCHAR) ERROR ON ERROR); => 22032
+SELECT JSON_ARRAYAGG(a), JSON_OBJECTAGG('k' : a) FROM JSON_TABLE(doc,'lax $' COLUMNS (a VARCHAR)); => |NULL|NULL|
+SELECT JSON_ARRAYAGG(a) FROM JSON_TABLE(doc,'lax $' COLUMNS (a VARCHAR) ERROR ON ERROR); => 22032
+"#;
+
+/// Tries groups of a line and statements, and says how many statements there are.
+fn try_groups(rt: &impl Abort, alloc: Global, groups: &str) -> Result<usize, Fail> {
     let mut statements: usize = 0;
-    for group in ROWS.split("\n\n") {
+    for group in groups.split("\n\n") {
         let Some((text, lines)) = group.split_once('\n') else {
             return Err(Fail::from("a line alone"));
         };
         for line in lines.lines() {
-            let Some((statement, want)) = line.split_once(" => ") else {
+            let Some((statement, want)) = line.split_once(" =>") else {
                 return Err(Fail::from("a statement alone"));
             };
-            expect_rows(&rt, alloc, (text, Keys::Any), statement, want)?;
+            expect_rows(rt, alloc, (text, Keys::Any), statement, want.trim_start())?;
             statements = statements.wrapping_add(1);
         }
     }
-    assert_eq!(rt; statements, 33);
+    Ok(statements)
+}
+
+#[test]
+fn gives_the_row_of_a_statement(rt: HostRuntime) -> Result<(), Fail> {
+    assert_eq!(rt; try_groups(&rt, rt.alloc(), ROWS)?, 33);
+    Ok(())
+}
+
+#[test]
+fn gives_the_rows_of_a_table(rt: HostRuntime) -> Result<(), Fail> {
+    assert_eq!(rt; try_groups(&rt, rt.alloc(), TABLE_ROWS)?, 25);
     Ok(())
 }
 

@@ -1,18 +1,24 @@
 -- Steps that are performed in a loop, and what the values of a whole list are.
-use Rattle.std.proofs.Common.{◌≡◌, ◌≤◌, ◌<◌, ℕ, ◌+◌, List, [], ◌∷◌, length, drop, set, get_or, Result, Ok, Err, refl, sym, ap, subst, ◌∙◌, arith, add-zero}
+use Rattle.std.proofs.Common.{◌≡◌, ◌≤◌, ◌<◌, ℕ, ◌+◌, List, [], ◌∷◌, ◌++◌, length, drop, set, get_or, Option, Some, None, Result, Ok, Err, refl, sym, ap, subst, ◌∙◌, arith, add-zero}
 use Rattle.std.specs.List.{All}
-use Rattle.std.proofs.lemmas.List.{drop-map, drop_more, get_or-map, length-map}
+use Rattle.std.proofs.lemmas.List.{append-nil, drop-map, drop_more, get_or-map, length-map}
 use Rattle.std.proofs.Math.Seq.{map-set_same}
 use Rattle.sj_base.specs.Outside.{raised}
+use Rattle.std.specs.Prelude.{IfOk}
+use Rattle.sj_base.specs.declared.memory.Memory.{Memory}
 use Rattle.sj_base.specs.declared.state.State.{State}
 use Rattle.sj_value.specs.declared.value.SqlValue.{SqlValue}
 use Rattle.sj_bind.specs.Bound as b
 use Rattle.sj_select.specs.Line.{Line}
-use Rattle.sj_select.specs.Operations.{Step, step_of, steps_of, steps_to_all}
-use Rattle.sj_select.specs.Performing.{CanBeGiven, Held, done, step_cost, Performance, after, going_on, performed}
-use Rattle.sj_select.specs.Rows.{given_list, list_cost}
+use Rattle.sj_select.specs.Operations.{Step, step_of, steps_of, steps_to, steps_to_all}
+use Rattle.sj_select.specs.Performing.{CanBeGiven, Held, EndsIn, held, done, step_cost, Performance, after, going_on, performed}
+use Rattle.sj_select.specs.Values.{given, cost, given_list, list_cost}
 use Rattle.sj_select.specs.declared.operation.Operation.{Operation}
-use Rattle.sj_select.proofs.Performed.{list_then, with_values, found_all}
+use Rattle.sj_select.specs.Filling.{Gathers}
+use Rattle.sj_select.specs.declared.pile.Pile.{Pile}
+use Rattle.sj_func.specs.declared.context.Outcome.{Outcome}
+use Rattle.sj_func.specs.declared.context.Outcome.TheVariants.{Value, Raised}
+use Rattle.sj_select.proofs.Performed.{list_then, with_values, found_all, value_end, one_end, one_cost}
 
 -- ---- operations in a row
 
@@ -84,3 +90,84 @@ module _ (line : Line) (columns : List SqlValue) where
 
   pub all_cost : (xs : List b.Value) → (performed line columns (steps_to_all xs) nothing).cost ≡ list_cost line columns xs
   all_cost xs = ap (λ (p : Performance). p.cost) (found_all line columns xs nothing) ∙ list_costs (list_cost line columns xs) (given_list line columns xs)
+
+-- ---- steps that were performed from nothing
+
+pub empty_held : (p : Pile) → p.values.items ≡ [] → p.members.items ≡ [] → held p ≡ nothing
+empty_held p values members = cc
+
+module _ (line : Line) (columns : List SqlValue) (steps : List Step) (h : Held) (empty : h ≡ nothing) where
+  -- ---- those of a list of values
+
+  module _ (xs : List b.Value) (finds : steps ≡ steps_to_all xs) where
+    list_whole : (performed line columns steps h).end ≡ list_end (given_list line columns xs)
+    list_whole = ap (λ (k : Held). (performed line columns steps k).end) empty ∙ ap (λ (l : List Step). (performed line columns l nothing).end) finds ∙ all_end line columns xs
+
+    pub list_price : (performed line columns steps h).cost ≡ list_cost line columns xs
+    list_price = ap (λ (k : Held). (performed line columns steps k).cost) empty ∙ ap (λ (l : List Step). (performed line columns l nothing).cost) finds ∙ all_cost line columns xs
+
+    list_ok : (r : Result (List SqlValue) State) (k : Held) → list_end r ≡ Ok k → r ≡ Ok k.values
+    list_ok (Ok vs) k e =
+        let same : vs ≡ k.values = cc in
+        ap Ok same
+    list_ok (Err s) k e = cc
+
+    list_err : (r : Result (List SqlValue) State) (s : State) → list_end r ≡ Err s → r ≡ Err s
+    list_err (Ok vs) s e = cc
+    list_err (Err x) s e =
+        let same : x ≡ s = cc in
+        ap Err same
+
+    pub list_gathers : (raised : Option State) (k : Held) → EndsIn (performed line columns steps h).end raised k → Gathers (given_list line columns xs) raised k.values
+    list_gathers None k e = list_ok (given_list line columns xs) k (sym list_whole ∙ e)
+    list_gathers (Some s) k e = list_err (given_list line columns xs) s (sym list_whole ∙ e)
+
+    -- what finding answers, where memory suffices
+    pub gathers_ok : (r : Result (Option State) Memory) (p : Pile) → IfOk r (λ raised. EndsIn (performed line columns steps h).end raised (held p)) → IfOk r (λ raised. Gathers (given_list line columns xs) raised p.values.items)
+    gathers_ok (Ok raised) p e = list_gathers raised (held p) e
+    gathers_ok (Err m) p e = tt
+
+  -- ---- those of one value
+
+  module _ (x : b.Value) (finds : steps ≡ steps_to x) where
+    value_whole : (performed line columns steps h).end ≡ value_end (given line columns x)
+    value_whole = ap (λ (k : Held). (performed line columns steps k).end) empty ∙ ap (λ (l : List Step). (performed line columns l nothing).end) finds ∙ one_end line columns x
+
+    pub value_price : (performed line columns steps h).cost ≡ cost line columns x
+    value_price = ap (λ (k : Held). (performed line columns steps k).cost) empty ∙ ap (λ (l : List Step). (performed line columns l nothing).cost) finds ∙ one_cost line columns x
+
+    value_ok : (o : Outcome) (k : Held) → value_end o ≡ Ok k → (v : SqlValue) × (o ≡ Value v) × (k.values ≡ v ∷ [])
+    value_ok (Value v) k e = (v, refl, cc)
+    value_ok (Raised s) k e =
+        let no : ⊥ = cc in
+        absurd no
+
+    value_err : (o : Outcome) (s : State) → value_end o ≡ Err s → o ≡ Raised s
+    value_err (Value v) s e = cc
+    value_err (Raised x) s e =
+        let same : x ≡ s = cc in
+        ap Raised same
+
+    -- the value that was found is the only one
+    pub value_found : (k : Held) → (performed line columns steps h).end ≡ Ok k → (v : SqlValue) × (given line columns x ≡ Value v) × (k.values ≡ v ∷ [])
+    value_found k e = value_ok (given line columns x) k (sym value_whole ∙ e)
+
+    pub value_raised : (s : State) → (performed line columns steps h).end ≡ Err s → given line columns x ≡ Raised s
+    value_raised s e = value_err (given line columns x) s (sym value_whole ∙ e)
+
+-- ---- the only value of a list
+
+pub only_last : (vs : List SqlValue) (v x : SqlValue) (others : List SqlValue) → vs ≡ v ∷ [] → vs ≡ others ++ x ∷ [] → x ≡ v
+only_last vs v x [] e f = cc
+only_last vs v x (y ∷ []) e f =
+    let no : ⊥ = cc in
+    absurd no
+only_last vs v x (y ∷ z ∷ others) e f =
+    let no : ⊥ = cc in
+    absurd no
+
+-- a list of one value is not what is left of it where nothing is taken, and nothing is left
+pub not_none : (vs : List SqlValue) (v : SqlValue) → vs ≡ v ∷ [] → (others : List SqlValue) → vs ≡ others ++ [] → others ≡ [] → ⊥
+not_none vs v e others f none =
+    let no : v ∷ [] ≡ [] = sym e ∙ f ∙ append-nil others ∙ none in
+    cc

@@ -1,7 +1,13 @@
+mod Aggregating
 pub mod Distinct
 mod Finding
+mod Gathering
+mod Listing
 mod Performed
 mod Predicates
 mod Printed
 mod Sounds
-mod Turns
+mod Sourced
+mod Spending
+mod TakingRows
+mod Turning

@@ -14,8 +14,7 @@ use Rattle.sj_bind.specs.Bound as b
 use Rattle.sj_select.specs.Line.{Line, context}
 use Rattle.sj_select.specs.Operations.{Step, object, array, member, steps_to, steps_to_values, steps_to_members, steps_to_all, value_count, member_count}
 use Rattle.sj_select.specs.Performing.{Held, put, last_of, before_last, paired, member_of, Performance, after, stopped, going_on, performed}
-use Rattle.sj_select.specs.Rows.{given_list, list_cost}
-use Rattle.sj_select.specs.Values.{given, given_values, given_members, cost, values_cost, members_cost, value_before, member_before, unless_raised, trace_of, outcome_of, array_outcome, object_outcome}
+use Rattle.sj_select.specs.Values.{given, given_values, given_members, cost, values_cost, members_cost, value_before, member_before, unless_raised, trace_of, outcome_of, array_outcome, object_outcome, given_list, list_cost}
 
 -- ---- costs
 
@@ -219,3 +218,31 @@ module _ (line : Line) (columns : List SqlValue) where
       (λ v. performed line columns (steps_to_all xs) (with_values (v ∷ []) h)) (λ vs. performed line columns [] (with_values vs h))
       (λ v. found_all xs (with_values (v ∷ []) h)
       ∙ ap (after (list_cost line columns xs)) (list_then_same (given_list line columns xs) _ _ (λ vs. ap (performed line columns []) (more_values v vs h))))
+
+-- ---- the steps of one value
+
+-- the value alone, or the state
+abbrev pub value_end : Outcome → Result Held State
+value_end (Value v) = Ok (record { values = v ∷ []; members = [] })
+value_end (Raised s) = Err s
+
+module _ (line : Line) (columns : List SqlValue) where
+  abbrev nothing_held : Held
+  nothing_held = record { values = []; members = [] }
+
+  one_found : (x : b.Value) → performed line columns (steps_to x) nothing_held ≡ after (cost line columns x) (outcome_then (given line columns x) (λ v. performed line columns [] (with_values (v ∷ []) nothing_held)))
+  one_found x = ap (λ (l : List Step). performed line columns l nothing_held) (sym (append-nil (steps_to x))) ∙ found line columns x [] nothing_held
+
+  one_ends : (n : ℕ) (o : Outcome) → (after n (outcome_then o (λ v. performed line columns [] (with_values (v ∷ []) nothing_held)))).end ≡ value_end o
+  one_ends n (Value v) = refl
+  one_ends n (Raised s) = refl
+
+  one_costs : (n : ℕ) (o : Outcome) → (after n (outcome_then o (λ v. performed line columns [] (with_values (v ∷ []) nothing_held)))).cost ≡ n
+  one_costs n (Value v) = add-zero n
+  one_costs n (Raised s) = add-zero n
+
+  pub one_end : (x : b.Value) → (performed line columns (steps_to x) nothing_held).end ≡ value_end (given line columns x)
+  one_end x = ap (λ (p : Performance). p.end) (one_found x) ∙ one_ends (cost line columns x) (given line columns x)
+
+  pub one_cost : (x : b.Value) → (performed line columns (steps_to x) nothing_held).cost ≡ cost line columns x
+  one_cost x = ap (λ (p : Performance). p.cost) (one_found x) ∙ one_costs (cost line columns x) (given line columns x)

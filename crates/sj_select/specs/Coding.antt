@@ -1,14 +1,13 @@
 -- How the logic stores what the rows of a statement are seen as.
 use Rattle.std.specs.Prelude.{◌≡◌, List, Bool, true, false, cond, Option, Some, None, refl}
 use Rattle.std.specs.Coded.{Coded, code_by, coded×, coded_list, coded_option, coded_bool}
-use Rattle.sj_base.specs.declared.state.State.{State}
-use Rattle.sj_base.specs.contracts.state.State as state
 use Rattle.sj_json.specs.Tree.{Tree}
 use Rattle.sj_json.specs.Coding.{tree_code}
 use Rattle.sj_value.specs.declared.value.SqlValue.{SqlValue}
 use Rattle.sj_value.specs.contracts.value.SqlValue as value
+use Rattle.sj_table.specs.Coding.{series_code}
 use Rattle.sj_select.specs.Line.{Line, not_json, repeated, json}
-use Rattle.sj_select.specs.Rows.{Rows}
+use Rattle.sj_select.specs.Rows.{StatementRows}
 
 -- no tree, or one and whether keys are repeated
 abbrev pub StoredLine : Type 0
@@ -34,5 +33,5 @@ line_code = code_by StoredLine (coded_option (coded× coded_bool tree_code)) lin
 abbrev pub row_code : Coded (List SqlValue)
 row_code = coded_list value.the_row.coded
 
-abbrev pub rows_code : Coded Rows
-rows_code = code_by (List (List SqlValue) × Option State) (coded× (coded_list row_code) (coded_option state.the_row.coded)) (λ r. (r.rows, r.raised)) (λ p. record { rows = p.0; raised = p.1 }) (λ _. refl)
+abbrev pub rows_code : Coded StatementRows
+rows_code = series_code row_code

@@ -1,26 +1,44 @@
 -- How far rows have come, and what is left then. Private clauses alone cite this.
-use Rattle.std.specs.Prelude.{◌≡◌, ℕ, List, [], Some, None, All}
-use Rattle.sj_bind.specs.Bound as b
-use Rattle.sj_select.specs.Line.{Line}
-use Rattle.sj_select.specs.Operations.{Step, steps_to_all}
-use Rattle.sj_select.specs.Performing.{CanBeGiven}
-use Rattle.sj_select.specs.Rows.{Rows, values_in, plain_rows, plain_cost}
+use Rattle.std.specs.Prelude.{ℕ, List, []}
+use Rattle.sj_value.specs.declared.value.SqlValue.{SqlValue}
+use Rattle.sj_table.specs.Series.{done, raises}
+use Rattle.sj_select.specs.Rows.{StatementRows}
 use Rattle.sj_select.specs.declared.rows.Stage.{Stage}
 use Rattle.sj_select.specs.declared.rows.Stage.TheVariants as stage
+use Rattle.sj_select.specs.declared.rows.Turn.{Turn}
+use Rattle.sj_select.specs.declared.rows.Turn.TheVariants as turn
+use Rattle.sj_select.specs.declared.source.Found.{Found}
+use Rattle.sj_select.specs.declared.source.Found.TheVariants as found
 
--- the rows that are left
-abbrev pub left_at : Stage → b.Bound → Line → Rows
-left_at stage.Before s line = plain_rows s line
-left_at stage.Ended s line = record { rows = []; raised = None }
-left_at (stage.Raised x) s line = record { rows = []; raised = Some x }
+-- the rows that are left, where these are left of what they are made of
+abbrev pub left_at : Stage → StatementRows → StatementRows
+left_at stage.Going left = left
+left_at stage.Ended left = done
+left_at (stage.Raised s) left = raises s
 
 -- the steps that may still be taken
-abbrev pub due_at : Stage → b.Bound → Line → ℕ
-due_at stage.Before s line = plain_cost s line
-due_at stage.Ended s line = 0
-due_at (stage.Raised x) s line = 0
+abbrev pub due_at : Stage → ℕ → ℕ
+due_at stage.Going due = due
+due_at stage.Ended due = 0
+due_at (stage.Raised s) due = 0
 
--- these operations find the values of the statement, and their clauses can be given
-pub record AreFor (s : b.Bound) (steps : List Step) : Type 0 where
-  pub finds : steps ≡ steps_to_all (values_in s.items)
-  pub given : All CanBeGiven steps
+-- ---- behind what was found
+
+abbrev pub turn_for : Found → Turn
+turn_for found.Row = turn.Row
+turn_for found.LastRow = turn.Row
+turn_for found.End = turn.End
+turn_for (found.Raised s) = turn.Raised s
+
+abbrev pub stage_behind : Found → Stage
+stage_behind found.Row = stage.Going
+stage_behind found.LastRow = stage.Ended
+stage_behind found.End = stage.Ended
+stage_behind (found.Raised s) = stage.Raised s
+
+-- no row stands behind an end
+abbrev pub row_kept : Found → List SqlValue → List SqlValue
+row_kept found.Row row = row
+row_kept found.LastRow row = row
+row_kept found.End row = []
+row_kept (found.Raised s) row = []

@@ -85,6 +85,18 @@ abbrev pub unless_raised : Outcome → ℕ → ℕ
 unless_raised (Value v) cost = cost
 unless_raised (Raised s) cost = 0
 
+-- ---- outcomes in a row
+
+-- the values of a list from left to right, or the first state
+abbrev pub each_value : {A : Type 0} → (A → Outcome) → List A → Result (List SqlValue) State
+each_value outcome [] = Ok []
+each_value outcome (x ∷ xs) = value_before (outcome x) (each_value outcome xs)
+
+-- the steps that finding them may take, up to and with the first that raises
+abbrev pub each_cost : {A : Type 0} → (A → Outcome) → (A → ℕ) → List A → ℕ
+each_cost outcome cost [] = 0
+each_cost outcome cost (x ∷ xs) = cost x + unless_raised (outcome x) (each_cost outcome cost xs)
+
 module _ (line : Line) (columns : List SqlValue) where
   -- THE VALUE, or the state that is raised in its place. What a constructor is made of is found first, from left to right.
   abbrev mutual
@@ -125,3 +137,10 @@ module _ (line : Line) (columns : List SqlValue) where
     pub members_cost : b.Members → ℕ
     members_cost b.NoMembers = 0
     members_cost (b.MoreMembers key x others) = cost key + unless_raised (given key) (cost x + unless_raised (given x) (members_cost others))
+
+  -- the values of a SELECT list
+  abbrev pub given_list : List b.Value → Result (List SqlValue) State
+  given_list xs = each_value given xs
+
+  abbrev pub list_cost : List b.Value → ℕ
+  list_cost xs = each_cost given cost xs

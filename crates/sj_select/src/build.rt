@@ -24,6 +24,21 @@ pub(crate) fn operations_of<'d>(
     operations_in(alloc, bound.items.as_slice())
 }
 
+/// The operations that find one value.
+///
+/// # Errors
+/// [`Memory`] where memory runs out.
+pub(crate) fn operations_to<'d>(
+    alloc: Global,
+    value: &'d BoundValue,
+) -> Result<Vec<Operation<'d>>, Memory>
+    ensures { IfOk result (λ operations. steps_of operations.items ≡ steps_to (value_of value.now)) }
+{
+    let mut operations = Vec::new(alloc);
+    push_value(alloc, value, &mut operations)?;
+    Ok(operations)
+}
+
 // Those of the items of a list. An aggregate has none.
 fn operations_in<'d>(alloc: Global, items: &'d [BoundItem]) -> Result<Vec<Operation<'d>>, Memory>
     ensures { IfOk result (λ operations. steps_of operations.items ≡ steps_to_all (values_in (items_of items.now))) }

@@ -1,26 +1,28 @@
-// The functions that have a path, on a line.
+// The functions that have a path, on a context item.
 ghost use Rattle.std.specs.Prelude.{◌≡◌, ◌≤◌, IfOk};
 ghost use Rattle.sj_base.specs.Outside.{raised};
-ghost use Rattle.sj_func.specs.Functions.{exists_outcome, exists_cost, value_outcome, value_cost, query_outcome, query_cost, IsPrinted};
+ghost use Rattle.sj_func.specs.Functions.{context_value, exists_outcome, exists_cost, value_outcome, value_cost, query_outcome, query_cost, IsPrinted};
 ghost use Rattle.sj_value.specs.Clauses.{IsValueSpec};
-ghost use Rattle.sj_select.specs.Line.{line_of, context};
 ghost use Rattle.sj_select.specs.Operations.{exists_step, value_step, query_step, path_with};
 ghost use Rattle.sj_select.specs.Values.{trace_of};
 
-use crate::line::LineDoc;
 use crate::operation::{ExistsCall, QueryCall, ValueCall};
 use sj_base::{Ledger, Memory, Steps};
-use sj_func::{Outcome, json_exists, json_query, json_value};
+use sj_func::{Context, Outcome, json_exists, json_query, json_value};
 use std::alloc::Global;
 
 impl<'d> ExistsCall<'d> {
-    pub(crate) fn outcome<L: Ledger>(&mut self, line: LineDoc<'d>, steps: &mut Steps<L>) -> Outcome
-        ensures outcome { let x = path_with self.old.cursor in result ≡ exists_outcome self.old.on_error x.path.mode (context (line_of line.entry)) (trace_of x) }
+    pub(crate) fn outcome<L: Ledger>(
+        &mut self,
+        context: Context<'d>,
+        steps: &mut Steps<L>,
+    ) -> Outcome
+        ensures outcome { let x = path_with self.old.cursor in result ≡ exists_outcome self.old.on_error x.path.mode (context_value context.entry) (trace_of x) }
         ensures printed { IsPrinted result }
-        ensures costs { let x = path_with self.old.cursor in steps.new ≤ raised steps.old (exists_cost x.path.mode (context (line_of line.entry)) (trace_of x)) }
+        ensures costs { let x = path_with self.old.cursor in steps.new ≤ raised steps.old (exists_cost x.path.mode (context_value context.entry) (trace_of x)) }
         ensures step { exists_step self.new ≡ exists_step self.old }
     {
-        json_exists(&mut self.cursor, line.context(), self.on_error, steps)
+        json_exists(&mut self.cursor, context, self.on_error, steps)
     }
 }
 
@@ -28,16 +30,16 @@ impl<'d> ValueCall<'d> {
     pub(crate) fn outcome<L: Ledger>(
         &mut self,
         alloc: Global,
-        line: LineDoc<'d>,
+        context: Context<'d>,
         steps: &mut Steps<L>,
     ) -> Result<Outcome, Memory>
         requires { IsValueSpec self.old.clauses.now }
-        ensures outcome { let x = path_with self.old.cursor in IfOk result (λ o. o ≡ value_outcome self.old.clauses.now x.path.mode (context (line_of line.entry)) (trace_of x)) }
+        ensures outcome { let x = path_with self.old.cursor in IfOk result (λ o. o ≡ value_outcome self.old.clauses.now x.path.mode (context_value context.entry) (trace_of x)) }
         ensures printed { IfOk result IsPrinted }
-        ensures costs { let x = path_with self.old.cursor in steps.new ≤ raised steps.old (value_cost x.path.mode (context (line_of line.entry)) (trace_of x)) }
+        ensures costs { let x = path_with self.old.cursor in steps.new ≤ raised steps.old (value_cost x.path.mode (context_value context.entry) (trace_of x)) }
         ensures step { value_step self.new ≡ value_step self.old }
     {
-        json_value(alloc, &mut self.cursor, line.context(), self.clauses, steps)
+        json_value(alloc, &mut self.cursor, context, self.clauses, steps)
     }
 }
 
@@ -45,20 +47,14 @@ impl<'d> QueryCall<'d> {
     pub(crate) fn outcome<L: Ledger>(
         &mut self,
         alloc: Global,
-        line: LineDoc<'d>,
+        context: Context<'d>,
         steps: &mut Steps<L>,
     ) -> Result<Outcome, Memory>
-        ensures outcome { let x = path_with self.old.cursor in IfOk result (λ o. o ≡ query_outcome self.old.clauses x.path.mode (context (line_of line.entry)) (trace_of x)) }
+        ensures outcome { let x = path_with self.old.cursor in IfOk result (λ o. o ≡ query_outcome self.old.clauses x.path.mode (context_value context.entry) (trace_of x)) }
         ensures printed { IfOk result IsPrinted }
-        ensures costs { let x = path_with self.old.cursor in steps.new ≤ raised steps.old (query_cost self.old.clauses.wrapper x.path.mode (context (line_of line.entry)) (trace_of x)) }
+        ensures costs { let x = path_with self.old.cursor in steps.new ≤ raised steps.old (query_cost self.old.clauses.wrapper x.path.mode (context_value context.entry) (trace_of x)) }
         ensures step { query_step self.new ≡ query_step self.old }
     {
-        json_query(
-            alloc,
-            &mut self.cursor,
-            line.context(),
-            &self.clauses,
-            steps,
-        )
+        json_query(alloc, &mut self.cursor, context, &self.clauses, steps)
     }
 }

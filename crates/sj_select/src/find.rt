@@ -69,9 +69,9 @@ impl<'d> Operation<'d> {
         match self {
             Operation::Literal(literal) => pile.put(literal_outcome(alloc, literal)?),
             Operation::Column(number) => pile.put(column_outcome(alloc, columns, *number)?),
-            Operation::Exists(call) => pile.put(call.outcome(line, steps)),
-            Operation::Value(call) => pile.put(call.outcome(alloc, line, steps)?),
-            Operation::Query(call) => pile.put(call.outcome(alloc, line, steps)?),
+            Operation::Exists(call) => pile.put(call.outcome(line.context(), steps)),
+            Operation::Value(call) => pile.put(call.outcome(alloc, line.context(), steps)?),
+            Operation::Query(call) => pile.put(call.outcome(alloc, line.context(), steps)?),
             Operation::IsJson(call) => pile.put(is_json_outcome(alloc, line.doc(), *call)?),
             Operation::Member => {
                 pile.pair()?;

@@ -1,24 +1,25 @@
 // The rows of a statement for a line.
-ghost use Rattle.std.specs.Prelude.{◌≡◌, ◌≤◌, [], IfOk};
-ghost use Rattle.std.specs.List.{All};
-ghost use Rattle.sj_base.specs.Outside.{raised};
+ghost use Rattle.std.specs.Prelude.{◌≡◌, [], All, IfOk};
 ghost use Rattle.sj_value.specs.Values.{IsPrintable};
+ghost use Rattle.sj_table.specs.Takes.{Spends};
+ghost use Rattle.sj_bind.specs.Bound as b;
 ghost use Rattle.sj_bind.specs.Sound.{IsSound};
 ghost use Rattle.sj_bind.specs.View.{bound_of};
 ghost use Rattle.sj_select.specs.Line.{line_of};
-ghost use Rattle.sj_select.specs.Rows.{IsPlain, plain_rows, plain_cost};
+ghost use Rattle.sj_select.specs.Rows.{statement_rows, statement_cost};
 ghost use Rattle.sj_select.specs.Seen.{Gives};
+ghost use Rattle.sj_select.specs.Sources.{IsFor, IsReadySource, Finds, source_left, source_due, due_behind};
+ghost use Rattle.sj_select.specs.Stages.{left_at, due_at, turn_for, stage_behind, row_kept};
 
-use crate::build::operations_of;
-use crate::find::find;
 use crate::line::LineDoc;
-use crate::operation::Operation;
 use crate::pile::Pile;
+use crate::source::{Found, RowSource};
 use sj_base::{Ledger, Memory, State, Steps};
 use sj_bind::Bound;
 use sj_value::SqlValue;
 use std::alloc::Global;
 use std::marker::Model;
+use std::mem;
 
 /// One answer of [`RowsOf::next`].
 #[derive(Clone, Copy, Debug, PartialEq, Eq)]
@@ -34,25 +35,86 @@ pub enum Turn {
 /// How far the rows have come.
 #[derive(Clone, Copy)]
 pub(crate) enum Stage {
-    /// The row was not asked for.
-    Before,
+    /// Rows may be left.
+    Going,
     /// No row is left.
     Ended,
     /// No row is left, and this state is raised.
     Raised(State),
 }
 
-/// The rows of a statement without a table, for one line after another (ISO/IEC 9075-2, query specification).
+impl Turn {
+    // What is answered where this was found.
+    fn of(found: Found) -> Turn
+        ensures { result ≡ turn_for found }
+    {
+        match found {
+            Found::Row | Found::LastRow => Turn::Row,
+            Found::End => Turn::End,
+            Found::Raised(state) => Turn::Raised(state),
+        }
+    }
+}
+
+impl Stage {
+    // How far the rows have come where this was found. There is no row behind the last one.
+    fn behind(found: Found) -> Stage
+        ensures { result ≡ stage_behind found }
+    {
+        match found {
+            Found::Row => Stage::Going,
+            Found::LastRow | Found::End => Stage::Ended,
+            Found::Raised(state) => Stage::Raised(state),
+        }
+    }
+
+    // What comes next of the rows that have come so far. An end comes again, without a step.
+    fn find<'d, L: Ledger>(
+        self,
+        alloc: Global,
+        source: &mut RowSource<'d>,
+        line: LineDoc<'d>,
+        steps: &mut Steps<L>,
+    ) -> Result<Found, Memory>
+        requires { IsReadySource source.old }
+        ensures finds { (s : b.Bound) → IsFor s source.old → IfOk result (λ found. Finds (left_at self (source_left s (line_of line.entry) source.old)) found source.new.pile.values.items (source_left s (line_of line.entry) source.new)) }
+        ensures costs { (s : b.Bound) → IsFor s source.old → Spends (due_at self (source_due s (line_of line.entry) source.old)) (due_behind result (source_due s (line_of line.entry) source.new)) steps.old steps.new }
+        ensures is_for { (s : b.Bound) → IsFor s source.old → IsFor s source.new }
+        ensures ready { IsReadySource source.new }
+    {
+        match self {
+            Stage::Going => source.find(alloc, line, steps),
+            Stage::Ended => Ok(Found::End),
+            Stage::Raised(state) => Ok(Found::Raised(state)),
+        }
+    }
+}
+
+// Keeps the row that was found, or none behind an end.
+fn keep_row(found: Found, pile: &mut Pile)
+    requires { All IsPrintable pile.old.values.items }
+    ensures row { pile.new.values.items ≡ row_kept found pile.old.values.items }
+    ensures printable { All IsPrintable pile.new.values.items }
+{
+    match found {
+        Found::Row | Found::LastRow => {}
+        Found::End | Found::Raised(_) => pile.clear(),
+    }
+}
+
+/// The rows of a statement, for one line after another (ISO/IEC 9075-2, query specification).
+///
+/// No list of rows is kept: one row is found at a time. The aggregates of a statement take one row of its table after another, and
+/// keep the text of what they took.
 ///
 /// Contracts see the statement, the line, the rows that are left, the row just given, and the steps that may still be taken.
 #[derive(Drop)]
 pub struct RowsOf<'d> {
     alloc: Global,
     bound: &'d Bound,
-    operations: Vec<Operation<'d>>,
     line: LineDoc<'d>,
+    source: RowSource<'d>,
     stage: Stage,
-    pile: Pile,
 }
 
 impl<'d> Model for RowsOf<'d> {
@@ -62,16 +124,14 @@ impl<'d> Model for RowsOf<'d> {
 
     ghost coded = { seen_code };
 
-    ghost use Rattle.std.specs.Prelude.{All as Each};
     ghost use Rattle.sj_bind.specs.View.{bound_of};
-    ghost use Rattle.sj_value.specs.Values.{IsPrintable};
     ghost use Rattle.sj_select.specs.Line.{line_of};
-    ghost use Rattle.sj_select.specs.Operations.{steps_of};
-    ghost use Rattle.sj_select.specs.Stages.{AreFor, left_at, due_at};
+    ghost use Rattle.sj_select.specs.Sources.{IsFor, IsReadySource, source_left, source_due};
+    ghost use Rattle.sj_select.specs.Stages.{left_at, due_at};
 
-    ghost view = { λ r. record { bound = r.bound.now; line = line_of r.line; left = left_at r.stage (bound_of r.bound.now) (line_of r.line); row = r.pile.values.items; due = due_at r.stage (bound_of r.bound.now) (line_of r.line) } };
+    ghost view = { λ r. record { bound = r.bound.now; line = line_of r.line; left = left_at r.stage (source_left (bound_of r.bound.now) (line_of r.line) r.source); row = r.source.pile.values.items; due = due_at r.stage (source_due (bound_of r.bound.now) (line_of r.line) r.source) } };
 
-    ghost invariant = { λ r. AreFor (bound_of r.bound.now) (steps_of r.operations.items) × Each IsPrintable r.pile.values.items };
+    ghost invariant = { λ r. IsReadySource r.source × IsFor (bound_of r.bound.now) r.source };
 }
 
 impl<'d> RowsOf<'d> {
@@ -80,22 +140,21 @@ impl<'d> RowsOf<'d> {
     /// # Errors
     /// [`Memory`] where memory runs out.
     pub fn new(alloc: Global, bound: &'d Bound, line: LineDoc<'d>) -> Result<RowsOf<'d>, Memory>
-        requires plain { IsPlain (bound_of bound.now) }
-        requires sound { IsSound (bound_of bound.now) }
+        requires { IsSound (bound_of bound.now) }
         ensures bound { IfOk result (λ r. r.bound ≡ bound.now) }
         ensures line { IfOk result (λ r. r.line ≡ line_of line.entry) }
-        ensures left { IfOk result (λ r. r.left ≡ plain_rows (bound_of bound.now) (line_of line.entry)) }
+        ensures left { IfOk result (λ r. r.left ≡ statement_rows (bound_of bound.now) (line_of line.entry)) }
         ensures row { IfOk result (λ r. r.row ≡ []) }
-        ensures due { IfOk result (λ r. r.due ≡ plain_cost (bound_of bound.now) (line_of line.entry)) }
+        ensures due { IfOk result (λ r. r.due ≡ statement_cost (bound_of bound.now) (line_of line.entry)) }
     {
-        let operations = operations_of(alloc, bound)?;
+        let mut source = RowSource::new(alloc, bound)?;
+        source.rewind(line);
         Ok(RowsOf {
             alloc,
             bound,
-            operations,
             line,
-            stage: Stage::Before,
-            pile: Pile::new(alloc),
+            source,
+            stage: Stage::Going,
         })
     }
 
@@ -103,48 +162,33 @@ impl<'d> RowsOf<'d> {
     pub fn rewind(&mut self, line: LineDoc<'d>)
         ensures bound { self.new.bound ≡ self.old.bound }
         ensures line { self.new.line ≡ line_of line.entry }
-        ensures left { self.new.left ≡ plain_rows (bound_of self.old.bound) (line_of line.entry) }
+        ensures left { self.new.left ≡ statement_rows (bound_of self.old.bound) (line_of line.entry) }
         ensures row { self.new.row ≡ [] }
-        ensures due { self.new.due ≡ plain_cost (bound_of self.old.bound) (line_of line.entry) }
+        ensures due { self.new.due ≡ statement_cost (bound_of self.old.bound) (line_of line.entry) }
     {
         self.line = line;
-        self.stage = Stage::Before;
-        self.pile.clear();
+        self.stage = Stage::Going;
+        self.source.rewind(line);
     }
 
-    /// The next row, or the end. After an end the same end comes again, without a step. The counter rises by no more than what is
-    /// due falls.
+    /// Goes to the next row, or tells the end. After an end the same end comes again, without a step. What is due never grows, and
+    /// the counter rises by no more than it falls.
     ///
     /// # Errors
-    /// [`Memory`] where memory runs out. The rows then stand anywhere, and are rewound before they are used again.
+    /// [`Memory`] where memory runs out. What is said of the counter holds then too. The rows then stand anywhere, and are rewound before
+    /// they are used again.
     pub fn next<L: Ledger>(&mut self, steps: &mut Steps<L>) -> Result<Turn, Memory>
-        ensures gives { IfOk result (λ turn. Gives self.old.left.rows self.old.left.raised turn self.new) }
-        ensures costs { raised steps.new self.new.due ≤ raised steps.old self.old.due }
+        ensures gives { IfOk result (Gives self.old self.new) }
+        ensures spends { Spends self.old.due self.new.due steps.old steps.new }
         ensures bound { self.new.bound ≡ self.old.bound }
         ensures line { self.new.line ≡ self.old.line }
     {
-        self.pile.clear();
-        match self.stage {
-            Stage::Before => {
-                self.stage = Stage::Ended;
-                let raised = find(
-                    self.alloc,
-                    self.operations.as_mut_slice(),
-                    self.line,
-                    &[],
-                    &mut self.pile,
-                    steps,
-                )?;
-                let Some(state) = raised else {
-                    return Ok(Turn::Row);
-                };
-                self.pile.clear();
-                self.stage = Stage::Raised(state);
-                Ok(Turn::Raised(state))
-            }
-            Stage::Ended => Ok(Turn::End),
-            Stage::Raised(state) => Ok(Turn::Raised(state)),
-        }
+        // Where memory runs out, nothing is left.
+        let stage = mem::replace(&mut self.stage, Stage::Ended);
+        let found = stage.find(self.alloc, &mut self.source, self.line, steps)?;
+        self.stage = Stage::behind(found);
+        keep_row(found, &mut self.source.pile);
+        Ok(Turn::of(found))
     }
 
     /// The row just given. Before the first row and after an end it is empty. Its values can be printed.
@@ -152,6 +196,6 @@ impl<'d> RowsOf<'d> {
         ensures is { result.now ≡ self.now.row }
         ensures printable { All IsPrintable result.now }
     {
-        self.pile.values.as_slice()
+        self.source.pile.values.as_slice()
     }
 }

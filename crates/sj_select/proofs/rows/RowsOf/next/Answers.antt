@@ -1,33 +1,61 @@
-use Rattle.std.proofs.Common.{refl, ap, sym, ◌∙◌}
+use Rattle.std.proofs.Common.{◌≡◌, ℕ, ◌∙◌, sym, ap, subst}
+use Rattle.sj_table.specs.Series.{first, rest}
+use Rattle.sj_table.specs.Takes.{Spends}
 use Rattle.sj_bind.specs.View.{bound_of}
 use Rattle.sj_select.specs.Line.{line_of}
-use Rattle.sj_select.specs.Seen.{Seen}
-use Rattle.sj_select.specs.Stages.{left_at, due_at}
+use Rattle.sj_select.specs.Seen.{Seen, turn_of, due_behind}
+use Rattle.sj_select.specs.Sources.{source_left, source_due, found_due}
+use Rattle.sj_select.specs.Stages.{left_at, due_at, stage_behind}
 use Rattle.sj_select.specs.declared.rows.Stage.{Stage}
-use Rattle.sj_select.proofs.Turns.{empty_held, are_for, gives_row, gives_raised, spends}
+use Rattle.sj_select.specs.declared.rows.Turn.{Turn}
+use Rattle.sj_select.proofs.Turning.{turn_is, row_is, rest_is, due_is, due_found}
 use Rattle.sj_select.proofs.rows.RowsOf.next.Goals as goal
 
-pub returns-in_err-raised-in-Before-clause-costs : goal.returns-in_err-raised-in-Before-clause-costs
-returns-in_err-raised-in-Before-clause-costs g c =
-    let due = sym (ap (λ (s : Seen). s.due) c.self.view_is) ∙ ap (λ (s : Stage). due_at s (bound_of c.self.inside.bound.now) (line_of c.self.inside.line)) c.in-Before.is in
-    spends (bound_of c.self.inside.bound.now) (line_of c.self.inside.line) _ _ (are_for _ _ _ c.self.invariant.0 c.as_mut_slice.ensures.value) (empty_held c.clear.new.self c.clear.ensures.values c.clear.ensures.members) _ _ _ due c.find.ensures.costs
+pub invariant_of-self : goal.invariant_of-self
+invariant_of-self g c = (c.find.ensures.ready, c.find.ensures.is_for (bound_of c.self.inside.bound.now) c.self.invariant.1)
 
-pub returns-in_default-clause-gives : goal.returns-in_default-clause-gives
-returns-in_default-clause-gives g c =
-    let left = sym (ap (λ (s : Seen). s.left) c.self.view_is) ∙ ap (λ (s : Stage). left_at s (bound_of c.self.inside.bound.now) (line_of c.self.inside.line)) c.in-Before.is in
-    gives_row (bound_of c.self.inside.bound.now) (line_of c.self.inside.line) _ _ (are_for _ _ _ c.self.invariant.0 c.as_mut_slice.ensures.value) (empty_held c.clear.new.self c.clear.ensures.values c.clear.ensures.members) _ _ _ left (rw c.in_default.is at c.in_ok-raised-in-Before.ensures.finds) refl refl
+pub returns-in_err-found-clause-spends : goal.returns-in_err-found-clause-spends
+returns-in_err-found-clause-spends g c =
+    let s = bound_of c.self.inside.bound.now in
+    let line = line_of c.self.inside.line in
+    let due = source_due s line c.self.inside.source in
+    let was : due_at c.replace-stage.result due ≡ c.args.self.now.due = ap (λ (t : Stage). due_at t due) c.replace-stage.ensures.value ∙ ap (λ (v : Seen). v.due) c.self.view_is in
+    let none : due_at c.replace-stage.new.dest (source_due s line c.find.new.source) ≡ 0 = ap (λ (t : Stage). due_at t (source_due s line c.find.new.source)) c.replace-stage.ensures.after in
+    subst (λ (n : ℕ). Spends c.args.self.now.due n c.args.steps.now c.find.new.steps) (sym none)
+    (subst (λ (n : ℕ). Spends n 0 c.args.steps.now c.find.new.steps) was (c.in_err-found.ensures.costs s c.self.invariant.1))
 
-pub returns-in_default-clause-costs : goal.returns-in_default-clause-costs
-returns-in_default-clause-costs g c =
-    let due = sym (ap (λ (s : Seen). s.due) c.self.view_is) ∙ ap (λ (s : Stage). due_at s (bound_of c.self.inside.bound.now) (line_of c.self.inside.line)) c.in-Before.is in
-    spends (bound_of c.self.inside.bound.now) (line_of c.self.inside.line) _ _ (are_for _ _ _ c.self.invariant.0 c.as_mut_slice.ensures.value) (empty_held c.clear.new.self c.clear.ensures.values c.clear.ensures.members) _ _ _ due c.find.ensures.costs
+pub invariant_of-self-2 : goal.invariant_of-self-2
+invariant_of-self-2 g c =
+    let is = c.find.ensures.is_for (bound_of c.self.inside.bound.now) c.self.invariant.1 in
+    let ready = c.find.ensures.ready in
+    (record { given = ready.given; aggregates = ready.aggregates; table = ready.table; printable = c.keep_row.ensures.printable }, record { finds = is.finds; takes = is.takes; table = is.table })
 
-pub returns-in-Some-clause-gives : goal.returns-in-Some-clause-gives
-returns-in-Some-clause-gives g c =
-    let left = sym (ap (λ (s : Seen). s.left) c.self.view_is) ∙ ap (λ (s : Stage). left_at s (bound_of c.self.inside.bound.now) (line_of c.self.inside.line)) c.in-Before.is in
-    gives_raised (bound_of c.self.inside.bound.now) (line_of c.self.inside.line) _ _ (are_for _ _ _ c.self.invariant.0 c.as_mut_slice.ensures.value) (empty_held c.clear.new.self c.clear.ensures.values c.clear.ensures.members) _ _ _ left (rw c.in-Some.is at c.in_ok-raised-in-Before.ensures.finds) c.clear-in-Before.ensures.values refl
+pub returns-clause-gives : goal.returns-clause-gives
+returns-clause-gives g c =
+    let s = bound_of c.self.inside.bound.now in
+    let line = line_of c.self.inside.line in
+    let f = c.in_ok-found.found in
+    let left = left_at c.replace-stage.result (source_left s line c.self.inside.source) in
+    let later = source_left s line c.find.new.source in
+    let due = source_due s line c.find.new.source in
+    let row = c.find.new.source.pile.values.items in
+    let finds = c.in_ok-found.ensures.finds s c.self.invariant.1 in
+    let was : left ≡ c.args.self.now.left = ap (λ (t : Stage). left_at t (source_left s line c.self.inside.source)) c.replace-stage.ensures.value ∙ ap (λ (v : Seen). v.left) c.self.view_is in
+    record {
+      answers = c.of.ensures ∙ turn_is left row later f finds ∙ ap turn_of was;
+      gives = c.keep_row.ensures.row ∙ row_is left row later f finds ∙ ap first was;
+      leaves = ap (λ (t : Stage). left_at t later) c.behind-self-inside.ensures ∙ rest_is left row later f finds ∙ ap rest was;
+      ends = ap (λ (t : Stage). due_at t due) c.behind-self-inside.ensures ∙ due_is f due ∙ ap (λ (t : Turn). due_behind t (due_at (stage_behind f) due)) (sym c.of.ensures)
+          ∙ ap (λ (t : Stage). due_behind c.of.result (due_at t due)) (sym c.behind-self-inside.ensures);
+    }
 
-pub returns-in-Some-clause-costs : goal.returns-in-Some-clause-costs
-returns-in-Some-clause-costs g c =
-    let due = sym (ap (λ (s : Seen). s.due) c.self.view_is) ∙ ap (λ (s : Stage). due_at s (bound_of c.self.inside.bound.now) (line_of c.self.inside.line)) c.in-Before.is in
-    spends (bound_of c.self.inside.bound.now) (line_of c.self.inside.line) _ _ (are_for _ _ _ c.self.invariant.0 c.as_mut_slice.ensures.value) (empty_held c.clear.new.self c.clear.ensures.values c.clear.ensures.members) _ _ _ due c.find.ensures.costs
+pub returns-clause-spends : goal.returns-clause-spends
+returns-clause-spends g c =
+    let s = bound_of c.self.inside.bound.now in
+    let line = line_of c.self.inside.line in
+    let due = source_due s line c.self.inside.source in
+    let later = source_due s line c.find.new.source in
+    let was : due_at c.replace-stage.result due ≡ c.args.self.now.due = ap (λ (t : Stage). due_at t due) c.replace-stage.ensures.value ∙ ap (λ (v : Seen). v.due) c.self.view_is in
+    let left = due_found c.in_ok-found.found later ∙ ap (λ (t : Stage). due_at t later) (sym c.behind-self-inside.ensures) in
+    subst (λ (n : ℕ). Spends c.args.self.now.due n c.args.steps.now c.find.new.steps) left
+    (subst (λ (n : ℕ). Spends n (found_due c.in_ok-found.found later) c.args.steps.now c.find.new.steps) was (c.in_ok-found.ensures.costs s c.self.invariant.1))

@@ -1,0 +1,17 @@
+-- Steps that are taken one after another.
+use Rattle.std.proofs.Common.{◌≤◌, ℕ, ◌+◌, arith}
+use Rattle.sj_base.specs.Outside.{raised}
+use Rattle.sj_table.specs.Takes.{Spends}
+
+pub spent_none : (m a : ℕ) → m ≤ raised m a
+spent_none m a = omega arith
+
+pub spent_then : (m a n b k : ℕ) → n ≤ raised m a → k ≤ raised n b → k ≤ raised m (a + b)
+spent_then m a n b k first second = omega (arith, first, second)
+
+pub spent_less : (m a b n : ℕ) → a ≤ b → n ≤ raised m a → n ≤ raised m b
+spent_less m a b n less spent = omega (arith, less, spent)
+
+-- what is due falls by what is spent, at least
+pub falls_by : (due due' spent m n : ℕ) → due' + spent ≤ due → n ≤ raised m spent → Spends due due' m n
+falls_by due due' spent m n falls spends = record { falls = omega (arith, falls); costs = omega (arith, falls, spends) }

@@ -1,0 +1,24 @@
+use Rattle.std.proofs.Common.{Option, sym, subst}
+use Rattle.std.specs.List.{All}
+use Rattle.std.proofs.lemmas.List.Elements.{All-nil}
+use Rattle.sj_value.specs.Values.{IsPrintable}
+use Rattle.sj_bind.specs.View.{bound_of}
+use Rattle.sj_select.specs.Performing.{CanBeGiven}
+use Rattle.sj_select.specs.Sources.{IsPlacedIfAny}
+use Rattle.sj_select.specs.declared.table.TableRows.{TableRows}
+use Rattle.sj_select.proofs.Sounds.{sound_steps}
+use Rattle.sj_select.proofs.source.RowSource.new.Goals.{in-Some+in_ok-new-in-Some, in-None}
+use Rattle.sj_select.proofs.source.RowSource.new.Goals as goal
+
+pub returns-clause-ready : goal.returns-clause-ready
+returns-clause-ready c =
+    let placed : IsPlacedIfAny c.match-bound.table = elim c.match-bound.branch [
+      | in-Some+in_ok-new-in-Some w ↦ subst (λ (t : Option TableRows). IsPlacedIfAny t) (sym w.table-is) w.in_ok-new-in-Some.ensures.placed
+      | in-None w ↦ subst (λ (t : Option TableRows). IsPlacedIfAny t) (sym w.table-is) tt
+    ] in
+    record {
+      given = subst (All CanBeGiven) (sym c.in_ok-operations_of.ensures) (sound_steps (bound_of c.args.bound.now) c.requires);
+      aggregates = c.in_ok-aggregates_of.ensures.ready;
+      table = placed;
+      printable = subst (All IsPrintable) (sym c.new-2.ensures.values) (All-nil IsPrintable);
+    }

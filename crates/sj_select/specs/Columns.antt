@@ -1,0 +1,74 @@
+-- THE COLUMNS OF A TABLE in one of the rows of its plan (ISO/IEC 9075-2, JSON table).
+use Rattle.std.specs.Prelude.{ℕ, List, map, Option, Some, None, Result, pos}
+use Rattle.sj_base.specs.declared.state.State.{State}
+use Rattle.sj_item.specs.Items.{ItemValue}
+use Rattle.sj_path.specs.Vars.{Named}
+use Rattle.sj_value.specs.declared.clauses.QuerySpec.{QuerySpec}
+use Rattle.sj_value.specs.declared.clauses.ValueSpec.{ValueSpec}
+use Rattle.sj_value.specs.declared.value.SqlValue.{SqlValue}
+use Rattle.sj_value.specs.declared.value.SqlValue.TheVariants.{Null, Num}
+use Rattle.sj_func.specs.Functions.{on_item, value_outcome, value_cost, query_outcome, query_cost}
+use Rattle.sj_func.specs.declared.context.Outcome.{Outcome}
+use Rattle.sj_func.specs.declared.context.Outcome.TheVariants.{Value}
+use Rattle.sj_table.specs.Rows.{Row, entry}
+use Rattle.sj_bind.specs.Bound as b
+use Rattle.sj_bind.specs.Bound.{PathWith}
+use Rattle.sj_select.specs.Values.{trace_of, each_value, each_cost}
+
+-- a column of the path of this number, with the variables that are passed to the table
+pub data Column : Type 0 where
+  ordinality : ℕ → Column
+  regular : ℕ → PathWith → ValueSpec → Column
+  formatted : ℕ → PathWith → QuerySpec → Column
+
+abbrev pub with_variables : Named → b.ColumnOf → Column
+with_variables vars (b.Ordinality n) = ordinality n
+with_variables vars (b.Regular n path clauses) = regular n (record { path = path; vars = vars }) clauses
+with_variables vars (b.Formatted n path clauses) = formatted n (record { path = path; vars = vars }) clauses
+
+abbrev pub columns_of : b.Table → List Column
+columns_of table = map (with_variables table.vars) table.columns
+
+-- ---- one column, of the entry that its path has in the row: NULL where it has none
+
+abbrev pub ordinality_of : Option (ItemValue × ℕ) → Outcome
+ordinality_of None = Value Null
+ordinality_of (Some e) = Value (Num (pos e.1, 0) 0)
+
+-- JSON_VALUE on the item
+abbrev pub regular_of : PathWith → ValueSpec → Option (ItemValue × ℕ) → Outcome
+regular_of x clauses None = Value Null
+regular_of x clauses (Some e) = value_outcome clauses x.path.mode (on_item e.0) (trace_of x)
+
+-- JSON_QUERY on the item
+abbrev pub formatted_of : PathWith → QuerySpec → Option (ItemValue × ℕ) → Outcome
+formatted_of x clauses None = Value Null
+formatted_of x clauses (Some e) = query_outcome clauses x.path.mode (on_item e.0) (trace_of x)
+
+abbrev pub column_outcome : Row → Column → Outcome
+column_outcome row (ordinality n) = ordinality_of (entry n row)
+column_outcome row (regular n x clauses) = regular_of x clauses (entry n row)
+column_outcome row (formatted n x clauses) = formatted_of x clauses (entry n row)
+
+-- ---- the steps that it may take
+
+abbrev pub regular_cost : PathWith → Option (ItemValue × ℕ) → ℕ
+regular_cost x None = 0
+regular_cost x (Some e) = value_cost x.path.mode (on_item e.0) (trace_of x)
+
+abbrev pub formatted_cost : PathWith → QuerySpec → Option (ItemValue × ℕ) → ℕ
+formatted_cost x clauses None = 0
+formatted_cost x clauses (Some e) = query_cost clauses.wrapper x.path.mode (on_item e.0) (trace_of x)
+
+abbrev pub column_cost : Row → Column → ℕ
+column_cost row (ordinality n) = 0
+column_cost row (regular n x clauses) = regular_cost x (entry n row)
+column_cost row (formatted n x clauses) = formatted_cost x clauses (entry n row)
+
+-- ---- all columns in their order, or the first state
+
+abbrev pub columns_given : List Column → Row → Result (List SqlValue) State
+columns_given columns row = each_value (column_outcome row) columns
+
+abbrev pub columns_cost : List Column → Row → ℕ
+columns_cost columns row = each_cost (column_outcome row) (column_cost row) columns

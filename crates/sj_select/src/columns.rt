@@ -1,0 +1,189 @@
+// The columns of a table in one row of its plan.
+ghost use Rattle.std.specs.Prelude.{◌≡◌, ◌≤◌, All, IfOk, map, option_map};
+ghost use Rattle.sj_base.specs.Outside.{raised};
+ghost use Rattle.sj_value.specs.Values.{IsPrintable};
+ghost use Rattle.sj_func.specs.Functions.{IsPrinted};
+ghost use Rattle.sj_table.specs.Rows.{entry_value};
+ghost use Rattle.sj_bind.specs.View as bound;
+ghost use Rattle.sj_select.specs.Columns.{column_outcome, column_cost, columns_given, columns_cost, ordinality_of, with_variables};
+ghost use Rattle.sj_select.specs.Filling.{column_of, regular_column, formatted_column, CanFill, Gathers};
+
+use crate::operation::{QueryCall, ValueCall};
+use sj_base::{Ledger, Memory, State, Steps};
+use sj_bind::{BoundColumn, BoundTable};
+use sj_cursor::Cursor;
+use sj_func::{Context, Outcome};
+use sj_item::Item;
+use sj_path::Vars;
+use sj_step::whole_number;
+use sj_table::TableCursor;
+use sj_value::SqlValue;
+use std::alloc::Global;
+
+/// A column.
+#[derive(Drop)]
+pub(crate) enum Column<'d> {
+    /// FOR ORDINALITY, of the path of this number.
+    Ordinality(u32),
+    Regular(RegularColumn<'d>),
+    Formatted(FormattedColumn<'d>),
+}
+
+/// JSON_VALUE on the items of the path of this number. The cursor takes its memory once and is moved from row to row.
+#[derive(Drop)]
+pub(crate) struct RegularColumn<'d> {
+    pub(crate) path: u32,
+    pub(crate) call: ValueCall<'d>,
+}
+
+/// FORMAT JSON: JSON_QUERY on the items of the path of this number.
+#[derive(Drop)]
+pub(crate) struct FormattedColumn<'d> {
+    pub(crate) path: u32,
+    pub(crate) call: QueryCall<'d>,
+}
+
+impl<'d> Column<'d> {
+    /// A column with the variables that are passed to its table.
+    fn new(alloc: Global, column: &'d BoundColumn, vars: &'d Vars) -> Result<Column<'d>, Memory>
+        ensures { IfOk result (λ c. column_of c ≡ with_variables vars.now (bound.column_of column.now)) }
+    {
+        match column {
+            BoundColumn::Ordinality(path) => Ok(Column::Ordinality(*path)),
+            BoundColumn::Regular(number, path, clauses) => {
+                let cursor = Cursor::new(alloc, path, vars, Item::Null)?;
+                let call = ValueCall { cursor, clauses };
+                Ok(Column::Regular(RegularColumn {
+                    path: *number,
+                    call,
+                }))
+            }
+            BoundColumn::Formatted(number, path, clauses) => {
+                let cursor = Cursor::new(alloc, path, vars, Item::Null)?;
+                let call = QueryCall {
+                    cursor,
+                    clauses: *clauses,
+                };
+                Ok(Column::Formatted(FormattedColumn {
+                    path: *number,
+                    call,
+                }))
+            }
+        }
+    }
+
+    // The value in the row at hand: NULL where its path has no item there.
+    fn outcome<L: Ledger>(
+        &mut self,
+        alloc: Global,
+        row: &TableCursor<'d>,
+        steps: &mut Steps<L>,
+    ) -> Result<Outcome, Memory>
+        requires { CanFill (column_of self.old) }
+        ensures outcome { IfOk result (λ o. o ≡ column_outcome row.now.given (column_of self.old)) }
+        ensures printed { IfOk result IsPrinted }
+        ensures costs { steps.new ≤ raised steps.old (column_cost row.now.given (column_of self.old)) }
+        ensures column { column_of self.new ≡ column_of self.old }
+    {
+        match self {
+            Column::Ordinality(path) => Ok(ordinality(row.at(*path))),
+            Column::Regular(column) => column.outcome(alloc, row, steps),
+            Column::Formatted(column) => column.outcome(alloc, row, steps),
+        }
+    }
+}
+
+impl<'d> RegularColumn<'d> {
+    fn outcome<L: Ledger>(
+        &mut self,
+        alloc: Global,
+        row: &TableCursor<'d>,
+        steps: &mut Steps<L>,
+    ) -> Result<Outcome, Memory>
+        requires { CanFill (regular_column self.old) }
+        ensures outcome { IfOk result (λ o. o ≡ column_outcome row.now.given (regular_column self.old)) }
+        ensures printed { IfOk result IsPrinted }
+        ensures costs { steps.new ≤ raised steps.old (column_cost row.now.given (regular_column self.old)) }
+        ensures column { regular_column self.new ≡ regular_column self.old }
+    {
+        match row.at(self.path) {
+            Some((item, _)) => self.call.outcome(alloc, Context::Item(item), steps),
+            None => Ok(Outcome::Value(SqlValue::Null)),
+        }
+    }
+}
+
+impl<'d> FormattedColumn<'d> {
+    fn outcome<L: Ledger>(
+        &mut self,
+        alloc: Global,
+        row: &TableCursor<'d>,
+        steps: &mut Steps<L>,
+    ) -> Result<Outcome, Memory>
+        ensures outcome { IfOk result (λ o. o ≡ column_outcome row.now.given (formatted_column self.old)) }
+        ensures printed { IfOk result IsPrinted }
+        ensures costs { steps.new ≤ raised steps.old (column_cost row.now.given (formatted_column self.old)) }
+        ensures column { formatted_column self.new ≡ formatted_column self.old }
+    {
+        match row.at(self.path) {
+            Some((item, _)) => self.call.outcome(alloc, Context::Item(item), steps),
+            None => Ok(Outcome::Value(SqlValue::Null)),
+        }
+    }
+}
+
+// The number of an entry, or NULL where there is none.
+fn ordinality(found: Option<(Item<'_>, u64)>) -> Outcome
+    ensures outcome { result ≡ ordinality_of (option_map entry_value found.entry) }
+    ensures printed { IsPrinted result }
+{
+    match found {
+        Some((_, ordinal)) => {
+            let number = whole_number(ordinal as i128).value();
+            Outcome::Value(SqlValue::Num(number, 0))
+        }
+        None => Outcome::Value(SqlValue::Null),
+    }
+}
+
+/// The columns of a table in their order. Their cursors take their memory here.
+pub(crate) fn columns_of<'d>(
+    alloc: Global,
+    table: &'d BoundTable,
+) -> Result<Vec<Column<'d>>, Memory>
+    ensures { IfOk result (λ columns. map column_of columns.items ≡ map (with_variables table.now.vars) (bound.columns_of table.now.columns)) }
+{
+    let mut columns = Vec::with_capacity(alloc, table.columns.len() as usize)?;
+    for column in table.columns.as_slice() {
+        columns.push(Column::new(alloc, column, &table.vars)?)?;
+    }
+    Ok(columns)
+}
+
+/// Puts the values of the columns in the row at hand in the place of those that were there, up to the first that raises a state, which is given.
+/// The counter rises by no more than what they may take up to there.
+///
+/// # Errors
+/// [`Memory`] where memory runs out. What is said of the counter holds then too.
+pub(crate) fn fill<'d, L: Ledger>(
+    alloc: Global,
+    columns: &mut [Column<'d>],
+    row: &TableCursor<'d>,
+    values: &mut Vec<SqlValue>,
+    steps: &mut Steps<L>,
+) -> Result<Option<State>, Memory>
+    requires { All CanFill (map column_of columns.old) }
+    ensures fills { IfOk result (λ raised. Gathers (columns_given (map column_of columns.old) row.now.given) raised values.new.items) }
+    ensures costs { steps.new ≤ raised steps.old (columns_cost (map column_of columns.old) row.now.given) }
+    ensures columns { map column_of columns.new ≡ map column_of columns.old }
+    ensures printable { All IsPrintable values.new.items }
+{
+    values.clear();
+    for column in columns.iter_mut() {
+        match column.outcome(alloc, row, steps)? {
+            Outcome::Value(value) => values.push(value)?,
+            Outcome::Raised(state) => return Ok(Some(state)),
+        }
+    }
+    Ok(None)
+}

@@ -1,0 +1,295 @@
+// What the rows of a statement are made of, and how the next one is found.
+ghost use Rattle.std.specs.Prelude.{◌≡◌, ◌≤◌, ℕ, ◌+◌, [], List, All, IfOk, map};
+ghost use Rattle.sj_base.specs.Outside.{raised};
+ghost use Rattle.sj_value.specs.Values.{IsPrintable};
+ghost use Rattle.sj_value.specs.declared.value.SqlValue.{SqlValue as Value};
+ghost use Rattle.sj_table.specs.Takes.{Spends};
+ghost use Rattle.sj_bind.specs.Bound as b;
+ghost use Rattle.sj_bind.specs.Sound.{IsSound};
+ghost use Rattle.sj_bind.specs.View.{bound_of, table_of};
+ghost use Rattle.sj_select.specs.Filling.{Gathers};
+ghost use Rattle.sj_select.specs.Line.{line_of};
+ghost use Rattle.sj_select.specs.Operations.{steps_of, steps_to_all};
+ghost use Rattle.sj_select.specs.Performing.{CanBeGiven};
+ghost use Rattle.sj_select.specs.Rows.{StatementRows, one_row, listed, aggregated, aggregated_cost, statement_rows, statement_cost};
+ghost use Rattle.sj_select.specs.Sources.{IsFor, IsReadySource, source_left, source_due, listed_due, due_behind, Finds, TakesRow, TakesRows, taken_cost};
+ghost use Rattle.sj_select.specs.Tables.{IsPlaced, plan_left, plan_due};
+ghost use Rattle.sj_select.specs.Taking.{IsReady, HasTaken, aggregate_of};
+ghost use Rattle.sj_select.specs.Values.{given_list, list_cost};
+
+use crate::aggregate::{Aggregate, aggregates_of, begin_all, finish_all, take_all};
+use crate::build::operations_of;
+use crate::find::find;
+use crate::line::LineDoc;
+use crate::operation::Operation;
+use crate::pile::Pile;
+use crate::table::TableRows;
+use sj_base::{Ledger, Memory, State, Steps};
+use sj_bind::Bound;
+use sj_table::RowPull;
+use sj_value::SqlValue;
+use std::alloc::Global;
+
+/// What was found in the place of the next row.
+#[derive(Clone, Copy)]
+pub(crate) enum Found {
+    /// A row, behind which there may be more.
+    Row,
+    /// The last row.
+    LastRow,
+    /// No row is left.
+    End,
+    /// No row is left, and this state is raised.
+    Raised(State),
+}
+
+/// What the rows of a statement are made of. Its cursors take their memory once, and then go from line to line.
+#[derive(Drop)]
+pub(crate) struct RowSource<'d> {
+    /// The table, where there is one.
+    pub(crate) table: Option<TableRows<'d>>,
+    /// The operations that find the values of the SELECT list.
+    pub(crate) operations: Vec<Operation<'d>>,
+    /// The aggregates of the SELECT list.
+    pub(crate) aggregates: Vec<Aggregate<'d>>,
+    /// The values of the row that was found last.
+    pub(crate) pile: Pile,
+}
+
+impl<'d> RowSource<'d> {
+    /// Of a statement, on no line yet.
+    ///
+    /// # Errors
+    /// [`Memory`] where memory runs out.
+    pub(crate) fn new(alloc: Global, bound: &'d Bound) -> Result<RowSource<'d>, Memory>
+        requires { IsSound (bound_of bound.now) }
+        ensures ready { IfOk result IsReadySource }
+        ensures is_for { IfOk result (IsFor (bound_of bound.now)) }
+    {
+        let table = match &bound.table {
+            Some(table) => Some(TableRows::new(alloc, table)?),
+            None => None,
+        };
+        Ok(RowSource {
+            table,
+            operations: operations_of(alloc, bound)?,
+            aggregates: aggregates_of(alloc, bound.items.as_slice())?,
+            pile: Pile::new(alloc),
+        })
+    }
+
+    /// From the first row on, for another line. It takes no memory.
+    pub(crate) fn rewind(&mut self, line: LineDoc<'d>)
+        requires { IsReadySource self.old }
+        ensures left { (s : b.Bound) → IsFor s self.old → source_left s (line_of line.entry) self.new ≡ statement_rows s (line_of line.entry) }
+        ensures due { (s : b.Bound) → IsFor s self.old → source_due s (line_of line.entry) self.new ≡ statement_cost s (line_of line.entry) }
+        ensures is_for { (s : b.Bound) → IsFor s self.old → IsFor s self.new }
+        ensures empty { self.new.pile.values.items ≡ [] }
+        ensures ready { IsReadySource self.new }
+    {
+        if let Some(table) = &mut self.table {
+            table.rewind(line.context());
+        }
+        self.pile.clear();
+    }
+
+    /// What comes next of the rows for a line, which is that of the last rewinding. The counter rises by no more than what may still be
+    /// taken falls.
+    ///
+    /// # Errors
+    /// [`Memory`] where memory runs out. The rows then stand anywhere.
+    pub(crate) fn find<L: Ledger>(
+        &mut self,
+        alloc: Global,
+        line: LineDoc<'d>,
+        steps: &mut Steps<L>,
+    ) -> Result<Found, Memory>
+        requires { IsReadySource self.old }
+        ensures finds { (s : b.Bound) → IsFor s self.old → IfOk result (λ found. Finds (source_left s (line_of line.entry) self.old) found self.new.pile.values.items (source_left s (line_of line.entry) self.new)) }
+        ensures costs { (s : b.Bound) → IsFor s self.old → Spends (source_due s (line_of line.entry) self.old) (due_behind result (source_due s (line_of line.entry) self.new)) steps.old steps.new }
+        ensures is_for { (s : b.Bound) → IsFor s self.old → IsFor s self.new }
+        ensures ready { IsReadySource self.new }
+    {
+        let operations = self.operations.as_mut_slice();
+        let Some(table) = &mut self.table else {
+            return find_alone(alloc, operations, line, &mut self.pile, steps);
+        };
+        if self.aggregates.is_empty() {
+            find_listed(alloc, table, operations, line, &mut self.pile, steps)
+        } else {
+            let aggregates = self.aggregates.as_mut_slice();
+            find_aggregated(alloc, table, aggregates, line, &mut self.pile, steps)
+        }
+    }
+}
+
+// The values of a SELECT list beside columns with these values, in the place of those that were found before, or the state that the first
+// of them raises.
+fn find_list<'d, L: Ledger>(
+    alloc: Global,
+    operations: &mut [Operation<'d>],
+    line: LineDoc<'d>,
+    columns: &[SqlValue],
+    pile: &mut Pile,
+    steps: &mut Steps<L>,
+) -> Result<Option<State>, Memory>
+    requires columns { All IsPrintable columns.now }
+    requires given { All CanBeGiven (steps_of operations.old) }
+    ensures finds { (list : List b.Value) → steps_of operations.old ≡ steps_to_all list →
+        IfOk result (λ raised. Gathers (given_list (line_of line.entry) columns.now list) raised pile.new.values.items) }
+    ensures costs { (list : List b.Value) → steps_of operations.old ≡ steps_to_all list →
+        steps.new ≤ raised steps.old (list_cost (line_of line.entry) columns.now list) }
+    ensures steps { steps_of operations.new ≡ steps_of operations.old }
+    ensures printable { All IsPrintable pile.new.values.items }
+{
+    pile.clear();
+    find(alloc, operations, line, columns, pile, steps)
+}
+
+// The row of a statement without a table.
+fn find_alone<'d, L: Ledger>(
+    alloc: Global,
+    operations: &mut [Operation<'d>],
+    line: LineDoc<'d>,
+    pile: &mut Pile,
+    steps: &mut Steps<L>,
+) -> Result<Found, Memory>
+    requires { All CanBeGiven (steps_of operations.old) }
+    ensures finds { (list : List b.Value) (left : StatementRows) → steps_of operations.old ≡ steps_to_all list →
+        IfOk result (λ found. Finds (one_row (given_list (line_of line.entry) [] list)) found pile.new.values.items left) }
+    ensures costs { (list : List b.Value) (due : ℕ) → steps_of operations.old ≡ steps_to_all list →
+        Spends (list_cost (line_of line.entry) [] list) (due_behind result due) steps.old steps.new }
+    ensures steps { steps_of operations.new ≡ steps_of operations.old }
+    ensures printable { All IsPrintable pile.new.values.items }
+{
+    match find_list(alloc, operations, line, &[], pile, steps)? {
+        None => Ok(Found::LastRow),
+        Some(state) => Ok(Found::Raised(state)),
+    }
+}
+
+// The next row of a table, beside which the SELECT list is found.
+fn find_listed<'d, L: Ledger>(
+    alloc: Global,
+    table: &mut TableRows<'d>,
+    operations: &mut [Operation<'d>],
+    line: LineDoc<'d>,
+    pile: &mut Pile,
+    steps: &mut Steps<L>,
+) -> Result<Found, Memory>
+    requires placed { IsPlaced table.old }
+    requires given { All CanBeGiven (steps_of operations.old) }
+    ensures finds { (list : List b.Value) → steps_of operations.old ≡ steps_to_all list →
+        IfOk result (λ found. Finds (listed (line_of line.entry) (table_of table.old.table.now) list (plan_left table.old)) found pile.new.values.items
+        (listed (line_of line.entry) (table_of table.old.table.now) list (plan_left table.new))) }
+    ensures costs { (list : List b.Value) → steps_of operations.old ≡ steps_to_all list →
+        Spends (listed_due (line_of line.entry) list table.old) (due_behind result (listed_due (line_of line.entry) list table.new)) steps.old steps.new }
+    ensures steps { steps_of operations.new ≡ steps_of operations.old }
+    ensures printable { All IsPrintable pile.new.values.items }
+    ensures table { table.new.table ≡ table.old.table }
+    ensures placed { IsPlaced table.new }
+{
+    pile.clear();
+    match table.next_row(steps) {
+        RowPull::Row => {}
+        RowPull::End => return Ok(Found::End),
+        RowPull::Raised(state) => return Ok(Found::Raised(state)),
+    }
+    if let Some(state) = table.fill(alloc, steps)? {
+        return Ok(Found::Raised(state));
+    }
+    match find_list(alloc, operations, line, table.values(), pile, steps)? {
+        None => Ok(Found::Row),
+        Some(state) => Ok(Found::Raised(state)),
+    }
+}
+
+// The one row of the aggregates over all rows of a table that are left.
+fn find_aggregated<'d, L: Ledger>(
+    alloc: Global,
+    table: &mut TableRows<'d>,
+    aggregates: &mut [Aggregate<'d>],
+    line: LineDoc<'d>,
+    pile: &mut Pile,
+    steps: &mut Steps<L>,
+) -> Result<Found, Memory>
+    requires placed { IsPlaced table.old }
+    requires ready { All IsReady aggregates.old }
+    ensures finds { (left : StatementRows) → IfOk result (λ found. Finds (aggregated (line_of line.entry) (table_of table.old.table.now) (map aggregate_of aggregates.old) [] (plan_left table.old)) found pile.new.values.items left) }
+    ensures costs { (due : ℕ) → Spends (plan_due table.old + aggregated_cost (line_of line.entry) (table_of table.old.table.now) (map aggregate_of aggregates.old) [] (plan_left table.old)) (due_behind result due) steps.old steps.new }
+    ensures calls { map aggregate_of aggregates.new ≡ map aggregate_of aggregates.old }
+    ensures ready { All IsReady aggregates.new }
+    ensures printable { All IsPrintable pile.new.values.items }
+    ensures table { table.new.table ≡ table.old.table }
+    ensures placed { IsPlaced table.new }
+{
+    begin_all(alloc, aggregates);
+    if let Some(state) = take_rows(alloc, table, aggregates, line, pile, steps)? {
+        return Ok(Found::Raised(state));
+    }
+    finish_all(alloc, aggregates, &mut pile.values)?;
+    Ok(Found::LastRow)
+}
+
+// Has the aggregates take all rows of a table that are left, up to the first state that is raised, which is given.
+fn take_rows<'d, L: Ledger>(
+    alloc: Global,
+    table: &mut TableRows<'d>,
+    aggregates: &mut [Aggregate<'d>],
+    line: LineDoc<'d>,
+    pile: &mut Pile,
+    steps: &mut Steps<L>,
+) -> Result<Option<State>, Memory>
+    requires placed { IsPlaced table.old }
+    requires ready { All IsReady aggregates.old }
+    requires begun { All (HasTaken (line_of line) []) aggregates.old }
+    ensures takes { IfOk result (λ raised. TakesRows (aggregated (line_of line.entry) (table_of table.old.table.now) (map aggregate_of aggregates.old) [] (plan_left table.old)) (line_of line.entry) aggregates.new raised) }
+    ensures costs { steps.new ≤ raised steps.old (plan_due table.old + aggregated_cost (line_of line.entry) (table_of table.old.table.now) (map aggregate_of aggregates.old) [] (plan_left table.old)) }
+    ensures calls { map aggregate_of aggregates.new ≡ map aggregate_of aggregates.old }
+    ensures ready { All IsReady aggregates.new }
+    ensures printable { All IsPrintable pile.new.values.items }
+    ensures table { table.new.table ≡ table.old.table }
+    ensures placed { IsPlaced table.new }
+{
+    pile.clear();
+    'rows: loop {
+        match table.next_row(steps) {
+            RowPull::Row => {}
+            RowPull::End => return Ok(None),
+            RowPull::Raised(state) => return Ok(Some(state)),
+        }
+        if let Some(state) = take_row(alloc, table, aggregates, line, pile, steps)? {
+            return Ok(Some(state));
+        }
+    }
+}
+
+// Has the aggregates take the row of a table that is at hand.
+fn take_row<'d, L: Ledger>(
+    alloc: Global,
+    table: &mut TableRows<'d>,
+    aggregates: &mut [Aggregate<'d>],
+    line: LineDoc<'d>,
+    pile: &mut Pile,
+    steps: &mut Steps<L>,
+) -> Result<Option<State>, Memory>
+    requires placed { IsPlaced table.old }
+    requires ready { All IsReady aggregates.old }
+    requires printable { All IsPrintable pile.old.values.items }
+    ensures takes { (before : List (List Value)) → All (HasTaken (line_of line.entry) before) aggregates.old →
+        IfOk result (λ raised. TakesRow (line_of line.entry) (table_of table.old.table.now) table.old.cursor.given before aggregates.old aggregates.new raised) }
+    ensures costs { (before : List (List Value)) → All (HasTaken (line_of line.entry) before) aggregates.old →
+        steps.new ≤ raised steps.old (taken_cost (line_of line.entry) (table_of table.old.table.now) (map aggregate_of aggregates.old) before table.old.cursor.given) }
+    ensures calls { map aggregate_of aggregates.new ≡ map aggregate_of aggregates.old }
+    ensures ready { All IsReady aggregates.new }
+    ensures printable { All IsPrintable pile.new.values.items }
+    ensures left { plan_left table.new ≡ plan_left table.old }
+    ensures due { plan_due table.new ≡ plan_due table.old }
+    ensures table { table.new.table ≡ table.old.table }
+    ensures placed { IsPlaced table.new }
+{
+    if let Some(state) = table.fill(alloc, steps)? {
+        return Ok(Some(state));
+    }
+    take_all(alloc, aggregates, line, table.values(), pile, steps)
+}
