@@ -5,10 +5,21 @@ use sj_decimal::Compare;
 use sj_grammar::{Arith, Initial, Literal, Method, Mode};
 
 /// A path of the SQL/JSON path language (ISO/IEC 9075-2, 9.46).
-#[derive(Drop)]
+///
+/// Its `drop` is written out, so that whoever holds a path gives it up by one call. A derived one
+/// is laid open, with all parts of the tree, at each place where a holder may return early.
 pub struct Path {
     pub mode: Mode,
     pub expr: Expr,
+}
+
+impl Drop for Path {
+    fn drop(self) {
+        let Path {
+            mode: _mode,
+            expr: _expr,
+        } = self;
+    }
 }
 
 /// An expression of a path.

@@ -24,14 +24,14 @@ listed xs (Some x) = Some (onto ◌∷◌ xs x.0, x.1)
 
 -- a member of an object, as its key and its value
 abbrev pub member_of : Member → t.Value Path × t.Value Path
-member_of x = (svalue_of x.key, svalue_of x.value)
+member_of x = (svalue_of x.key.value, svalue_of x.value.value)
 
 abbrev pub members_of : List Member → List (t.Value Path × t.Value Path)
 members_of [] = []
 members_of (x ∷ xs) = member_of x ∷ members_of xs
 
 abbrev pub row_member_of : RowMember → t.Value Path × t.Value Path
-row_member_of x = (tvalue_of x.key, tvalue_of x.value)
+row_member_of x = (tvalue_of x.key.value, tvalue_of x.value.value)
 
 abbrev pub row_members_of : List RowMember → List (t.Value Path × t.Value Path)
 row_members_of [] = []

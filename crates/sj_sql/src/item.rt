@@ -69,7 +69,8 @@ fn object_agg(
     let (nulls, rest) = nulls_clause(rest).unwrap_or((Nulls::Null, rest));
     let (unique, rest) = unique_clause(rest).unwrap_or((false, rest));
     let rest = close(rest).ok_or(Refusal::Syntax)?;
-    let item = TItem::ObjectAgg(member.key, member.value, nulls, unique);
+    let key = Box::into_inner(member.key);
+    let item = TItem::ObjectAgg(key, Box::into_inner(member.value), nulls, unique);
     Ok((item, faults, rest))
 }
 

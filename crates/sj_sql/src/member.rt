@@ -10,11 +10,11 @@ use crate::tree::{SMembers, SValue, SValues};
 use sj_base::Memory;
 use std::alloc::Global;
 
-/// A member of JSON_OBJECT.
+/// A member of JSON_OBJECT, in boxes: each is given up by one call, and the cells take them as they are.
 #[derive(Drop)]
 pub struct Member {
-    pub key: SValue,
-    pub value: SValue,
+    pub key: Box<SValue>,
+    pub value: Box<SValue>,
 }
 
 fn value_cell(alloc: Global, value: SValue, others: SValues) -> Result<SValues, Memory>
@@ -25,11 +25,10 @@ fn value_cell(alloc: Global, value: SValue, others: SValues) -> Result<SValues, 
 }
 
 fn member_cell(alloc: Global, member: Member, others: SMembers) -> Result<SMembers, Memory>
-    ensures { IfOk result (λ x. smembers_of x ≡ t.MoreMembers (svalue_of member.key) (svalue_of member.value) (smembers_of others)) }
+    ensures { IfOk result (λ x. smembers_of x ≡ t.MoreMembers (svalue_of member.key.value) (svalue_of member.value.value) (smembers_of others)) }
 {
     let others = Box::new(alloc, others)?;
-    let key = Box::new(alloc, member.key)?;
-    Ok(SMembers::More(key, Box::new(alloc, member.value)?, others))
+    Ok(SMembers::More(member.key, member.value, others))
 }
 
 /// The cells of values, and of one more.
@@ -46,7 +45,7 @@ pub fn value_cells(alloc: Global, before: Seq<SValue>, last: SValue) -> Result<S
 
 /// The cells of members, and of one more.
 pub fn member_cells(alloc: Global, before: Seq<Member>, last: Member) -> Result<SMembers, Memory>
-    ensures { IfOk result (λ x. smembers_of x ≡ onto more_members (members_of before) (t.MoreMembers (svalue_of last.key) (svalue_of last.value) t.NoMembers)) }
+    ensures { IfOk result (λ x. smembers_of x ≡ onto more_members (members_of before) (t.MoreMembers (svalue_of last.key.value) (svalue_of last.value.value) t.NoMembers)) }
 {
     let mut before = before.into_vec();
     let mut cells = member_cell(alloc, last, SMembers::Empty)?;

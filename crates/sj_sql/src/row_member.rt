@@ -10,11 +10,11 @@ use crate::tree::{TMembers, TValue, TValues};
 use sj_base::Memory;
 use std::alloc::Global;
 
-/// A member of JSON_OBJECT, or of JSON_OBJECTAGG.
+/// A member of JSON_OBJECT, or of JSON_OBJECTAGG, in boxes: each is given up by one call, and the cells take them as they are.
 #[derive(Drop)]
 pub struct RowMember {
-    pub key: TValue,
-    pub value: TValue,
+    pub key: Box<TValue>,
+    pub value: Box<TValue>,
 }
 
 fn value_cell(alloc: Global, value: TValue, others: TValues) -> Result<TValues, Memory>
@@ -25,11 +25,10 @@ fn value_cell(alloc: Global, value: TValue, others: TValues) -> Result<TValues, 
 }
 
 fn member_cell(alloc: Global, member: RowMember, others: TMembers) -> Result<TMembers, Memory>
-    ensures { IfOk result (λ x. tmembers_of x ≡ t.MoreMembers (tvalue_of member.key) (tvalue_of member.value) (tmembers_of others)) }
+    ensures { IfOk result (λ x. tmembers_of x ≡ t.MoreMembers (tvalue_of member.key.value) (tvalue_of member.value.value) (tmembers_of others)) }
 {
     let others = Box::new(alloc, others)?;
-    let key = Box::new(alloc, member.key)?;
-    Ok(TMembers::More(key, Box::new(alloc, member.value)?, others))
+    Ok(TMembers::More(member.key, member.value, others))
 }
 
 /// The cells of values, and of one more.
@@ -50,7 +49,7 @@ pub fn member_cells(
     before: Seq<RowMember>,
     last: RowMember,
 ) -> Result<TMembers, Memory>
-    ensures { IfOk result (λ x. tmembers_of x ≡ onto more_members (row_members_of before) (t.MoreMembers (tvalue_of last.key) (tvalue_of last.value) t.NoMembers)) }
+    ensures { IfOk result (λ x. tmembers_of x ≡ onto more_members (row_members_of before) (t.MoreMembers (tvalue_of last.key.value) (tvalue_of last.value.value) t.NoMembers)) }
 {
     let mut before = before.into_vec();
     let mut cells = member_cell(alloc, last, TMembers::Empty)?;

@@ -90,15 +90,16 @@ impl<
     #[tactic(auto, unfolding(sj_statement::specs::Reading::member_value_at))]
     fn member_value<'a>(
         &self,
-        key: TValue,
+        key: Box<TValue>,
         faults: Faults,
         tokens: Tokens<'a>,
     ) -> Result<(RowMember, Faults, Tokens<'a>), Refusal>
         requires { RowNests self.now.depth (F.pre self.now.inner) (F.post self.now.inner) }
         ensures { Gives (λ x. (row_member_of x.0, faults_of x.1, x.2.now)) result
-            (reading.member_value_at parsing (reading.value_at parsing grammar.row self.now.depth) (tvalue_of key) (faults_of faults) tokens.now) }
+            (reading.member_value_at parsing (reading.value_at parsing grammar.row self.now.depth) (tvalue_of key.value) (faults_of faults) tokens.now) }
     {
         let (value, faults, rest) = self.inner(faults, tokens)?;
+        let value = Box::new(self.alloc, value)?;
         Ok((RowMember { key, value }, faults, rest))
     }
 
@@ -114,6 +115,7 @@ impl<
             (reading.keyed_at parsing (reading.value_at parsing grammar.row self.now.depth) (faults_of faults) tokens.now) }
     {
         let (key, faults, rest) = self.inner(faults, tokens)?;
+        let key = Box::new(self.alloc, key)?;
         let rest = word(Keyword::Value, rest).ok_or(Refusal::Syntax)?;
         self.member_value(key, faults, rest)
     }
@@ -130,6 +132,7 @@ impl<
             (reading.valued_at parsing (reading.value_at parsing grammar.row self.now.depth) (faults_of faults) tokens.now) }
     {
         let (key, faults, rest) = self.inner(faults, tokens)?;
+        let key = Box::new(self.alloc, key)?;
         if let Some(rest) = word(Keyword::Value, rest) {
             return self.member_value(key, faults, rest);
         }

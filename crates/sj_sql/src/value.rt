@@ -103,15 +103,16 @@ impl<
     #[tactic(auto, unfolding(sj_statement::specs::Reading::member_value_at))]
     fn member_value<'a>(
         &self,
-        key: SValue,
+        key: Box<SValue>,
         faults: Faults,
         tokens: Tokens<'a>,
     ) -> Result<(Member, Faults, Tokens<'a>), Refusal>
         requires { Nests self.now.depth (F.pre self.now.inner) (F.post self.now.inner) }
         ensures { Gives (λ x. (member_of x.0, faults_of x.1, x.2.now)) result
-            (reading.member_value_at parsing (reading.value_at parsing grammar.document self.now.depth) (svalue_of key) (faults_of faults) tokens.now) }
+            (reading.member_value_at parsing (reading.value_at parsing grammar.document self.now.depth) (svalue_of key.value) (faults_of faults) tokens.now) }
     {
         let (value, faults, rest) = self.inner(faults, tokens)?;
+        let value = Box::new(self.alloc, value)?;
         Ok((Member { key, value }, faults, rest))
     }
 
@@ -127,6 +128,7 @@ impl<
             (reading.keyed_at parsing (reading.value_at parsing grammar.document self.now.depth) (faults_of faults) tokens.now) }
     {
         let (key, faults, rest) = self.inner(faults, tokens)?;
+        let key = Box::new(self.alloc, key)?;
         let rest = word(Keyword::Value, rest).ok_or(Refusal::Syntax)?;
         self.member_value(key, faults, rest)
     }
@@ -143,6 +145,7 @@ impl<
             (reading.valued_at parsing (reading.value_at parsing grammar.document self.now.depth) (faults_of faults) tokens.now) }
     {
         let (key, faults, rest) = self.inner(faults, tokens)?;
+        let key = Box::new(self.alloc, key)?;
         if let Some(rest) = word(Keyword::Value, rest) {
             return self.member_value(key, faults, rest);
         }

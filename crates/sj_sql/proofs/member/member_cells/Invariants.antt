@@ -9,4 +9,4 @@ decreases-loop-member l = vec_len l.before
 
 abbrev pub invariant-loop-member : goal.invariant-loop-member
 invariant-loop-member l =
-    onto more_members (members_of l.fn.before) (MoreMembers (svalue_of l.fn.last.key) (svalue_of l.fn.last.value) NoMembers) ≡ onto more_members (members_of l.before.items) (smembers_of l.cells)
+    onto more_members (members_of l.fn.before) (MoreMembers (svalue_of l.fn.last.key.value) (svalue_of l.fn.last.value.value) NoMembers) ≡ onto more_members (members_of l.before.items) (smembers_of l.cells)

@@ -9,4 +9,4 @@ decreases-loop-member l = vec_len l.before
 
 abbrev pub invariant-loop-member : goal.invariant-loop-member
 invariant-loop-member l =
-    onto more_members (row_members_of l.fn.before) (MoreMembers (tvalue_of l.fn.last.key) (tvalue_of l.fn.last.value) NoMembers) ≡ onto more_members (row_members_of l.before.items) (tmembers_of l.cells)
+    onto more_members (row_members_of l.fn.before) (MoreMembers (tvalue_of l.fn.last.key.value) (tvalue_of l.fn.last.value.value) NoMembers) ≡ onto more_members (row_members_of l.before.items) (tmembers_of l.cells)
