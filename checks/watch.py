@@ -1,14 +1,12 @@
-"""Runs a command of `rt`, passes on what it says, and says of each check that it makes when that ended and how long it took.
+"""Passes on what `rt ci` says, and says of each check that it makes when that ended and how long it took.
 
-usage, at the top of the repository: python3 -B -m checks.watch LOG COMMAND..
+usage, at the top of the repository: rt ci 2>&1 | python3 -B -m checks.watch LOG SHELL
 
-All that is said goes to standard output and to LOG, and the exit status is the command's. A check is a run of the prover over a crate: its
-proof, its tests, one of the edits that must be refused, or the building of its program. Checks are found once a second among the
+SHELL is the number of the process that both are children of. All that is said goes to standard output and to LOG. A check is a run of the prover over a
+crate: its proof, its tests, one of the edits that must be refused, or the building of its program. Checks are found once a second among the
 processes of the system, so their times are right to a second or two. A system that does not show its processes is told no times.
 """
 import os
-import shutil
-import subprocess
 import sys
 import threading
 import time
@@ -48,10 +46,10 @@ class Watch:
                 file.write(line)
                 file.flush()
 
-    def look(self, command):
-        """Takes up the checks below the command that have begun, and tells those that have ended."""
+    def look(self, shell):
+        """Takes up the checks below the shell that have begun, and tells those that have ended."""
         now, seen = since_boot(), processes()
-        found = dict(checks_below(command, seen))
+        found = dict(checks_below(shell, seen))
         for process in self.running.keys() - found.keys():
             check = self.running.pop(process)
             self.say(spoken(now - self.began, check.crate, check.part, now - check.began, check.used))
@@ -153,38 +151,33 @@ def is_made(edit, folder):
     return True
 
 
-def run(log, command):
-    """Runs the command to its end, and returns its exit status."""
+def run(log, shell, said):
+    """Passes on what is said until that ends, and tells each check below the shell when it has ended."""
     watch = Watch(log)
-    how = {"stdin": subprocess.DEVNULL, "stdout": subprocess.PIPE, "stderr": subprocess.STDOUT, "encoding": "utf-8", "errors": "replace"}
-    with subprocess.Popen(command, **how) as started:
-        ended = threading.Event()
+    ended = threading.Event()
 
-        def look_often():
-            while not ended.wait(PAUSE):
-                watch.look(started.pid)
+    def look_often():
+        while not ended.wait(PAUSE):
+            watch.look(shell)
 
-        looking = threading.Thread(target=look_often, daemon=True)
-        looking.start()
-        for line in started.stdout:
-            watch.say(line)
-        status = started.wait()
-        ended.set()
-        looking.join()
-        watch.look(started.pid)
-    return status if status >= 0 else 128 - status
+    looking = threading.Thread(target=look_often, daemon=True)
+    looking.start()
+    for line in said:
+        watch.say(line)
+    ended.set()
+    looking.join()
+    watch.look(shell)
 
 
 def main():
-    if len(sys.argv) < 3:
-        print("usage: python3 -B -m checks.watch LOG COMMAND..", file=sys.stderr)
+    if len(sys.argv) != 3 or not sys.argv[2].isdigit():
+        print("usage: rt ci 2>&1 | python3 -B -m checks.watch LOG SHELL", file=sys.stderr)
         return 2
-    if not shutil.which(sys.argv[2]):
-        print(f"the command {sys.argv[2]} is not on the path", file=sys.stderr)
-        return 127
-    sys.stdout.reconfigure(errors="replace")
+    for stream in (sys.stdin, sys.stdout):
+        stream.reconfigure(encoding="utf-8", errors="replace")
     with open(sys.argv[1], "w", encoding="utf-8") as log:
-        return run(log, sys.argv[2:])
+        run(log, int(sys.argv[2]), sys.stdin)
+    return 0
 
 
 if __name__ == "__main__":
