@@ -1,12 +1,16 @@
 -- The clauses of the operations of a sound statement can be given.
-use Rattle.std.proofs.Common.{suc, List, [], ◌∷◌, arith}
+use Rattle.std.proofs.Common.{ℕ, ◌<◌, suc, List, [], ◌∷◌, length, map, get_or, arith}
 use Rattle.std.specs.List.{All}
 use Rattle.std.proofs.lemmas.List.Elements.{All-nil, All-cons, All-append}
+use Rattle.sj_path.specs.Vars.{Named}
 use Rattle.sj_bind.specs.Bound as b
-use Rattle.sj_bind.specs.Sound.{IsSoundValue, AreSoundValues, AreSoundMembers, IsSoundItem, IsSound, columns_of}
+use Rattle.sj_bind.specs.Sound.{IsSoundValue, AreSoundValues, AreSoundMembers, IsSoundItem, IsSoundColumn, IsSoundTable, IsSound, columns_of}
+use Rattle.sj_select.specs.Columns.{with_variables, columns_of as table_columns}
+use Rattle.sj_select.specs.Filling.{CanFill}
 use Rattle.sj_select.specs.Operations.{Step, member, steps_to, steps_to_values, steps_to_members, steps_to_all}
 use Rattle.sj_select.specs.Performing.{CanBeGiven}
 use Rattle.sj_select.specs.Rows.{values_in}
+use Rattle.sj_select.specs.Taking.{CanTake}
 
 module _ (columns : List b.ColumnOf) where
   one : (s : Step) → CanBeGiven s → All CanBeGiven (s ∷ [])
@@ -44,6 +48,29 @@ module _ (columns : List b.ColumnOf) where
   given_items (b.Single x ∷ xs) h = All-append CanBeGiven (steps_to x) _ (given_steps x (head_sound (b.Single x) xs h)) (given_items xs (tail_sound (b.Single x) xs h))
   given_items (b.ArrayAgg x on_null ∷ xs) h = given_items xs (tail_sound (b.ArrayAgg x on_null) xs h)
   given_items (b.ObjectAgg key x on_null unique ∷ xs) h = given_items xs (tail_sound (b.ObjectAgg key x on_null unique) xs h)
+
+-- the clauses of the columns of a sound table can be given
+module _ (vars : Named) (n : ℕ) where
+  filled : (c : b.ColumnOf) → IsSoundColumn vars n c → CanFill (with_variables vars c)
+  filled (b.Ordinality k) h = tt
+  filled (b.Regular k path clauses) h = h.2.can_be_given
+  filled (b.Formatted k path clauses) h = tt
+
+  filled_all : (cs : List b.ColumnOf) → All (IsSoundColumn vars n) cs → All CanFill (map (with_variables vars) cs)
+  filled_all [] h = All-nil CanFill
+  filled_all (c ∷ cs) h = All-cons CanFill (with_variables vars c) (map (with_variables vars) cs) (filled c (h 0 c (omega arith))) (filled_all cs (λ k d within. h (suc k) d (omega (arith, within))))
+
+pub sound_columns : (table : b.Table) → IsSoundTable table → All CanFill (table_columns table)
+sound_columns table h = filled_all table.vars (length table.paths) table.columns h.columns
+
+-- what an aggregate of a sound statement takes can be given
+taken_item : (columns : List b.ColumnOf) (x : b.Item) → IsSoundItem columns x → CanTake x
+taken_item columns (b.Single x) h = tt
+taken_item columns (b.ArrayAgg x _) h = given_steps columns x h
+taken_item columns (b.ObjectAgg key x _ unique) h = (given_steps columns key h.1, given_steps columns x h.2)
+
+pub sound_items : (s : b.Bound) → IsSound s → All CanTake s.items
+sound_items s h k d within = taken_item (columns_of s.table) (get_or s.items k d) (h.items k d within)
 
 pub sound_steps : (s : b.Bound) → IsSound s → All CanBeGiven (steps_to_all (values_in s.items))
 sound_steps s h = given_items (columns_of s.table) s.items h.items

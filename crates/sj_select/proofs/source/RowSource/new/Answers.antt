@@ -1,14 +1,19 @@
-use Rattle.std.proofs.Common.{Option, sym, subst}
+use Rattle.std.proofs.Common.{List, Option, sym, subst}
 use Rattle.std.specs.List.{All}
 use Rattle.std.proofs.lemmas.List.Elements.{All-nil}
 use Rattle.sj_value.specs.Values.{IsPrintable}
-use Rattle.sj_bind.specs.View.{bound_of}
+use Rattle.sj_bind.specs.View.{bound_of, items_of}
+use Rattle.sj_bind.specs.declared.bound.BoundItem.{BoundItem}
 use Rattle.sj_select.specs.Performing.{CanBeGiven}
 use Rattle.sj_select.specs.Sources.{IsPlacedIfAny}
+use Rattle.sj_select.specs.Taking.{CanTake}
 use Rattle.sj_select.specs.declared.table.TableRows.{TableRows}
-use Rattle.sj_select.proofs.Sounds.{sound_steps}
+use Rattle.sj_select.proofs.Sounds.{sound_steps, sound_items}
 use Rattle.sj_select.proofs.source.RowSource.new.Goals.{in-Some+in_ok-new-in-Some, in-None}
 use Rattle.sj_select.proofs.source.RowSource.new.Goals as goal
+
+pub aggregates_of-requires : goal.aggregates_of-requires
+aggregates_of-requires c = subst (λ (l : List BoundItem). All CanTake (items_of l)) (sym c.as_slice.ensures) (sound_items (bound_of c.args.bound.now) c.requires)
 
 pub returns-clause-ready : goal.returns-clause-ready
 returns-clause-ready c =
