@@ -97,13 +97,23 @@ def escapes_alone(values, number):
 
 
 def order(values, number):
-    """A small order with two lines, each of 1 to 4 pieces. It needs numbers, and is for the benchmark of a filter."""
+    """A small order with two lines, each of 1 to 4 pieces. It needs numbers, and the price has two decimals."""
     lines = ",".join(
         f'{{"sku":"{values.one_of("ABC")}-{int(values.chance.random() * 99) + 1}",'
         f'"qty":{int(values.chance.random() * 4) + 1},"price":{values.chance.random() * 100:.2f}}}'
         for _ in range(2)
     )
     return f'{{"order":{number},"customer":{{"name":"{values.one_of(NAMES)}"}},"lines":[{lines}]}}'
+
+
+def mixed(values, number):
+    """An order, an array of one, a scalar, or an order that is cut off, which is no JSON: a quarter of the lines each."""
+    kind, whole = int(values.chance.random() * 4), order(values, number)
+    if kind == 0:
+        return whole
+    if kind == 1:
+        return f"[{whole}]"
+    return values.scalar() if kind == 2 else whole[: 1 + int(values.chance.random() * (len(whole) - 1))]
 
 
 KINDS = {

@@ -5,15 +5,14 @@ Over the same small orders the program answers `lax $`, which asks nothing of a 
 the processor time of the median round for both, and what the filter costs over reading: their difference over the first.
 The benchmark is no part of the tests, and nothing that it says is proved.
 """
-import argparse
 import os
 import statistics
 import subprocess
 import tempfile
 from pathlib import Path
 
-from compare import BUILT, MEGABYTE
 from corpora import order, write_lines
+from runs import MEGABYTE, read, take_size_and_rounds, words_taken
 
 READING = "lax $"
 FILTER = "lax $.lines[*] ? (@.qty > 3).sku"
@@ -30,11 +29,9 @@ def processor_time(program, file, corpus):
 
 
 def main():
-    words = argparse.ArgumentParser(description=__doc__, formatter_class=argparse.RawDescriptionHelpFormatter)
-    words.add_argument("--size", type=float, default=50, metavar="MB", help="the least size of the orders (default: 50)")
-    words.add_argument("--rounds", type=int, default=5, metavar="N", help="how often each path is run (default: 5)")
-    words.add_argument("--program", type=Path, default=BUILT, help="the program to measure, if not the built one")
-    given = words.parse_args()
+    words = words_taken(__doc__)
+    take_size_and_rounds(words, rounds=5)
+    given = read(words)
     with tempfile.TemporaryDirectory() as room:
         corpus = Path(room, "orders.jsonl")
         written = write_lines(order, corpus, int(given.size * MEGABYTE))
@@ -43,7 +40,7 @@ def main():
             file.write_text(f"SELECT JSON_EXISTS(doc, '{path}');\n")
         # (each round runs both, one after the other)
         rounds = [
-            [processor_time(given.program.resolve(), file, corpus) for file in files] for _ in range(max(given.rounds, 1))
+            [processor_time(given.program, file, corpus) for file in files] for _ in range(max(given.rounds, 1))
         ]
     reading, filtered = (statistics.median(took) for took in zip(*rounds))
     print(f"orders: {written / MEGABYTE:.1f} MB")
