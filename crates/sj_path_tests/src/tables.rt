@@ -191,12 +191,12 @@ fn push_rows(
 
 // The rows of a plan on a document from a new cursor, and then those on a second one after a rewind in the midst of the first, with the
 // steps of the first and the last part.
-fn rows_on(
+fn rows_on<'d>(
     alloc: Global,
-    plan: &Plan,
-    paths: &[Path],
+    plan: &'d Plan,
+    paths: &'d [Path],
     on_error: TableAction,
-    docs: (&Doc, &Doc),
+    docs: (&'d Doc, &'d Doc),
 ) -> Result<(String, String, u64), Fail>
     requires { IsPlanOver (length paths.now) (plan_tree plan.now) }
 {

@@ -108,7 +108,8 @@ fn shown(rt: &impl Abort, alloc: Global, rows: &mut RowsOf<'_>) -> Result<String
     for _ in 0..MOST_ROWS {
         match rows.next(&mut steps)? {
             Turn::Row => {
-                for value in rows.row() {
+                let row = rows.take_row();
+                for value in row.as_slice() {
                     out.push_str("|")?;
                     push_value(alloc, value, &mut out)?;
                 }
@@ -116,9 +117,9 @@ fn shown(rt: &impl Abort, alloc: Global, rows: &mut RowsOf<'_>) -> Result<String
             }
             end => {
                 let count = steps.ledger().count();
-                assert!(rt; rows.row().is_empty());
+                assert!(rt; rows.take_row().is_empty());
                 assert!(rt; rows.next(&mut steps)? == end);
-                assert!(rt; rows.row().is_empty());
+                assert!(rt; rows.take_row().is_empty());
                 assert_eq!(rt; steps.ledger().count(), count);
                 if let Turn::Raised(state) = end {
                     out.push_str(state.code())?;
@@ -326,7 +327,7 @@ fn goes_from_line_to_line(rt: HostRuntime) -> Result<(), Fail> {
         (&both, "|[\"1\",7]|'2'|"),
     ] {
         rows.rewind(line_of(alloc, doc, Keys::Any)?);
-        assert!(rt; rows.row().is_empty());
+        assert!(rt; rows.take_row().is_empty());
         let found = shown(&rt, alloc, &mut rows)?;
         assert_eq!(rt; found.as_str(), want);
         rows.rewind(line_of(alloc, doc, Keys::Any)?);

@@ -191,11 +191,17 @@ impl<'d> RowsOf<'d> {
         Ok(Turn::of(found))
     }
 
-    /// The row just given. Before the first row and after an end it is empty. Its values can be printed.
-    pub fn row(&self) -> &[SqlValue]
-        ensures is { result.now ≡ self.now.row }
-        ensures printable { All IsPrintable result.now }
+    /// Takes the row just given, whose values can be printed. Before the first row and after an end it is empty. Then no row is at hand;
+    /// what is left, and what is due, stays.
+    pub fn take_row(&mut self) -> Vec<SqlValue>
+        ensures is { result.items ≡ self.old.row }
+        ensures printable { All IsPrintable result.items }
+        ensures row { self.new.row ≡ [] }
+        ensures left { self.new.left ≡ self.old.left }
+        ensures due { self.new.due ≡ self.old.due }
+        ensures bound { self.new.bound ≡ self.old.bound }
+        ensures line { self.new.line ≡ self.old.line }
     {
-        self.source.pile.values.as_slice()
+        mem::replace(&mut self.source.pile.values, Vec::new(self.alloc))
     }
 }

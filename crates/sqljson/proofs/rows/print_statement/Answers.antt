@@ -1,5 +1,6 @@
 use Rattle.std.proofs.Common.{rules, ap, arith, sym, ◌∙◌}
 use Rattle.sj_page.proofs.Printing.{printing_more, printing_done, printing_ends, printing_stops, printing_memory}
+use Rattle.sj_page.specs.Pages.{followed_by, row_print}
 use Rattle.sqljson.specs.Output.{rows_print}
 use Rattle.sqljson.proofs.Turns.{turn_row, turn_less, turn_end, turn_raised, begins, spent_on, spent_last}
 use Rattle.sqljson.proofs.rows.print_statement.Goals as goal
@@ -13,9 +14,9 @@ loop-turn-init g c = record {
 
 pub loop-turn-preserved : goal.loop-turn-preserved
 loop-turn-preserved g c = record {
-  printing = printing_more _ _ _ _ _ _ _ c.loop-turn.invariant.printing (turn_row _ _ _ _ _ c.row.result.now c.in-Ok.ensures.gives c.in-Row.is c.row.ensures.is) c.in-Ok-row.ensures.prints;
-  costs = spent_on _ _ _ _ _ _ c.in-Ok.ensures.spends c.loop-turn.invariant.costs;
-  bound = c.next.ensures.bound ∙ c.loop-turn.invariant.bound;
+  printing = printing_more _ _ _ _ _ _ _ c.loop-turn.invariant.printing (turn_row _ _ _ _ _ c.as_slice.result.now c.in-Ok.ensures.gives c.in-Row.is (c.as_slice.ensures.value ∙ c.take_row-row.ensures.is) ∙ ap (λ xs. followed_by (row_print c.args.number c.args.statement c.as_slice.result.now) (rows_print c.args.number c.args.statement xs)) (sym c.take_row-row.ensures.left)) c.in-Ok-row.ensures.prints;
+  costs = omega (arith, c.take_row-row.ensures.due, spent_on _ _ _ _ _ _ c.in-Ok.ensures.spends c.loop-turn.invariant.costs);
+  bound = c.take_row-row.ensures.bound ∙ c.next.ensures.bound ∙ c.loop-turn.invariant.bound;
 }
 
 pub returns-in-Err-clause-prints : goal.returns-in-Err-clause-prints
@@ -23,7 +24,7 @@ returns-in-Err-clause-prints g c = printing_memory _ _ _ _ c.loop-turn.invariant
 
 pub returns-in-Err-row-clause-prints : goal.returns-in-Err-row-clause-prints
 returns-in-Err-row-clause-prints g c =
-    printing_stops _ _ _ _ _ _ _ _ c.loop-turn.invariant.printing (turn_row _ _ _ _ _ c.row.result.now c.in-Ok.ensures.gives c.in-Row.is c.row.ensures.is) c.in-Err-row.ensures.prints
+    printing_stops _ _ _ _ _ _ _ _ c.loop-turn.invariant.printing (turn_row _ _ _ _ _ c.as_slice.result.now c.in-Ok.ensures.gives c.in-Row.is (c.as_slice.ensures.value ∙ c.take_row-row.ensures.is) ∙ ap (λ xs. followed_by (row_print c.args.number c.args.statement c.as_slice.result.now) (rows_print c.args.number c.args.statement xs)) (sym c.take_row-row.ensures.left)) c.in-Err-row.ensures.prints
 
 pub returns-in-Raised-clause-prints : goal.returns-in-Raised-clause-prints
 returns-in-Raised-clause-prints g c =
