@@ -51,7 +51,9 @@ mod build;
 mod cells;
 mod cursor;
 mod env;
+mod fault_free;
 mod held;
+mod law;
 mod look;
 mod next;
 mod one;
@@ -61,3 +63,5 @@ mod row;
 mod subscripts;
 
 pub use cursor::Cursor;
+pub use fault_free::is_fault_free;
+pub use law::fault_free_paths_end_well;
