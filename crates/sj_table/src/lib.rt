@@ -20,6 +20,7 @@ mod next;
 mod path;
 mod pull;
 mod rewind;
+mod run;
 mod table;
 
 pub use pull::RowPull;
