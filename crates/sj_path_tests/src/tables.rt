@@ -250,6 +250,21 @@ fn rows(
     Ok((second, steps))
 }
 
+fn expect_rows(
+    rt: &impl Abort,
+    alloc: Global,
+    line: &str,
+    table: Texts,
+    on_error: TableAction,
+    want: &str,
+    bound: u64,
+) -> Result<(), Fail> {
+    let (rows, steps) = rows(rt, alloc, line, table, on_error)?;
+    assert_eq!(rt; rows.as_str(), want, "on {line}");
+    assert!(rt; steps <= bound, "{steps} steps on {line}");
+    Ok(())
+}
+
 #[test]
 fn gives_rows_of_plans(rt: HostRuntime) -> Result<(), Fail> {
     use TableAction::{Empty, Error};
@@ -297,9 +312,39 @@ fn gives_rows_of_plans(rt: HostRuntime) -> Result<(), Fail> {
         (sides, absent, Empty, "end", 4),
     ];
     for (line, table, on_error, want, bound) in cases {
-        let (rows, steps) = rows(&rt, rt.alloc(), line, table, on_error)?;
-        assert_eq!(rt; rows.as_str(), want, "on {line}");
-        assert!(rt; steps <= bound, "{steps} steps on {line}");
+        expect_rows(&rt, rt.alloc(), line, table, on_error, want, bound)?;
+    }
+    Ok(())
+}
+
+// The bounds are those of one run of each path whose form rules out a fault.
+#[test]
+fn runs_paths_that_have_no_fault_once(rt: HostRuntime) -> Result<(), Fail> {
+    use TableAction::{Empty, Error};
+    let parents = r#"{"p":[{"n":1,"x":[5,6],"y":[]},{"n":2,"x":[],"y":[]}]}"#;
+    let sides = r#"{"x":[1,2],"y":["a","b"]}"#;
+    let partly = r#"{"g":[{"e":[{"f":1},{"h":2}]},{"e":[{"f":3}]}]}"#;
+    let outer = table("lax $.p[*]", "lax $.x[*]", "", Shape::Outer);
+    let inner = table("lax $.p[*]", "lax $.x[*]", "", Shape::Inner);
+    let tested = table("lax $.p[*]", "lax $.x[*] ? (@ > 5)", "lax $.y[*]", Shape::Union);
+    let crossed = table("lax $.p[*]", "lax $.x[*]", "lax $.y[*]", Shape::Cross);
+    let indexed = table("lax $", "lax $.x[0, last]", "lax $.y[1 to 5]", Shape::Cross);
+    let row = table("strict $.g[*].e[*].f", "", "", Shape::Single);
+    let nested = table("lax $.g[*]", "strict $.e[*].f", "", Shape::Outer);
+    let pairs = "1=#0 1=1 1=b / 1=#0 2=2 1=b / end";
+    let cases = [
+        (parents, outer, Error, "1=#2 1=5 / 1=#2 2=6 / 2=#8 - / end", 11),
+        (parents, inner, Error, "1=#2 1=5 / 1=#2 2=6 / end", 11),
+        (parents, tested, Error, "1=#2 1=6 - / 2=#8 - - / end", 17),
+        (parents, crossed, Error, "1=#2 - - / 2=#8 - - / end", 17),
+        (sides, indexed, Error, pairs, 13),
+        (partly, row, Empty, "end", 7),
+        (partly, row, Error, "2203A", 7),
+        (partly, nested, Empty, "1=#2 - / 2=#8 1=3 / end", 14),
+        (partly, nested, Error, "2203A", 7),
+    ];
+    for (line, table, on_error, want, bound) in cases {
+        expect_rows(&rt, rt.alloc(), line, table, on_error, want, bound)?;
     }
     Ok(())
 }

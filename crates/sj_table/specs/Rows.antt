@@ -106,8 +106,8 @@ rows action (nested join path below) x = each (entries action path x) (λ e. joi
 rows action (union a b) x = chain (rows action a x) (rows action b x)
 rows action (cross a b) x = each (rows action a x) (λ row. beside row (rows action b x))
 
--- The visits that giving the rows may take. A path is run twice under a parent: whether it has a fault is known before its first row
--- is given. The plan below it is run for each of its entries, and the right side of CROSS for each row of the left.
+-- The visits that giving the rows may take. A path is run at most twice under a parent: whether it has a fault is known before its
+-- first row is given. The plan below it is run for each of its entries, and the right side of CROSS for each row of the left.
 abbrev pub cost : TableAction → SourcePlan → ItemValue → ℕ
 cost action (single path) x = 2 * visits (path.trace x)
 cost action (nested join path below) x = 2 * visits (path.trace x) + sum_over (entries action path x) (λ e. cost action below e.item)

@@ -1,4 +1,4 @@
-// The cells of a plan, made whole: the only place that takes memory.
+// The cells of a plan, made whole. Memory is taken here, and where a path gets its cursor.
 ghost use Rattle.std.specs.Prelude.{◌≡◌, ◌≤◌, ◌<◌, ℕ, length, map, IfOk};
 ghost use Rattle.sj_path.specs.Tree.{path_of};
 ghost use Rattle.sj_value.specs.Plans.{plan_tree, times};
@@ -7,8 +7,8 @@ ghost use Rattle.sj_table.specs.Rows.{nested as nested_of, source, sourced};
 
 use crate::cells::{At, Cell, Cross, Hand, Nested, PathCell, Side, Stage, Union};
 use crate::join::Join;
+use crate::run::Run;
 use sj_base::Memory;
-use sj_cursor::Cursor;
 use sj_item::Item;
 use sj_path::{Path, Vars};
 use sj_value::Plan;
@@ -74,7 +74,6 @@ fn nested<'d>(
     }))
 }
 
-#[tactic(auto, using(crate::proofs::Sources::source_named))]
 fn path_cell<'d>(
     alloc: Global,
     number: u32,
@@ -86,7 +85,7 @@ fn path_cell<'d>(
 {
     Ok(PathCell {
         number,
-        cursor: Cursor::new(alloc, &paths[number as usize], vars, Item::Null)?,
+        run: Run::new(alloc, &paths[number as usize], vars)?,
         stage: Stage::Unasked,
         item: Item::Null,
         ordinal: 0,

@@ -2,7 +2,7 @@
 // list of rows. The item under which a cell is evaluated is lent to it at each call.
 
 use crate::join::Join;
-use sj_cursor::Cursor;
+use crate::run::Run;
 use sj_item::Item;
 
 /// A cell of a plan.
@@ -23,14 +23,14 @@ pub(crate) enum Cell<'d> {
 #[derive(Drop)]
 pub(crate) struct PathCell<'d> {
     pub(crate) number: u32,
-    pub(crate) cursor: Cursor<'d>,
+    pub(crate) run: Run<'d>,
     pub(crate) stage: Stage,
     pub(crate) item: Item<'d>,
     /// How many entries were given under the parent item; at its last value it stays.
     pub(crate) ordinal: u64,
 }
 
-/// Whether a path was run under the parent item.
+/// Whether a path was begun under the parent item.
 #[derive(Clone, Copy)]
 pub(crate) enum Stage {
     /// It was not.

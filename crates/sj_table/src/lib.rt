@@ -44,6 +44,7 @@ mod next;
 mod path;
 mod pull;
 mod rewind;
+mod run;
 mod table;
 
 pub use pull::RowPull;

@@ -11,13 +11,12 @@ ghost use Rattle.sj_table.specs.Takes.{Takes, Answers};
 use crate::cells::{PathCell, Stage};
 use crate::pull::RowPull;
 use sj_base::{Ledger, State, Steps};
-use sj_cursor::Cursor;
 use sj_item::{Item, Pull};
 use sj_value::TableAction;
 
 impl<'d> PathCell<'d> {
-    /// The next entry under a parent item, or the end. Before the first one the path is run to its end, which tells whether it has a
-    /// fault.
+    /// The next entry under a parent item, or the end. Before the first one a path that may have a fault is run to its end, which tells
+    /// whether it has.
     pub(crate) fn next<L: Ledger>(
         &mut self,
         on_error: TableAction,
@@ -36,18 +35,17 @@ impl<'d> PathCell<'d> {
         }
     }
 
-    // Runs the path under an item to its end, and tells the fault that it ends in, if any. The cell then stands before its first entry.
+    // Tells the fault that the path ends in under an item, if any. The cell then stands before its first entry.
     fn enter<L: Ledger>(&mut self, parent: &Item<'d>, steps: &mut Steps<L>) -> Option<State>
         ensures fault { result ≡ fault_of ((path_source self.old).trace (item_value parent.now)) }
         ensures costs { steps.new ≤ raised steps.old (visits ((path_source self.old).trace (item_value parent.now))) }
-        ensures left { self.new.cursor.left ≡ (path_source self.old).trace (item_value parent.now) }
+        ensures left { self.new.run.cursor.left ≡ (path_source self.old).trace (item_value parent.now) }
         ensures ordinal { self.new.ordinal ≡ 0 }
         ensures stage { self.new.stage ≡ Stage.Entered }
         ensures same { path_source self.new ≡ path_source self.old }
     {
-        self.cursor.rewind(*parent);
-        let fault = fault_at_end(&mut self.cursor, steps);
-        self.cursor.rewind(*parent);
+        let fault = self.run.fault_under(parent, steps);
+        self.run.rewind(parent);
         self.ordinal = 0;
         self.stage = Stage::Entered;
         fault
@@ -55,11 +53,11 @@ impl<'d> PathCell<'d> {
 
     // The next of the items that the cursor has left.
     fn advance<L: Ledger>(&mut self, steps: &mut Steps<L>) -> RowPull
-        ensures takes { Takes (entries_to_end self.old.number (self.old.ordinal + 1) self.old.cursor.left) (visits self.old.cursor.left) result (entry_at self.new) (entries_to_end self.new.number (self.new.ordinal + 1) self.new.cursor.left) (visits self.new.cursor.left) steps.old steps.new }
+        ensures takes { Takes (entries_to_end self.old.number (self.old.ordinal + 1) self.old.run.cursor.left) (visits self.old.run.cursor.left) result (entry_at self.new) (entries_to_end self.new.number (self.new.ordinal + 1) self.new.run.cursor.left) (visits self.new.run.cursor.left) steps.old steps.new }
         ensures stage { self.new.stage ≡ self.old.stage }
         ensures same { path_source self.new ≡ path_source self.old }
     {
-        match self.cursor.next(steps) {
+        match self.run.next(steps) {
             Pull::Item(item) => {
                 self.item = item;
                 self.ordinal = self.ordinal.saturating_add(1);
@@ -67,22 +65,6 @@ impl<'d> PathCell<'d> {
             }
             Pull::End => RowPull::End,
             Pull::Fault(state) => RowPull::Raised(state),
-        }
-    }
-}
-
-// The fault that a cursor's sequence ends in, if any. The cursor then stands at its end.
-fn fault_at_end<'d, L: Ledger>(cursor: &mut Cursor<'d>, steps: &mut Steps<L>) -> Option<State>
-    ensures fault { result ≡ fault_of cursor.old.left }
-    ensures costs { steps.new ≤ raised steps.old (visits cursor.old.left) }
-    ensures path { cursor.new.path ≡ cursor.old.path }
-    ensures vars { cursor.new.vars ≡ cursor.old.vars }
-{
-    'items: loop {
-        match cursor.next(steps) {
-            Pull::Item(_item) => {}
-            Pull::End => return None,
-            Pull::Fault(state) => return Some(state),
         }
     }
 }

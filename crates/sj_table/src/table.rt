@@ -90,8 +90,8 @@ impl<'d> TableCursor<'d> {
     }
 
     /// Goes to the next row, or tells the end. It takes no memory. The counter rises by no more than the number of children that may
-    /// yet be handed out falls: under each parent a path is run twice, the first time to its end, since a fault anywhere leaves it no
-    /// row. After an end the same end comes again, without a step.
+    /// yet be handed out falls: under each parent a path is run at most twice, the first time to its end, since a fault anywhere leaves
+    /// it no row. After an end the same end comes again, without a step.
     pub fn next_row<L: Ledger>(&mut self, steps: &mut Steps<L>) -> RowPull
         ensures advances { Advances self.old.left self.old.due result self.new.given self.new.left self.new.due steps.old steps.new }
         ensures plan { self.new.plan ≡ self.old.plan }

@@ -1,6 +1,6 @@
 use Rattle.std.proofs.Common.{◌∙◌}
 use Rattle.sj_table.proofs.Entries.{drawn_fewer, running_on, running_end, running_fault, running_end_costs, running_fault_costs}
-use Rattle.sj_table.proofs.path.fault_at_end.Goals as goal
+use Rattle.sj_table.proofs.run.fault_at_end.Goals as goal
 
 pub items-smaller : goal.items-smaller
 items-smaller g c = drawn_fewer _ _ _ _ _ c.in-Item.ensures.answers

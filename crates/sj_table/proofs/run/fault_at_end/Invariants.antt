@@ -1,7 +1,7 @@
 use Rattle.std.proofs.Common.{◌≡◌}
 use Rattle.sj_step.specs.Trace.{count}
 use Rattle.sj_table.proofs.Entries.{Running}
-use Rattle.sj_table.proofs.path.fault_at_end.Given as goal
+use Rattle.sj_table.proofs.run.fault_at_end.Given as goal
 
 abbrev pub invariant-items : goal.invariant-items
 invariant-items g l = record {

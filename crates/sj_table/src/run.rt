@@ -1,0 +1,110 @@
+// A path that is run under one item after another.
+ghost use Rattle.std.specs.Prelude.{◌≡◌, ◌≤◌, true, IfOk};
+ghost use Rattle.sj_base.specs.Outside.{raised};
+ghost use Rattle.sj_item.specs.Items.{item_value, pull_value};
+ghost use Rattle.sj_path.specs.Tree.{path_of};
+ghost use Rattle.sj_step.specs.Trace.{visits, fault_of};
+ghost use Rattle.sj_cursor.specs.Draws.{Draws};
+ghost use Rattle.sj_cursor.specs.FaultFree.{fault_free};
+ghost use Rattle.sj_cursor.specs.Meaning.{path_trace};
+ghost use Rattle.sj_table.specs.declared.run.Faults.TheVariants.{Never};
+
+use sj_base::{Ledger, Memory, State, Steps};
+use sj_cursor::{Cursor, is_fault_free};
+use sj_item::{Item, Pull};
+use sj_path::{Path, Vars};
+use std::alloc::Global;
+
+/// Whether a path may end in a fault.
+#[derive(Clone, Copy)]
+pub(crate) enum Faults {
+    /// Its form rules that out under every item.
+    Never,
+    /// It may, under some item.
+    Possible,
+}
+
+/// The cursor of a path, and whether the path may end in a fault.
+#[derive(Drop)]
+pub(crate) struct Run<'d> {
+    cursor: Cursor<'d>,
+    faults: Faults,
+    ghost never: { faults ≡ Never → fault_free (path_of cursor.path) ≡ true },
+}
+
+impl<'d> Run<'d> {
+    /// A path that was run under no item yet. It takes all memory that running it will use.
+    pub(crate) fn new(alloc: Global, path: &'d Path, vars: &'d Vars) -> Result<Run<'d>, Memory>
+        ensures path { IfOk result (λ r. r.cursor.path ≡ path.now) }
+        ensures vars { IfOk result (λ r. r.cursor.vars ≡ vars.now) }
+    {
+        Ok(Run {
+            cursor: Cursor::new(alloc, path, vars, Item::Null)?,
+            faults: faults_of(path),
+        })
+    }
+
+    /// The fault that the path ends in under an item, if any. A path that may have one is run to its end for that.
+    pub(crate) fn fault_under<L: Ledger>(
+        &mut self,
+        parent: &Item<'d>,
+        steps: &mut Steps<L>,
+    ) -> Option<State>
+        ensures fault { result ≡ fault_of (path_trace (path_of self.old.cursor.path) self.old.cursor.vars (item_value parent.now)) }
+        ensures costs { steps.new ≤ raised steps.old (visits (path_trace (path_of self.old.cursor.path) self.old.cursor.vars (item_value parent.now))) }
+        ensures path { self.new.cursor.path ≡ self.old.cursor.path }
+        ensures vars { self.new.cursor.vars ≡ self.old.cursor.vars }
+    {
+        match self.faults {
+            Faults::Never => None,
+            Faults::Possible => {
+                self.cursor.rewind(*parent);
+                fault_at_end(&mut self.cursor, steps)
+            }
+        }
+    }
+
+    /// From the beginning, under an item.
+    pub(crate) fn rewind(&mut self, parent: &Item<'d>)
+        ensures left { self.new.cursor.left ≡ path_trace (path_of self.old.cursor.path) self.old.cursor.vars (item_value parent.now) }
+        ensures path { self.new.cursor.path ≡ self.old.cursor.path }
+        ensures vars { self.new.cursor.vars ≡ self.old.cursor.vars }
+    {
+        self.cursor.rewind(*parent);
+    }
+
+    /// The next item, or the end.
+    pub(crate) fn next<L: Ledger>(&mut self, steps: &mut Steps<L>) -> Pull<'d>
+        ensures answers { Draws self.old.cursor.left (pull_value result) self.new.cursor.left steps.old steps.new }
+        ensures path { self.new.cursor.path ≡ self.old.cursor.path }
+        ensures vars { self.new.cursor.vars ≡ self.old.cursor.vars }
+    {
+        self.cursor.next(steps)
+    }
+}
+
+fn faults_of(path: &Path) -> Faults
+    ensures { result ≡ Faults.Never → fault_free (path_of path.now) ≡ true }
+{
+    if is_fault_free(path) {
+        Faults::Never
+    } else {
+        Faults::Possible
+    }
+}
+
+// The fault that a cursor's sequence ends in, if any. The cursor then stands at its end.
+fn fault_at_end<'d, L: Ledger>(cursor: &mut Cursor<'d>, steps: &mut Steps<L>) -> Option<State>
+    ensures fault { result ≡ fault_of cursor.old.left }
+    ensures costs { steps.new ≤ raised steps.old (visits cursor.old.left) }
+    ensures path { cursor.new.path ≡ cursor.old.path }
+    ensures vars { cursor.new.vars ≡ cursor.old.vars }
+{
+    'items: loop {
+        match cursor.next(steps) {
+            Pull::Item(_item) => {}
+            Pull::End => return None,
+            Pull::Fault(state) => return Some(state),
+        }
+    }
+}
