@@ -20,13 +20,22 @@ use sj_table::TableCursor;
 use sj_value::SqlValue;
 use std::alloc::Global;
 
-/// A column.
-#[derive(Drop)]
+/// A column. Its `drop` is written out as that of an operation is.
 pub(crate) enum Column<'d> {
     /// FOR ORDINALITY, of the path of this number.
     Ordinality(u32),
     Regular(RegularColumn<'d>),
     Formatted(FormattedColumn<'d>),
+}
+
+impl<'d> Drop for Column<'d> {
+    fn drop(self) {
+        match self {
+            Column::Ordinality(_) => {}
+            Column::Regular(_column) => {}
+            Column::Formatted(_column) => {}
+        }
+    }
 }
 
 /// JSON_VALUE on the items of the path of this number. The cursor takes its memory once and is moved from row to row.

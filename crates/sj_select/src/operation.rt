@@ -6,7 +6,8 @@ use sj_statement::IsJsonCall;
 use sj_value::{ExistsAction, Nulls, QuerySpec, ValueSpec};
 
 /// How one value is found, or made of those that were found before it.
-#[derive(Drop)]
+///
+/// Its `drop` is written out, so that whoever holds one gives it up by one call, with the cells of its cursor.
 pub(crate) enum Operation<'d> {
     Literal(&'d Literal),
     /// The column of this number.
@@ -21,6 +22,22 @@ pub(crate) enum Operation<'d> {
     Object(usize, Nulls, bool),
     /// JSON_ARRAY of so many of the last values.
     Array(usize, Nulls),
+}
+
+impl<'d> Drop for Operation<'d> {
+    fn drop(self) {
+        match self {
+            Operation::Exists(_call) => {}
+            Operation::Value(_call) => {}
+            Operation::Query(_call) => {}
+            Operation::Literal(_)
+            | Operation::Column(_)
+            | Operation::IsJson(_)
+            | Operation::Member
+            | Operation::Object(_, _, _)
+            | Operation::Array(_, _) => {}
+        }
+    }
 }
 
 /// JSON_EXISTS. The cursor of its path takes its memory once and is moved from line to line, as in the other two.

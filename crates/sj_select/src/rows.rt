@@ -108,13 +108,27 @@ fn keep_row(found: Found, pile: &mut Pile)
 /// keep the text of what they took.
 ///
 /// Contracts see the statement, the line, the rows that are left, the row just given, and the steps that may still be taken.
-#[derive(Drop)]
+///
+/// Its `drop` is written out, so that whoever holds one gives it up by one call, and not part by part at each place where the holder
+/// may return early.
 pub struct RowsOf<'d> {
     alloc: Global,
     bound: &'d Bound,
     line: LineDoc<'d>,
     source: RowSource<'d>,
     stage: Stage,
+}
+
+impl<'d> Drop for RowsOf<'d> {
+    fn drop(self) {
+        let RowsOf {
+            alloc: _alloc,
+            bound: _bound,
+            line: _line,
+            source: _source,
+            stage: _stage,
+        } = self;
+    }
 }
 
 impl<'d> Model for RowsOf<'d> {

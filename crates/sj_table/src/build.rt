@@ -30,20 +30,20 @@ pub(crate) fn plan_cell<'d>(
         Plan::Outer(number, below) => nested(alloc, Join::Outer, *number, below, paths, vars),
         Plan::Inner(number, below) => nested(alloc, Join::Inner, *number, below, paths, vars),
         Plan::Union(left, right) => {
-            let left = plan_cell(alloc, left, paths, vars)?;
-            let right = plan_cell(alloc, right, paths, vars)?;
+            let left = boxed(alloc, left, paths, vars)?;
+            let right = boxed(alloc, right, paths, vars)?;
             Ok(Cell::Union(Union {
-                left: Box::new(alloc, left)?,
-                right: Box::new(alloc, right)?,
+                left,
+                right,
                 side: Side::Left,
             }))
         }
         Plan::Cross(left, right) => {
-            let left = plan_cell(alloc, left, paths, vars)?;
-            let right = plan_cell(alloc, right, paths, vars)?;
+            let left = boxed(alloc, left, paths, vars)?;
+            let right = boxed(alloc, right, paths, vars)?;
             Ok(Cell::Cross(Cross {
-                left: Box::new(alloc, left)?,
-                right: Box::new(alloc, right)?,
+                left,
+                right,
                 hand: Hand::Empty,
             }))
         }
@@ -64,14 +64,30 @@ fn nested<'d>(
     requires below { (k : ℕ) → length paths.now ≤ k → times k (plan_tree below.now) ≡ 0 }
     ensures { IfOk result (λ c. core c ≡ nested_of join (source (map path_of paths.now) vars.now number) (sourced (map path_of paths.now) vars.now (plan_tree below.now))) }
 {
+    let below = boxed(alloc, below, paths, vars)?;
     let parent = path_cell(alloc, number, paths, vars)?;
-    let below = plan_cell(alloc, below, paths, vars)?;
     Ok(Cell::Nested(Nested {
         join,
         parent,
-        below: Box::new(alloc, below)?,
+        below,
         at: At::Nothing,
     }))
+}
+
+// The cells of a plan, in a box. A box that waits for the cells beside it is given up by one call where memory runs out; cells would be
+// given up part by part, which is long to prove.
+#[cycle(build)]
+fn boxed<'d>(
+    alloc: Global,
+    plan: &'d Plan,
+    paths: &'d [Path],
+    vars: &'d Vars,
+) -> Result<Box<Cell<'d>>, Memory>
+    requires { (k : ℕ) → length paths.now ≤ k → times k (plan_tree plan.now) ≡ 0 }
+    ensures { IfOk result (λ c. core c.value ≡ sourced (map path_of paths.now) vars.now (plan_tree plan.now)) }
+{
+    let cell = plan_cell(alloc, plan, paths, vars)?;
+    Ok(Box::new(alloc, cell)?)
 }
 
 fn path_cell<'d>(

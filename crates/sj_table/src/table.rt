@@ -15,7 +15,9 @@ use std::marker::Model;
 ///
 /// Contracts see the plan, the paths, the variables, what a fault of a path does, the rows that are left, the row just given, and how
 /// many children of nodes may yet be handed out.
-#[derive(Drop)]
+///
+/// Its `drop` is written out, so that whoever holds one gives it up by one call, and not cell by cell at each place where the holder
+/// may return early.
 pub struct TableCursor<'d> {
     plan: &'d Plan,
     paths: &'d [Path],
@@ -25,6 +27,20 @@ pub struct TableCursor<'d> {
     cell: Cell<'d>,
     // what was answered last
     answered: Option<RowPull>,
+}
+
+impl<'d> Drop for TableCursor<'d> {
+    fn drop(self) {
+        let TableCursor {
+            plan: _plan,
+            paths: _paths,
+            vars: _vars,
+            on_error: _on_error,
+            root: _root,
+            cell: _cell,
+            answered: _answered,
+        } = self;
+    }
 }
 
 impl<'d> Model for TableCursor<'d> {

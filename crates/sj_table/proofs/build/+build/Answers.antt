@@ -14,18 +14,18 @@ pub plan_cell-nested-requires-in-Inner : goal.plan_cell-nested-requires-in-Inner
 plan_cell-nested-requires-in-Inner t c = rw c.deref-in-Inner.ensures
     (search rules, (named _ _ (λ k. times k (plan_tree c.in-Inner.below.value)) (rw c.in-Inner.is at c.requires), in_right _ (λ k. one_at k c.in-Inner.number) (λ k. times k (plan_tree c.in-Inner.below.value)) (rw c.in-Inner.is at c.requires)))
 
-pub plan_cell-plan_cell-requires : goal.plan_cell-plan_cell-requires
-plan_cell-plan_cell-requires t c = rw c.deref-in-Union.ensures
+pub plan_cell-boxed-requires : goal.plan_cell-boxed-requires
+plan_cell-boxed-requires t c = rw c.deref-in-Union.ensures
     (omega (arith, some_size (plan_tree c.in-Union.right.value), ap (λ p. tree_size (plan_tree p)) c.in-Union.is), in_left _ (λ k. times k (plan_tree c.in-Union.left.value)) (λ k. times k (plan_tree c.in-Union.right.value)) (rw c.in-Union.is at c.requires))
 
-pub plan_cell-plan_cell-requires-in-Union : goal.plan_cell-plan_cell-requires-in-Union
-plan_cell-plan_cell-requires-in-Union t c = rw c.deref-in-Union-2.ensures
+pub plan_cell-boxed-requires-in-Union : goal.plan_cell-boxed-requires-in-Union
+plan_cell-boxed-requires-in-Union t c = rw c.deref-in-Union-2.ensures
     (omega (arith, some_size (plan_tree c.in-Union.left.value), ap (λ p. tree_size (plan_tree p)) c.in-Union.is), in_right _ (λ k. times k (plan_tree c.in-Union.left.value)) (λ k. times k (plan_tree c.in-Union.right.value)) (rw c.in-Union.is at c.requires))
 
-pub plan_cell-plan_cell-requires-in-Cross : goal.plan_cell-plan_cell-requires-in-Cross
-plan_cell-plan_cell-requires-in-Cross t c = rw c.deref-in-Cross.ensures
+pub plan_cell-boxed-requires-in-Cross : goal.plan_cell-boxed-requires-in-Cross
+plan_cell-boxed-requires-in-Cross t c = rw c.deref-in-Cross.ensures
     (omega (arith, some_size (plan_tree c.in-Cross.right.value), ap (λ p. tree_size (plan_tree p)) c.in-Cross.is), in_left _ (λ k. times k (plan_tree c.in-Cross.left.value)) (λ k. times k (plan_tree c.in-Cross.right.value)) (rw c.in-Cross.is at c.requires))
 
-pub plan_cell-plan_cell-requires-in-Cross-2 : goal.plan_cell-plan_cell-requires-in-Cross-2
-plan_cell-plan_cell-requires-in-Cross-2 t c = rw c.deref-in-Cross-2.ensures
+pub plan_cell-boxed-requires-in-Cross-2 : goal.plan_cell-boxed-requires-in-Cross-2
+plan_cell-boxed-requires-in-Cross-2 t c = rw c.deref-in-Cross-2.ensures
     (omega (arith, some_size (plan_tree c.in-Cross.left.value), ap (λ p. tree_size (plan_tree p)) c.in-Cross.is), in_right _ (λ k. times k (plan_tree c.in-Cross.left.value)) (λ k. times k (plan_tree c.in-Cross.right.value)) (rw c.in-Cross.is at c.requires))
