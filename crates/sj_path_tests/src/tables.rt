@@ -326,14 +326,25 @@ fn runs_paths_that_have_no_fault_once(rt: HostRuntime) -> Result<(), Fail> {
     let partly = r#"{"g":[{"e":[{"f":1},{"h":2}]},{"e":[{"f":3}]}]}"#;
     let outer = table("lax $.p[*]", "lax $.x[*]", "", Shape::Outer);
     let inner = table("lax $.p[*]", "lax $.x[*]", "", Shape::Inner);
-    let tested = table("lax $.p[*]", "lax $.x[*] ? (@ > 5)", "lax $.y[*]", Shape::Union);
+    let tested = table(
+        "lax $.p[*]",
+        "lax $.x[*] ? (@ > 5)",
+        "lax $.y[*]",
+        Shape::Union,
+    );
     let crossed = table("lax $.p[*]", "lax $.x[*]", "lax $.y[*]", Shape::Cross);
     let indexed = table("lax $", "lax $.x[0, last]", "lax $.y[1 to 5]", Shape::Cross);
     let row = table("strict $.g[*].e[*].f", "", "", Shape::Single);
     let nested = table("lax $.g[*]", "strict $.e[*].f", "", Shape::Outer);
     let pairs = "1=#0 1=1 1=b / 1=#0 2=2 1=b / end";
     let cases = [
-        (parents, outer, Error, "1=#2 1=5 / 1=#2 2=6 / 2=#8 - / end", 11),
+        (
+            parents,
+            outer,
+            Error,
+            "1=#2 1=5 / 1=#2 2=6 / 2=#8 - / end",
+            11,
+        ),
         (parents, inner, Error, "1=#2 1=5 / 1=#2 2=6 / end", 11),
         (parents, tested, Error, "1=#2 1=6 - / 2=#8 - - / end", 17),
         (parents, crossed, Error, "1=#2 - - / 2=#8 - - / end", 17),

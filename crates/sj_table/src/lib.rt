@@ -28,8 +28,9 @@
 //! gives it with line 1; the second gives line 2; the third finds no line, goes to the notes, finds none, asks `$` for more,
 //! and ends.
 //!
-//! **A path is run to its end before its first row** under each parent item. A fault anywhere in it is thus known before any
-//! of its rows is given, as the rules for a table's ON ERROR want.
+//! **A path that may have a fault is run to its end before its first row** under each parent item. A fault anywhere in it is
+//! thus known before any of its rows is given, as the rules for a table's ON ERROR want. A path whose form rules out a fault
+//! is run once.
 //!
 //! The crate stands on `sj_cursor` for paths on items, and on `sj_value` for plans. It promises that each call of
 //! `TableCursor::next_row` gives the first row that the plan has left, or its end, takes no memory, and raises the counter
