@@ -1,15 +1,19 @@
 """Runs the built program, and says in what way a run differs from what is expected."""
+import os
+import resource
 import subprocess
 from dataclasses import dataclass
 from pathlib import Path
 
 LONGEST_RUN = 120  # seconds
 SHOWN = 300  # bytes of a text that is shown where it differs
+STREAMS = ("stdin", "stdout", "stderr")
+CLOSED = object()  # stands for a stream that the program is started without
 
 
 @dataclass(frozen=True)
 class Ended:
-    """How a run ended: its exit status and what it wrote."""
+    """How a run ended: its exit status and what it wrote. A status below 0 is that of the signal which ended it."""
 
     status: int
     output: bytes = b""
@@ -25,20 +29,37 @@ class Program:
     def exists(self):
         return self.path.is_file()
 
-    def start(self, words, **how):
-        """Starts a run; `how` is that of `subprocess.Popen`."""
+    def start(self, words, limits=(), **how):
+        """Starts a run, and gives its process.
+
+        `how` is that of `subprocess.Popen`, where a stream may be CLOSED too. `limits` are pairs of a limit of the module
+        `resource` and the value that the run is held to.
+        """
+        closed = [number for number, name in enumerate(STREAMS) if how.get(name) is CLOSED]
+        how.update({STREAMS[number]: None for number in closed})
+        if closed or limits:
+            how["preexec_fn"] = lambda: prepare(closed, limits)
         return subprocess.Popen([self.path, *words], **how)
 
-    def run(self, words, given=b"", folder=None):
-        """Runs the program to its end on these words and this standard input."""
-        pipes = {name: subprocess.PIPE for name in ("stdin", "stdout", "stderr")}
-        with self.start(words, cwd=folder, **pipes) as started:
+    def run(self, words, given=b"", folder=None, **how):
+        """Runs the program to its end. Each stream is a pipe where `how` has none, and `given` is what comes on standard input."""
+        streams = {name: how.pop(name, subprocess.PIPE) for name in STREAMS}
+        piped = streams["stdin"] == subprocess.PIPE
+        with self.start(words, cwd=folder, **streams, **how) as started:
             try:
-                output, note = started.communicate(given, timeout=LONGEST_RUN)
+                output, note = started.communicate(given if piped else None, timeout=LONGEST_RUN)
             except subprocess.TimeoutExpired:
                 started.kill()
-                raise
-        return Ended(started.returncode, output, note)
+                output, note = started.communicate()[0], b"it was killed after %d seconds" % LONGEST_RUN
+        return Ended(started.returncode, output or b"", note or b"")
+
+
+def prepare(closed, limits):
+    """Closes streams and sets limits, in the new process before the program begins."""
+    for number in closed:
+        os.close(number)
+    for limit, value in limits:
+        resource.setrlimit(limit, (value, value))
 
 
 def difference(wanted, ended):
