@@ -14,6 +14,7 @@ from checks.damage import check_damage
 from checks.edges import check_edges
 from checks.examples import check_examples
 from checks.guide import check_guide
+from checks.hard import check_hard
 from checks.limits import check_limits
 from checks.program import Program
 from checks.tally import Tally
@@ -39,6 +40,7 @@ def main():
         check_guide(tally, program, TOP / "docs" / "GUIDE.md")
         check_edges(tally, program)
         check_limits(tally, program)
+        check_hard(tally, program)
         check_damage(tally, program)
         if not given.program:
             check_command(tally, TOP)

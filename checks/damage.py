@@ -105,19 +105,23 @@ def check_texts(tally, program, folder, name, texts, ask):
 
 
 def ask_file(program, path, text):
-    """Checks a file, and says what is wrong with the answer."""
+    """Checks a file, and says what is wrong with the answer.
+
+    A lexical error belongs to the statement in which it stands, and the one behind the last `;` is refused for it, or has
+    no end. A statement before that one may be refused for another reason.
+    """
     path.write_bytes(text)
     ended = program.run(["check", path.name], b"", path.parent)
     path.unlink()
     found, broken = file_tokens(text)
-    whole, beside = found.count(b";"), broken or found[-1:] not in ([], [b";"])
+    whole = found.count(b";")
+    last = "lexical error" if broken else "syntax error" if found[-1:] not in ([], [b";"]) else None
     refused = refusal(ended)
     if refused:
         number, reason = refused
-        at_fault = broken and number == whole + 1
-        right = number <= whole + bool(beside) and at_fault == (reason == "lexical error")
+        right = reason == last if number == whole + 1 else number <= whole and reason != "lexical error"
     else:
-        right = not beside and accepted(ended) == whole
+        right = not last and accepted(ended) == whole
     return None if right else f"it ended as {ended}"
 
 

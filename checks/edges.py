@@ -17,7 +17,7 @@ from resource import RLIMIT_FSIZE
 
 from checks import streams
 from checks.answers import accepted, refusal
-from checks.program import CLOSED, Ended, difference
+from checks.program import CLOSED, Ended, difference, front_problem
 
 USAGE = b"usage: sqljson run [--unique-keys] FILE | check FILE | selfrun N FILE\n"
 UNREADABLE = Ended(3, note=b"statement file cannot be read\n")
@@ -26,7 +26,6 @@ MEMBER = b"SELECT JSON_EXISTS(doc, 'lax $.a');\n"
 NUMBER = b"SELECT JSON_VALUE(doc, 'lax $.n' RETURNING INTEGER ERROR ON ERROR);\n"
 MANY = b"SELECT JSON_VALUE(doc, '$.a' RETURNING NUMERIC(10,2) DEFAULT 0 ON EMPTY), doc IS JSON OBJECT;\n" * 1000
 LONGEST_FILE = 1_048_576
-HELD_BACK = 65_536  # bytes: the rows of lines that end before the last so many bytes read are always written
 LONGEST_PIPE = 65_536  # bytes that a pipe holds where nobody reads it
 LONGEST_WAIT = 20  # seconds
 INPUT_FAILED, OUTPUT_FAILED = b"input failed\n", b"output failed\n"
@@ -261,6 +260,9 @@ BROKEN_STREAMS = [
     ("generated lines and a full disk", SELFRUN, {"stdout": streams.full_disk}, NO_OUTPUT),
     ("no row for a full disk", ["run", "none.sql"], {"stdout": streams.full_disk}, Ended(0)),
     ("no row for a closed output", ["run", "none.sql"], {"stdout": CLOSED}, Ended(0)),
+    ("a check without an input", CHECK, {"stdin": CLOSED}, Ended(0, b"accepted 1\n")),
+    ("generated lines without an input", SELFRUN, {"stdin": CLOSED}, Ended(0, b"lines 3 rows 3 errors 0 bytes 36\n")),
+    ("a check without a stream", CHECK, {"stdin": CLOSED, "stdout": CLOSED}, NO_OUTPUT),
     # Where two things are wrong, the one that is met first decides.
     ("no command", ["walk"], {"stdin": streams.a_folder, "stdout": streams.full_disk}, Ended(1, note=USAGE)),
     ("a refused file", ["run", "refused.sql"], {"stdin": streams.a_folder, "stdout": streams.full_disk}, REFUSED),
@@ -316,8 +318,7 @@ def check_broken_writes(tally, program, folder):
     rows = b"".join(TRUE_ROW % number for number in range(1, 200_001))
     ended, taken = into_file(program, folder, "member.sql", lines, room)
     tally.check("a long output with little room", difference(Ended(5, rows[:room], OUTPUT_FAILED), ended))
-    least = sum(len(TRUE_ROW % number) for number in range(1, (taken - HELD_BACK) // 11 + 1))
-    tally.check("rows that are never held back", None if len(ended.output) >= least else f"{least} bytes of rows were owed")
+    tally.check("the rows that are owed", front_problem(rows, lines, taken, ended.output))
 
 
 def into_file(program, folder, file, lines, room):

@@ -7,6 +7,7 @@ from pathlib import Path
 
 LONGEST_RUN = 120  # seconds
 SHOWN = 300  # bytes of a text that is shown where it differs
+HELD_BACK = 65_536  # bytes: the rows of the lines among the last so many bytes taken may be missing where a run gives up
 STREAMS = ("stdin", "stdout", "stderr")
 CLOSED = object()  # stands for a stream that the program is started without
 
@@ -71,6 +72,19 @@ def difference(wanted, ended):
     if ended.note != wanted.note:
         return f"it said {shown(ended.note)}, and not {shown(wanted.note)}"
     return None
+
+
+def front_problem(rows, lines, taken, output):
+    """Says what is wrong with the output of a run that gave up when so many bytes of the lines were taken.
+
+    It has to be a beginning of all rows, with at least those of the lines that end before the last bytes taken, which may
+    be held back.
+    """
+    if not rows.startswith(output):
+        return f"it wrote {shown(output)}, which is no beginning of its rows"
+    whole = lines[: max(taken - HELD_BACK, 0)].count(b"\n")
+    owed = sum(len(row) + 1 for row in rows.split(b"\n")[:-1] if int(row.partition(b"\t")[0]) <= whole)
+    return f"it wrote {len(output)} bytes, and owed {owed}" if len(output) < owed else None
 
 
 def shown(text):
