@@ -1,11 +1,12 @@
 #!/usr/bin/env python3
 """Measures how long hard statement files take at a size and at four times that size: `bench/hard_files.py`, at the top.
 
-The larger file of each kind has about a megabyte. Where a statement has a limit, as of 1,000 columns, the larger file has
-statements at that limit and the smaller file as many statements of a quarter. Each file is checked, and run over no
-input. Told are the least processor times of some rounds, how many times longer the larger file took than the smaller, how
-many times more bytes it has, and the peak of memory for it. A time that grows by over half more than the bytes do is
-marked, and then the script ends with status 1. The benchmark is no part of the tests, and nothing that it says is proved.
+The larger file of each kind has about a megabyte. Where a statement has a limit, as of 1,000 columns, the larger file
+has statements at that limit and the smaller file as many statements of a quarter. Each file is checked, and run over no
+input. Told are the least processor times of some rounds, how many times longer the larger file took than the smaller,
+how many times more bytes it has, and the peak of memory for it. A time that grows by over half more than the bytes do is
+marked, and then the script ends with status 1. The benchmark is no part of the tests, and nothing that it says is
+proved.
 """
 import os
 import subprocess
@@ -106,7 +107,8 @@ def main():
     words.add_argument("--rounds", type=int, default=3, metavar="N", help="how often each is run (default: 3)")
     given = read(words)
     rounds = max(given.rounds, 1)
-    print(f"{'':34}{'bytes':>10}{'times':>7}" + "".join(f"{command:>9}{'':8}{'times':>6} {'MB':>7}" for command in COMMANDS))
+    heads = (f"{command:>9}{'':8}{'times':>6} {'MB':>7}" for command in COMMANDS)
+    print(f"{'':34}{'bytes':>10}{'times':>7}" + "".join(heads))
     with tempfile.TemporaryDirectory() as room:
         empty = Path(room, "empty.sql")
         empty.write_text("")

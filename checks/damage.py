@@ -1,8 +1,8 @@
-"""Damaged texts: whatever a line, a statement file or a path is, the program has one answer, and neither crashes nor hangs.
+"""Damaged texts: whatever a line, a statement file or a path is, the program has one answer, and no crash and no hang.
 
 From a few rich texts every beginning is taken, every byte is replaced by each of some telling bytes, and every two
-neighbouring pieces are exchanged. What a line is, JSON or not, is compared with Python's own reading; of files and
-paths it is known apart from the program where they do not break into tokens, and the rest has one of the stated answers.
+neighbouring pieces are exchanged. Whether a line is JSON is compared with Python's own reading. Of files and paths it is
+known apart from the program where they do not break into tokens; all others have one of the stated answers.
 """
 import os
 import re
@@ -24,8 +24,10 @@ KINDS = b"SELECT doc IS JSON, doc IS JSON OBJECT, doc IS JSON ARRAY, doc IS JSON
 REPEATS = b"SELECT JSON_EXISTS(doc, '$' ERROR ON ERROR);"
 DOCUMENTS = (Path(__file__).parent / "documents.jsonl").read_bytes().rstrip(b"\n").split(b"\n")
 FILES = [
-    b"""SELECT JSON_VALUE(doc, '$.a' RETURNING NUMERIC(5,2) DEFAULT -1.5 ON EMPTY) AS "a b", doc IS NOT JSON ARRAY; -- it's; one
-SELECT JSON_OBJECT(KEY 'k' VALUE JSON_QUERY(doc, 'strict $x[0]' PASSING 1 AS x WITH WRAPPER) ABSENT ON NULL), 'o''k';""",
+    b"""SELECT JSON_VALUE(doc, '$.a' RETURNING NUMERIC(5,2) DEFAULT -1.5 ON EMPTY) AS "a b", doc IS NOT JSON;
+-- it's; one
+SELECT JSON_OBJECT(KEY 'k' VALUE JSON_QUERY(doc, 'strict $x[0]' PASSING 1 AS x WITH WRAPPER) ABSENT ON NULL),
+'o''k';""",
     b"""SELECT JSON_OBJECTAGG(s : q WITH UNIQUE KEYS) FROM JSON_TABLE(doc, '$.l[*]' AS r COLUMNS (o FOR ORDINALITY,
 s VARCHAR(9), q INT PATH '$.q' ERROR ON ERROR, NESTED '$.t' AS t COLUMNS (j VARCHAR FORMAT JSON OMIT QUOTES))
 PLAN (r INNER t)) AS z;""",
@@ -107,8 +109,8 @@ def check_texts(tally, program, folder, name, texts, ask):
 def ask_file(program, path, text):
     """Checks a file, and says what is wrong with the answer.
 
-    A lexical error belongs to the statement in which it stands, and the one behind the last `;` is refused for it, or has
-    no end. A statement before that one may be refused for another reason.
+    A lexical error belongs to the statement in which it stands: the one behind the last `;` is refused for it, or for
+    having no end. A statement before that one may be refused for another reason.
     """
     path.write_bytes(text)
     ended = program.run(["check", path.name], b"", path.parent)

@@ -40,14 +40,21 @@ REFUSED = Ended(2, note=b"statement 1: syntax error\n")
 def check_edges(tally, program):
     with tempfile.TemporaryDirectory() as room:
         folder = Path(room)
-        for name, file in [("member", MEMBER), ("number", NUMBER), ("many", MANY), ("none", b""), ("refused", b"SELECT")]:
+        too_long = MEMBER + b" " * (LONGEST_FILE + 1 - len(MEMBER))
+        files = {"member": MEMBER, "number": NUMBER, "many": MANY, "none": b"", "refused": b"SELECT", "too_long": too_long}
+        for name, file in files.items():
             (folder / f"{name}.sql").write_bytes(file)
-        (folder / "too_long.sql").write_bytes(MEMBER + b" " * (LONGEST_FILE + 1 - len(MEMBER)))
-        for check in [
-            check_words, check_files, check_piped_files, check_changing_files, check_generated, check_cuts, check_streams,
-            check_broken_reads, check_broken_writes, check_early_end, check_unread_input,
-        ]:
-            check(tally, program, folder)
+        check_words(tally, program, folder)
+        check_files(tally, program, folder)
+        check_piped_files(tally, program, folder)
+        check_changing_files(tally, program, folder)
+        check_generated(tally, program, folder)
+        check_cuts(tally, program, folder)
+        check_streams(tally, program, folder)
+        check_broken_reads(tally, program, folder)
+        check_broken_writes(tally, program, folder)
+        check_early_end(tally, program, folder)
+        check_unread_input(tally, program, folder)
 
 
 def check_words(tally, program, folder):
@@ -61,7 +68,8 @@ def check_words(tally, program, folder):
         tally.check(f"the words {words}", difference(Ended(1, note=USAGE), program.run(words, b"true\n", folder)))
     for name in ["a b.sql", "größer.sql", "'\"\\.sql", "two\nlines.sql"]:
         (folder / name).write_bytes(MEMBER)
-        tally.check(f"a file {name!r}", difference(Ended(0, ALL_ROWS), program.run(["run", name], streams.LINES, folder)))
+        ended = program.run(["run", name], streams.LINES, folder)
+        tally.check(f"a file {name!r}", difference(Ended(0, ALL_ROWS), ended))
     tally.check("a word that isn't UTF-8", difference(Ended(9), program.run(["run", b"\xff.sql"], b"true\n", folder)))
 
 
@@ -134,7 +142,7 @@ def opened_pipe(path):
 
 
 def check_changing_files(tally, program, folder):
-    """A file that changes while it is read has the answer of some file, and one that comes and goes is read or is not."""
+    """A file that changes while it is read has the answer of some file, and one that comes and goes is read or isn't."""
     path, away = folder / "changing.sql", folder / "away.sql"
     path.write_bytes(MANY)
 
@@ -181,8 +189,8 @@ def generated(number):
 def check_generated(tally, program, folder):
     """A run over generated lines tells how much the same run over these lines writes."""
     number = 2000
-    statements = b"SELECT JSON_VALUE(doc, '$.v[0]' ERROR ON ERROR), JSON_VALUE(doc, '$.s');\nSELECT JSON_EXISTS(doc, 'lax $');\n"
-    (folder / "generated.sql").write_bytes(statements)
+    values = b"SELECT JSON_VALUE(doc, '$.v[0]' ERROR ON ERROR), JSON_VALUE(doc, '$.s');\n"
+    (folder / "generated.sql").write_bytes(values + MEMBER)
     written = program.run(["run", "generated.sql"], generated(number), folder).output
     rows = written.splitlines()
     errors = sum(row.split(b"\t")[2] == b"E" for row in rows)
@@ -192,7 +200,7 @@ def check_generated(tally, program, folder):
 
 
 def check_cuts(tally, program, folder):
-    """Input in any pieces gives the same rows, also where the run is stopped for a while, and rows come while it is open."""
+    """Input in any pieces gives the same rows, which come while it is open, also to a run that was stopped for a while."""
     given = b'\n{"a":"x"}\r\n \t\n{"a"\n{"b":[{"a":null}]}'
     wanted = Ended(0, TRUE_ROW % 2 + FALSE_ROW % 4 + FALSE_ROW % 5)
     tally.check("a byte at a time", difference(wanted, in_pieces(program, folder, [bytes([byte]) for byte in given])))
@@ -274,7 +282,7 @@ BROKEN_STREAMS = [
 
 
 def check_streams(tally, program, folder):
-    """Faults of streams are told by the status and by one message, and a message that can't be written changes nothing."""
+    """Faults of streams are told by the status and one message, and a message that can't be written changes nothing."""
     for name, words, broken, wanted in BROKEN_STREAMS:
         tally.check(name, difference(wanted, with_streams(program, folder, words, broken)))
         unsaid = Ended(wanted.status, wanted.output)
@@ -308,7 +316,7 @@ def check_broken_reads(tally, program, folder):
 
 
 def check_broken_writes(tally, program, folder):
-    """An output that may have so many bytes and no more has just these, where a write beyond is refused and no signal."""
+    """An output that may have so many bytes has just these, where a write beyond them is refused and raises no signal."""
     whole = b"".join(NUMBER_ROW % (number, number) for number in (1, 2, 3))
     for room in range(len(whole) + 1):
         ended, _ = into_file(program, folder, "number.sql", generated(3), room)
@@ -330,7 +338,8 @@ def into_file(program, folder, file, lines, room):
     (folder / "lines").write_bytes(lines)
     with open(folder / "lines", "rb", buffering=0) as given, open(folder / "rows", "w+b", buffering=0) as rows:
         limits = [(RLIMIT_FSIZE, room)]
-        ended = program.run(["run", file], folder=folder, stdin=given, stdout=rows, limits=limits, restore_signals=False)
+        how = {"stdin": given, "stdout": rows, "limits": limits, "restore_signals": False}
+        ended = program.run(["run", file], folder=folder, **how)
         rows.seek(0)
         return Ended(ended.status, rows.read(), ended.note), given.tell()
 
@@ -356,7 +365,7 @@ def check_early_end(tally, program, folder):
 
 
 def check_unread_input(tally, program, folder):
-    """The input is left alone where the words or the file are refused, and in a check and a run over generated lines."""
+    """The input is left alone where the words or the file are refused, in a check and in a run over generated lines."""
     (folder / "lines").write_bytes(streams.LINES)
     for words in [["walk"], ["run", "refused.sql"], ["run", "absent.sql"], ["run", "too_long.sql"], CHECK, SELFRUN]:
         with open(folder / "lines", "rb", buffering=0) as given:

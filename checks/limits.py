@@ -40,7 +40,8 @@ def siblings(count, plan=""):
 
 def union(operators):
     """A table with a plan of so many operators, each between two of its paths."""
-    return siblings(operators + 2, f"PLAN (p0 OUTER ({' UNION '.join(f'p{number}' for number in range(1, operators + 2))}))")
+    paths = " UNION ".join(f"p{number}" for number in range(1, operators + 2))
+    return siblings(operators + 2, f"PLAN (p0 OUTER ({paths}))")
 
 
 def nested(depth):
@@ -51,7 +52,7 @@ def nested(depth):
 
 
 def negations(count):
-    """A path with so many of the sign `!`, in one filter: each stands behind a sign `||`, and an odd one makes room for a `.`."""
+    """A path with so many signs: a `?`, a `!` behind each `||` but the last, and a `.` where they are odd."""
     return exists("$" + ".a" * (count % 2) + "?(1==2" + "||!(1==1)" * (count // 2 - 1) + "||1==2)")
 
 
@@ -96,7 +97,8 @@ def check_statements(tally, program, folder):
         within = program.run(["check", "within.sql"], folder=folder, limits=STACK)
         tally.check(f"{greatest} {what}", difference(Ended(0, b"accepted 1\n"), within))
         ran = program.run(["run", "within.sql"], b'{"a":[1,"x"]}', folder, limits=STACK)
-        tally.check(f"{greatest} {what}, run", None if ran.status == 0 and ran.output and not ran.note else f"it ended as {ran}")
+        well = ran.status == 0 and ran.output and not ran.note
+        tally.check(f"{greatest} {what}, run", None if well else f"it ended as {ran}")
         beyond = program.run(["check", "beyond.sql"], folder=folder, limits=STACK)
         tally.check(f"one more {what}", difference(Ended(2, note=f"statement 1: {reason}\n".encode()), beyond))
 

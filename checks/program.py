@@ -7,7 +7,8 @@ from pathlib import Path
 
 LONGEST_RUN = 120  # seconds
 SHOWN = 300  # bytes of a text that is shown where it differs
-HELD_BACK = 65_536  # bytes: the rows of the lines among the last so many bytes taken may be missing where a run gives up
+# Where a run gives up, the rows of the lines that end among the last so many bytes taken may be missing.
+HELD_BACK = 65_536
 STREAMS = ("stdin", "stdout", "stderr")
 CLOSED = object()  # stands for a stream that the program is started without
 
@@ -33,8 +34,8 @@ class Program:
     def start(self, words, limits=(), **how):
         """Starts a run, and gives its process.
 
-        `how` is that of `subprocess.Popen`, where a stream may be CLOSED too. `limits` are pairs of a limit of the module
-        `resource` and the value that the run is held to.
+        `how` is that of `subprocess.Popen`, where a stream may be CLOSED too. `limits` are pairs of a limit of the
+        module `resource` and the value that the run is held to.
         """
         closed = [number for number, name in enumerate(STREAMS) if how.get(name) is CLOSED]
         how.update({STREAMS[number]: None for number in closed})
@@ -43,7 +44,7 @@ class Program:
         return subprocess.Popen([self.path, *words], **how)
 
     def run(self, words, given=b"", folder=None, **how):
-        """Runs the program to its end. Each stream is a pipe where `how` has none, and `given` is what comes on standard input."""
+        """Runs the program to its end. A stream that `how` does not have is a pipe, and `given` comes on standard input."""
         streams = {name: how.pop(name, subprocess.PIPE) for name in STREAMS}
         piped = streams["stdin"] == subprocess.PIPE
         with self.start(words, cwd=folder, **streams, **how) as started:
@@ -77,8 +78,7 @@ def difference(wanted, ended):
 def front_problem(rows, lines, taken, output):
     """Says what is wrong with the output of a run that gave up when so many bytes of the lines were taken.
 
-    It has to be a beginning of all rows, with at least those of the lines that end before the last bytes taken, which may
-    be held back.
+    It has to be a beginning of all rows, with at least those of the lines that end before the last bytes taken.
     """
     if not rows.startswith(output):
         return f"it wrote {shown(output)}, which is no beginning of its rows"

@@ -32,9 +32,9 @@ def terminal_that_hangs_up(opened, folder):
 
 
 def broken_connection(opened, folder, given=LINES):
-    """A socket whose peer has sent what is given, and is gone without having read what came to it: the read behind fails."""
+    """A socket whose peer has sent what is given, and is gone with a byte unread: the read behind fails."""
     ours, theirs = socket.socketpair()
-    theirs.sendall(b"unread")
+    theirs.sendall(b"?")
     ours.sendall(given)
     ours.close()
     return kept(opened, theirs.detach())
