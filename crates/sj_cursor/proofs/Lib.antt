@@ -13,3 +13,4 @@ mod Parts
 mod Connectives
 mod Unopened
 mod Soles
+pub mod WithoutFaults

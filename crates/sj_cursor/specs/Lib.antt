@@ -5,6 +5,7 @@ pub mod Comparisons
 pub mod Rows
 pub mod RowsSeen
 pub mod Meaning
+pub mod FaultFree
 pub mod Draws
 pub mod Decides
 pub mod Looks

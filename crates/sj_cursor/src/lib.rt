@@ -1,16 +1,47 @@
 //! Paths, evaluated lazily: what a path means on an item, and a cursor that gives it item by item.
 //!
-//! `specs/Meaning.antt` says which trace a path has (ISO/IEC 9075-2, SQL/JSON path language): its items in order, how it ends, and
-//! which children of nodes are handed out on the way. `specs/Verdicts.antt` and `specs/Comparisons.antt` say what predicates are,
-//! and what finding their truth may take; `specs/Single.antt` and `specs/Numbers.antt` what operands and subscripts are.
+//! `specs/Meaning.antt` says which trace a path has (ISO/IEC 9075-2, SQL/JSON path language): its items in order, how it
+//! ends, and which children of nodes are handed out on the way. `specs/Verdicts.antt` and `specs/Comparisons.antt` say what
+//! predicates are, and what finding their truth may take; `specs/Single.antt` and `specs/Numbers.antt` what operands and
+//! subscripts are.
 //!
-//! A [`Cursor`] has a cell for each part of its path, made in `Cursor::new`, which takes all memory. A cell asks the cells below it
-//! for one item at a time and holds where it stands, and no list. `specs/Left.antt` says which expression a cell is of, and which
-//! trace it has left.
+//! A [`Cursor`] has a cell for each part of its path, made in `Cursor::new`, which takes all memory. A cell asks the cells
+//! below it for one item at a time and holds where it stands, and no list. `specs/Left.antt` says which expression a cell is
+//! of, and which trace it has left.
 //!
-//! The crate stands on `sj_path` for paths and variables, on `sj_step` for accessors and traces, and on `sj_method` for methods and
-//! arithmetic. It promises that each call of `Cursor::next` gives the first item that the meaning has left, or its end, takes no
-//! memory, and raises the counter by no more than the visits that stand before that item or end.
+//! # How a path is evaluated
+//!
+//! A path is a chain: a beginning such as `$`, and behind it accessors, filters and methods. Each of its parts becomes a
+//! cell that owns the cell before it. The cells of `lax $.lines[*] ? (@.qty > 3).sku` are
+//!
+//! ```text
+//! Each(.sku) ── asks ──▶ Each(? filter) ──▶ Each([*]) ──▶ Each(.lines) ──▶ One($)
+//!                            │ tests each item by
+//!                            ▼
+//!                        Compare(>): Each(.qty) ──▶ One(@)     and     One(3)
+//! ```
+//!
+//! **One call of `next`** asks the last cell for an item. A cell first gives what it still has of the item at hand: the
+//! members or elements that are left, say. If nothing is left, it asks the cell before it for the next item, takes that in
+//! hand and begins anew. In lax mode an array that is handed over to a member accessor, a filter or most methods is
+//! unwrapped on the way: the cell then takes its elements one after the other. So at most one item is at hand in each cell,
+//! and no list is ever built.
+//!
+//! **A filter** takes an item in hand, rewinds the cells of its predicate, and evaluates these with the item as their `@`.
+//! It gives the item if the predicate is True and asks for the next one if it is False or Unknown. On
+//! `{"lines":[{"qty":2,"sku":"a"},{"qty":5,"sku":"b"}]}` the first call of `next` goes down to `$`, `.lines` finds the
+//! array, `[*]` gives its first element, the filter rejects it (2 > 3 is False), `[*]` gives the second element, the filter
+//! keeps it, and `.sku` gives `"b"`. The second call finds nothing left in any cell, and ends.
+//!
+//! **A fault** (a missing member in strict mode, say) passes through all cells to the caller and ends the path. Inside a
+//! predicate it makes the truth Unknown instead, and the path goes on.
+//!
+//! **A rewind** sends each cell back to its beginning: no item is at hand, and nothing was given. It takes no memory, so one
+//! cursor serves the items of one row after another, of one line after another.
+//!
+//! The crate stands on `sj_path` for paths and variables, on `sj_step` for accessors and traces, and on `sj_method` for
+//! methods and arithmetic. It promises that each call of `Cursor::next` gives the first item that the meaning has left, or
+//! its end, takes no memory, and raises the counter by no more than the visits that stand before that item or end.
 #![tactic(auto)]
 
 mod act;
@@ -20,7 +51,9 @@ mod build;
 mod cells;
 mod cursor;
 mod env;
+mod fault_free;
 mod held;
+mod law;
 mod look;
 mod next;
 mod one;
@@ -30,3 +63,5 @@ mod row;
 mod subscripts;
 
 pub use cursor::Cursor;
+pub use fault_free::is_fault_free;
+pub use law::fault_free_paths_end_well;

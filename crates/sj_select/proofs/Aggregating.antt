@@ -175,8 +175,8 @@ can_take_at (x ∷ xs) (suc k) d h within = can_take_at xs k d (λ i e less. h (
 
 item_split : (x : b.Item) (items : List b.Item) → aggregates_in (x ∷ items) ≡ aggregates_in (x ∷ []) ++ aggregates_in items
 item_split (b.Single x) items = refl
-item_split (b.ArrayAgg x on_null) items = refl
-item_split (b.ObjectAgg key x on_null unique) items = refl
+item_split (b.ArrayAgg x _) items = refl
+item_split (b.ObjectAgg key x _ unique) items = refl
 
 -- the aggregates so far and those of the items that are left, one item further
 pub collect_step : (xs : List BoundItem) (i : ℕ) (d x : BoundItem) (old new one : List AggregateHeld) (whole : List Aggregate) → i < length xs → get_or xs i d ≡ x → new ≡ old ++ one

@@ -503,29 +503,29 @@ ran_quiet (Some f) b a status r quiet = λ has is. by_fault has (subst (Ran (Som
     by_fault has (inl idle) = idle.why.1 quiet has
     by_fault has (inr d) = not_before f d.statements b.input a.input b.out a.out ShelfFault d.does tt
 
-read_rose : (f : Form) (K : List Bound) (i i' : InputSide) (o o' : OutputSide) → Does f K i i' o o' ReadFault → Rose i.faults i'.faults
-read_rose (running keys name) K i i' o o' d = d.1.why.1
+read_rose : (f : Form) (K : List Bound) (i i' : InputSide) (o o' : OutputSide) → Does f K i i' o o' ReadFault → Rose i.faults i'.faults × (o'.faults ≡ o.faults)
+read_rose (running keys name) K i i' o o' d = (d.1.why.1, d.1.why.2)
 read_rose (checking name) K i i' o o' d = absurd d.1
 read_rose (generating number name) K i i' o o' d = absurd d.1
 
-pub ran_read_rose : (f : Option Form) (b a : Moment) (status : Status) → Ran f b a status → status ≡ ReadFault → Rose b.input.faults a.input.faults
+pub ran_read_rose : (f : Option Form) (b a : Moment) (status : Status) → Ran f b a status → status ≡ ReadFault → Rose b.input.faults a.input.faults × (a.out.faults ≡ b.out.faults)
 ran_read_rose None b a status r is = absurd (cc (r.0, is))
 ran_read_rose (Some f) b a status r is = by_fault (subst (Ran (Some f) b a) is r)
   where
-    by_fault : Ran (Some f) b a ReadFault → Rose b.input.faults a.input.faults
+    by_fault : Ran (Some f) b a ReadFault → Rose b.input.faults a.input.faults × (a.out.faults ≡ b.out.faults)
     by_fault (inl idle) = absurd idle.why
     by_fault (inr d) = read_rose f d.statements b.input a.input b.out a.out d.does
 
-write_rose : (f : Form) (K : List Bound) (i i' : InputSide) (o o' : OutputSide) → Does f K i i' o o' WriteFault → Rose o.faults o'.faults
-write_rose (running keys name) K i i' o o' d = d.1.why.1
-write_rose (checking name) K i i' o o' d = d.1.1
-write_rose (generating number name) K i i' o o' d = d.1.1
+write_rose : (f : Form) (K : List Bound) (i i' : InputSide) (o o' : OutputSide) → Does f K i i' o o' WriteFault → Rose o.faults o'.faults × (i'.faults ≡ i.faults)
+write_rose (running keys name) K i i' o o' d = (d.1.why.1, d.1.why.2)
+write_rose (checking name) K i i' o o' d = (d.1.1, ap (λ (p : InputSide). p.faults) d.0)
+write_rose (generating number name) K i i' o o' d = (d.1.1, d.0.faults)
 
-pub ran_write_rose : (f : Option Form) (b a : Moment) (status : Status) → Ran f b a status → status ≡ WriteFault → Rose b.out.faults a.out.faults
+pub ran_write_rose : (f : Option Form) (b a : Moment) (status : Status) → Ran f b a status → status ≡ WriteFault → Rose b.out.faults a.out.faults × (a.input.faults ≡ b.input.faults)
 ran_write_rose None b a status r is = absurd (cc (r.0, is))
 ran_write_rose (Some f) b a status r is = by_fault (subst (Ran (Some f) b a) is r)
   where
-    by_fault : Ran (Some f) b a WriteFault → Rose b.out.faults a.out.faults
+    by_fault : Ran (Some f) b a WriteFault → Rose b.out.faults a.out.faults × (a.input.faults ≡ b.input.faults)
     by_fault (inl idle) = absurd idle.why
     by_fault (inr d) = write_rose f d.statements b.input a.input b.out a.out d.does
 

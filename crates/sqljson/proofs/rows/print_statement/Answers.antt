@@ -14,9 +14,9 @@ loop-turn-init g c = record {
 
 pub loop-turn-preserved : goal.loop-turn-preserved
 loop-turn-preserved g c = record {
-  printing = printing_more _ _ _ _ _ _ _ c.loop-turn.invariant.printing (turn_row _ _ _ _ _ c.as_slice.result.now c.in-Ok.ensures.gives c.in-Row.is (c.as_slice.ensures.value ∙ c.take_row-row.ensures.is) ∙ ap (λ xs. followed_by (row_print c.args.number c.args.statement c.as_slice.result.now) (rows_print c.args.number c.args.statement xs)) (sym c.take_row-row.ensures.left)) c.in-Ok-row.ensures.prints;
-  costs = omega (arith, c.take_row-row.ensures.due, spent_on _ _ _ _ _ _ c.in-Ok.ensures.spends c.loop-turn.invariant.costs);
-  bound = c.take_row-row.ensures.bound ∙ c.next.ensures.bound ∙ c.loop-turn.invariant.bound;
+  printing = printing_more _ _ _ _ _ _ _ c.loop-turn.invariant.printing (turn_row _ _ _ _ _ c.as_slice.result.now c.in-Ok.ensures.gives c.in-Row.is (c.as_slice.ensures.value ∙ c.take_row-row.ensures.is) ∙ ap (λ xs. followed_by (row_print c.args.number c.args.statement c.as_slice.result.now) (rows_print c.args.number c.args.statement xs)) (sym (c.give_back.ensures.left ∙ c.take_row-row.ensures.left))) c.in-Ok-row.ensures.prints;
+  costs = omega (arith, c.give_back.ensures.due, c.take_row-row.ensures.due, spent_on _ _ _ _ _ _ c.in-Ok.ensures.spends c.loop-turn.invariant.costs);
+  bound = c.give_back.ensures.bound ∙ c.take_row-row.ensures.bound ∙ c.next.ensures.bound ∙ c.loop-turn.invariant.bound;
 }
 
 pub returns-in-Err-clause-prints : goal.returns-in-Err-clause-prints
