@@ -27,7 +27,8 @@ NUMBER = b"SELECT JSON_VALUE(doc, 'lax $.n' RETURNING INTEGER ERROR ON ERROR);\n
 MANY = b"SELECT JSON_VALUE(doc, '$.a' RETURNING NUMERIC(10,2) DEFAULT 0 ON EMPTY), doc IS JSON OBJECT;\n" * 1000
 LONGEST_FILE = 1_048_576
 LONGEST_PIPE = 65_536  # bytes that a pipe holds where nobody reads it
-LONGEST_WAIT = 20  # seconds
+LONGEST_WAIT = 20  # seconds: within it a pipe is opened, and a row comes
+RUN, CHECK, SELFRUN = ["run", "member.sql"], ["check", "member.sql"], ["selfrun", "3", "member.sql"]
 INPUT_FAILED, OUTPUT_FAILED = b"input failed\n", b"output failed\n"
 TRUE_ROW, FALSE_ROW, NUMBER_ROW = b"%d\t1\tR\tTRUE\n", b"%d\t1\tR\tFALSE\n", b"%d\t1\tR\t%d\n"
 ROWS = TRUE_ROW % 1 + FALSE_ROW % 2  # of the whole lines among streams.LINES
@@ -113,7 +114,7 @@ def through_pipe(program, folder, pieces):
     """
     path, taken = folder / "pipe.sql", 0
     os.mkfifo(path)
-    with started(program, path.name, folder) as run:
+    with program.start(["run", path.name], folder) as run:
         pipe = opened_pipe(path)
         path.unlink()
         try:
@@ -123,7 +124,7 @@ def through_pipe(program, folder, pieces):
             pass
         finally:
             os.close(pipe)
-        output, note = run.communicate(streams.LINES, timeout=LONGEST_WAIT)
+        output, note = run.communicate(streams.LINES)
     return Ended(run.returncode, output, note), taken
 
 
@@ -207,7 +208,7 @@ def check_cuts(tally, program, folder):
     for cut in range(1, len(given)):
         ended = in_pieces(program, folder, [given[:cut], given[cut:]])
         tally.check(f"a cut before byte {cut}", difference(wanted, ended))
-    with started(program, "member.sql", folder) as run:
+    with program.start(RUN, folder, bufsize=0) as run:
         answers = []
         for line in (b'{"a":true}\n', b'{"b":true}\n'):
             run.stdin.write(line[:4])
@@ -216,7 +217,7 @@ def check_cuts(tally, program, folder):
             run.stdin.write(line[4:])
             run.send_signal(signal.SIGCONT)
             answers.append(next_row(run.stdout))
-        run.communicate(timeout=LONGEST_WAIT)
+        run.communicate()
     wanted = [TRUE_ROW % 1, FALSE_ROW % 2]
     tally.check("rows while the input is open", None if answers == wanted else f"it wrote {answers}, and not {wanted}")
 
@@ -228,12 +229,7 @@ def in_pieces(program, folder, pieces):
         for piece in pieces:
             ours.sendall(piece)
         ours.close()
-        return program.run(["run", "member.sql"], folder=folder, stdin=theirs)
-
-
-def started(program, file, folder):
-    pipes = {name: subprocess.PIPE for name in ("stdin", "stdout", "stderr")}
-    return program.start(["run", file], cwd=folder, bufsize=0, **pipes)
+        return program.run(RUN, folder=folder, stdin=theirs)
 
 
 def next_row(stream):
@@ -250,9 +246,9 @@ def next_row(stream):
 
 
 # What is tried, the words, the streams that are no plain pipes, and how it ends.
-RUN, CHECK, SELFRUN = ["run", "member.sql"], ["check", "member.sql"], ["selfrun", "3", "member.sql"]
 BROKEN_STREAMS = [
     ("no stream that fails", RUN, {}, Ended(0, ALL_ROWS)),
+    ("a closed input", RUN, {"stdin": CLOSED}, NO_INPUT),
     ("a folder for the input", RUN, {"stdin": streams.a_folder}, NO_INPUT),
     ("an input for writing", RUN, {"stdin": streams.for_writing}, NO_INPUT),
     ("a terminal that hangs up", RUN, {"stdin": streams.terminal_that_hangs_up}, BROKEN_INPUT),
@@ -348,12 +344,11 @@ def check_early_end(tally, program, folder):
     """A reader that ends early ends the run, with one message, while most of the input is unread."""
     (folder / "lines").write_bytes(b'{"a":true}\n' * 500_000)
     with open(folder / "lines", "rb", buffering=0) as given:
-        pipes = {"stdout": subprocess.PIPE, "stderr": subprocess.PIPE}
-        with program.start(["run", "member.sql"], cwd=folder, bufsize=0, stdin=given, **pipes) as run:
+        with program.start(RUN, folder, bufsize=0, stdin=given) as run:
             row = next_row(run.stdout)
             run.stdout.close()
             note = run.stderr.read()
-            run.wait(LONGEST_WAIT)
+            run.wait()
         taken = given.tell()
     ended = Ended(run.returncode, row, note)
     tally.check("a reader that ends early", difference(Ended(5, TRUE_ROW % 1, OUTPUT_FAILED), ended))

@@ -5,7 +5,6 @@ row has come. It is held to a bound of its own.
 """
 import re
 import socket
-import subprocess
 import tempfile
 import threading
 from contextlib import suppress
@@ -13,7 +12,7 @@ from pathlib import Path
 from resource import RLIMIT_AS
 
 from checks.limits import LONGEST_LINE, STACK, string
-from checks.program import LONGEST_RUN, Ended, difference, front_problem
+from checks.program import Ended, difference, front_problem
 
 LONGEST_FILE = 1_048_576
 MEGABYTE = 1_000_000
@@ -139,17 +138,13 @@ def while_open(program, words, folder, given, length):
 
     Gives how it ended, and its peak of resident memory up to there, in megabytes.
     """
-    pipes = {name: subprocess.PIPE for name in ("stdin", "stdout", "stderr")}
-    with program.start(words, cwd=folder, **pipes) as run:
+    with program.start(words, folder) as run:
         feeding = threading.Thread(target=feed, args=(run.stdin, given))
-        late = threading.Timer(LONGEST_RUN, run.kill)
-        for thread in (feeding, late):
-            thread.start()
+        feeding.start()
         output = run.stdout.read(length)
         peak = peak_of(run.pid)
         feeding.join()
         rest, note = run.communicate()
-        late.cancel()
     return Ended(run.returncode, output + rest, note), peak
 
 

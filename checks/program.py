@@ -2,10 +2,12 @@
 import os
 import resource
 import subprocess
+import threading
+from contextlib import contextmanager
 from dataclasses import dataclass
 from pathlib import Path
 
-LONGEST_RUN = 120  # seconds
+LONGEST_RUN = 60  # seconds: a run that takes longer is killed
 SHOWN = 300  # bytes of a text that is shown where it differs
 # Where a run gives up, the rows of the lines that end among the last so many bytes taken may be missing.
 HELD_BACK = 65_536
@@ -31,29 +33,34 @@ class Program:
     def exists(self):
         return self.path.is_file()
 
-    def start(self, words, limits=(), **how):
-        """Starts a run, and gives its process.
+    @contextmanager
+    def start(self, words, folder, limits=(), **how):
+        """A run that has begun, as a process that the block waits for. It is killed where it takes too long.
 
-        `how` is that of `subprocess.Popen`, where a stream may be CLOSED too. `limits` are pairs of a limit of the
-        module `resource` and the value that the run is held to.
+        A stream that `how` does not have is a pipe. `how` is that of `subprocess.Popen`, where a stream may be CLOSED
+        too. `limits` are pairs of a limit of the module `resource` and the value that the run is held to.
         """
-        closed = [number for number, name in enumerate(STREAMS) if how.get(name) is CLOSED]
+        how = {**dict.fromkeys(STREAMS, subprocess.PIPE), **how}
+        closed = [number for number, name in enumerate(STREAMS) if how[name] is CLOSED]
         how.update({STREAMS[number]: None for number in closed})
         if closed or limits:
             how["preexec_fn"] = lambda: prepare(closed, limits)
-        return subprocess.Popen([self.path, *words], **how)
+        with subprocess.Popen([self.path, *words], cwd=folder, **how) as run:
+            late = threading.Timer(LONGEST_RUN, run.kill)
+            late.start()
+            try:
+                yield run
+            except BaseException:
+                run.kill()
+                raise
+            finally:
+                late.cancel()
 
     def run(self, words, given=b"", folder=None, **how):
-        """Runs the program to its end. A stream that `how` does not have is a pipe, and `given` comes on standard input."""
-        streams = {name: how.pop(name, subprocess.PIPE) for name in STREAMS}
-        piped = streams["stdin"] == subprocess.PIPE
-        with self.start(words, cwd=folder, **streams, **how) as started:
-            try:
-                output, note = started.communicate(given if piped else None, timeout=LONGEST_RUN)
-            except subprocess.TimeoutExpired:
-                started.kill()
-                output, note = started.communicate()[0], b"it was killed after %d seconds" % LONGEST_RUN
-        return Ended(started.returncode, output or b"", note or b"")
+        """Runs the program to its end, with what is given on standard input where that is a pipe."""
+        with self.start(words, folder, **how) as run:
+            output, note = run.communicate(given if run.stdin else None)
+        return Ended(run.returncode, output or b"", note or b"")
 
 
 def prepare(closed, limits):
