@@ -10,9 +10,12 @@ import sys
 from pathlib import Path
 
 from checks.command import check_command
+from checks.damage import check_damage
 from checks.edges import check_edges
 from checks.examples import check_examples
 from checks.guide import check_guide
+from checks.hard import check_hard
+from checks.limits import check_limits
 from checks.program import Program
 from checks.tally import Tally
 from checks.texts import check_texts
@@ -36,6 +39,9 @@ def main():
         check_examples(tally, program, TOP / "examples")
         check_guide(tally, program, TOP / "docs" / "GUIDE.md")
         check_edges(tally, program)
+        check_limits(tally, program)
+        check_hard(tally, program)
+        check_damage(tally, program)
         if not given.program:
             check_command(tally, TOP)
     else:

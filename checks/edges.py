@@ -1,72 +1,198 @@
-"""What no proof sees: real files and streams, and the limits as a caller meets them.
+"""What no proof sees: the program on real files and streams.
 
-The contracts speak of the traits of the outside. That the objects over real files and streams pass faults on, and that
-rows come while the input is still open, is tried here.
+The contracts speak of the traits of the outside. That the objects over real files and streams pass faults on and make
+none up, and that rows come while the input is still open, is tried here, on files and descriptors as users have them.
 """
 import os
 import selectors
+import signal
+import socket
 import subprocess
 import tempfile
+import threading
+import time
+from contextlib import ExitStack
 from pathlib import Path
+from resource import RLIMIT_FSIZE
 
-from checks.program import Ended, difference
+from checks import streams
+from checks.answers import accepted, refusal
+from checks.program import CLOSED, Ended, difference, front_problem
 
 USAGE = b"usage: sqljson run [--unique-keys] FILE | check FILE | selfrun N FILE\n"
-ROOT = b"SELECT JSON_EXISTS(doc, 'lax $');\n"
+UNREADABLE = Ended(3, note=b"statement file cannot be read\n")
+TOO_LONG = Ended(8, note=b"statement file too long\n")
 MEMBER = b"SELECT JSON_EXISTS(doc, 'lax $.a');\n"
+NUMBER = b"SELECT JSON_VALUE(doc, 'lax $.n' RETURNING INTEGER ERROR ON ERROR);\n"
+MANY = b"SELECT JSON_VALUE(doc, '$.a' RETURNING NUMERIC(10,2) DEFAULT 0 ON EMPTY), doc IS JSON OBJECT;\n" * 1000
 LONGEST_FILE = 1_048_576
-LONGEST_LINE = 16_777_216
-DEEPEST = 512
-LONGEST_WAIT = 20  # seconds
+LONGEST_PIPE = 65_536  # bytes that a pipe holds where nobody reads it
+LONGEST_WAIT = 20  # seconds: within it a pipe is opened, and a row comes
+RUN, CHECK, SELFRUN = ["run", "member.sql"], ["check", "member.sql"], ["selfrun", "3", "member.sql"]
+INPUT_FAILED, OUTPUT_FAILED = b"input failed\n", b"output failed\n"
+TRUE_ROW, FALSE_ROW, NUMBER_ROW = b"%d\t1\tR\tTRUE\n", b"%d\t1\tR\tFALSE\n", b"%d\t1\tR\t%d\n"
+ROWS = TRUE_ROW % 1 + FALSE_ROW % 2  # of the whole lines among streams.LINES
+ALL_ROWS = ROWS + FALSE_ROW % 3
+NO_INPUT, BROKEN_INPUT = Ended(4, note=INPUT_FAILED), Ended(4, ROWS, INPUT_FAILED)
+NO_OUTPUT = Ended(5, note=OUTPUT_FAILED)
+REFUSED = Ended(2, note=b"statement 1: syntax error\n")
 
 
 def check_edges(tally, program):
     with tempfile.TemporaryDirectory() as room:
         folder = Path(room)
-        (folder / "root.sql").write_bytes(ROOT)
-        (folder / "member.sql").write_bytes(MEMBER)
+        too_long = MEMBER + b" " * (LONGEST_FILE + 1 - len(MEMBER))
+        files = {"member": MEMBER, "number": NUMBER, "many": MANY, "none": b"", "refused": b"SELECT", "too_long": too_long}
+        for name, file in files.items():
+            (folder / f"{name}.sql").write_bytes(file)
         check_words(tally, program, folder)
         check_files(tally, program, folder)
-        check_checks(tally, program, folder)
+        check_piped_files(tally, program, folder)
+        check_changing_files(tally, program, folder)
         check_generated(tally, program, folder)
-        check_lines(tally, program, folder)
         check_cuts(tally, program, folder)
-        check_faults(tally, program, folder)
+        check_streams(tally, program, folder)
+        check_broken_reads(tally, program, folder)
+        check_broken_writes(tally, program, folder)
+        check_early_end(tally, program, folder)
+        check_unread_input(tally, program, folder)
 
 
 def check_words(tally, program, folder):
-    """Words that are no command of the program are refused, and nothing is read or written."""
-    for words in [[], ["run"], ["run", ""], ["run", "-x"], ["run", "root.sql", "more"], ["RUN", "root.sql"], ["check", "-x"], ["selfrun", "1000000", "root.sql"], ["root.sql"]]:
-        ended = program.run(words, b"true\n", folder)
-        tally.check(f"the words {words}", difference(Ended(1, note=USAGE), ended))
+    """Words that are no command are refused, and a file may have any name that is UTF-8 and does not begin with `-`."""
+    refused = [
+        [], ["run"], ["run", ""], ["run", "-x"], ["run", "member.sql", "more"], ["RUN", "member.sql"], ["check", "-x"],
+        ["run", "--unique-keys"], ["selfrun", "1000000", "member.sql"], ["selfrun", "", "member.sql"],
+        ["selfrun", "-1", "member.sql"], ["selfrun", "member.sql"], ["member.sql"],
+    ]
+    for words in refused:
+        tally.check(f"the words {words}", difference(Ended(1, note=USAGE), program.run(words, b"true\n", folder)))
+    for name in ["a b.sql", "größer.sql", "'\"\\.sql", "two\nlines.sql"]:
+        (folder / name).write_bytes(MEMBER)
+        ended = program.run(["run", name], streams.LINES, folder)
+        tally.check(f"a file {name!r}", difference(Ended(0, ALL_ROWS), ended))
+    tally.check("a word that isn't UTF-8", difference(Ended(9), program.run(["run", b"\xff.sql"], b"true\n", folder)))
 
 
-def check_checks(tally, program, folder):
-    """A file is checked without input, and refused with the number of the first statement that is."""
-    many = b"SELECT JSON_VALUE(doc, '$.a' RETURNING NUMERIC(10,2) DEFAULT 0 ON EMPTY), doc IS JSON OBJECT;\n" * 1000
-    broken = b"SELECT 1; SELECT JSON_OBJECT(1 VALUE 2); SELECT 'a"
+def check_files(tally, program, folder):
+    """Files that are absent, can't be read or are too long, in every command."""
+    (folder / "astray.sql").symlink_to("absent.sql")
+    (folder / "loop.sql").symlink_to("loop.sql")
     cases = [
-        ("a thousand statements", many, Ended(0, b"accepted 1000\n")),
-        ("a file of spaces", b" " * LONGEST_FILE, Ended(0, b"accepted 0\n")),
-        ("a space more", b" " * (LONGEST_FILE + 1), Ended(8, note=b"statement file too long\n")),
-        ("a broken rule before a broken string", broken, Ended(2, note=b"statement 2: key is not a text\n")),
-        ("many open parentheses", b"SELECT " + b"(" * (LONGEST_FILE - 8) + b";", Ended(2, note=b"statement 1: syntax error\n")),
-        ("many commas", b"SELECT 1" + b"," * (LONGEST_FILE - 9) + b";", Ended(2, note=b"statement 1: syntax error\n")),
-        ("many values", b"SELECT JSON_ARRAY(1" + b",1" * 500_000 + b");", Ended(0, b"accepted 1\n")),
-        ("one string", b"SELECT '" + b"a" * (LONGEST_FILE - 10) + b"';", Ended(0, b"accepted 1\n")),
+        ("an absent file", "absent.sql", UNREADABLE),
+        ("a folder for a file", ".", UNREADABLE),
+        ("a file for a folder", "member.sql/member.sql", UNREADABLE),
+        ("a link to nothing", "astray.sql", UNREADABLE),
+        ("a link to itself", "loop.sql", UNREADABLE),
+        ("too long a name", "a" * 300, UNREADABLE),
+        ("a file whose first read fails", "/proc/self/mem", UNREADABLE),
+        ("a longer file", "too_long.sql", TOO_LONG),
+        ("a file without an end", "/dev/zero", TOO_LONG),
     ]
     for name, file, wanted in cases:
-        (folder / "checked.sql").write_bytes(file)
-        tally.check(f"a check of {name}", difference(wanted, program.run(["check", "checked.sql"], b"true\n", folder)))
+        for words in [["run", file], ["run", "--unique-keys", file], ["check", file], ["selfrun", "3", file]]:
+            tally.check(f"{name}, {words[0]}", difference(wanted, program.run(words, b"true\n", folder)))
+    whole = program.run(["run", "/dev/stdin"], MEMBER, folder)
+    tally.check("the input for a file, which leaves no line", difference(Ended(0), whole))
+
+
+def check_piped_files(tally, program, folder):
+    """A statement file may be a pipe: it may come in pieces, lose its name once it is open, and have no end."""
+    pieces = [MEMBER[k : k + 1] for k in range(len(MEMBER))]
+    tally.check("a file a byte at a time", difference(Ended(0, ALL_ROWS), through_pipe(program, folder, pieces)[0]))
+    tally.check("a pipe without a byte", difference(Ended(0), through_pipe(program, folder, [])[0]))
+    ended, taken = through_pipe(program, folder, [b" " * 4096] * 1000)
+    tally.check("a pipe that goes on", difference(TOO_LONG, ended))
+    most = LONGEST_FILE + 1 + LONGEST_PIPE
+    tally.check("what it goes on with", None if taken <= most else f"{taken - LONGEST_PIPE} bytes of it were read")
+
+
+def through_pipe(program, folder, pieces):
+    """Runs a statement file that comes through a pipe, and is unlinked between its opening and its reading.
+
+    Gives how the run ended, and how many bytes the pipe took.
+    """
+    path, taken = folder / "pipe.sql", 0
+    os.mkfifo(path)
+    with program.start(["run", path.name], folder) as run:
+        pipe = opened_pipe(path)
+        path.unlink()
+        try:
+            for piece in pieces:
+                taken += os.write(pipe, piece)
+        except BrokenPipeError:
+            pass
+        finally:
+            os.close(pipe)
+        output, note = run.communicate(streams.LINES)
+    return Ended(run.returncode, output, note), taken
+
+
+def opened_pipe(path):
+    """Opens a named pipe for writing, as soon as it is open for reading."""
+    last = time.monotonic() + LONGEST_WAIT
+    while True:
+        try:
+            pipe = os.open(path, os.O_WRONLY | os.O_NONBLOCK)
+            os.set_blocking(pipe, True)
+            return pipe
+        except OSError:
+            if time.monotonic() > last:
+                raise
+            time.sleep(0.001)
+
+
+def check_changing_files(tally, program, folder):
+    """A file that changes while it is read has the answer of some file, and one that comes and goes is read or isn't."""
+    path, away = folder / "changing.sql", folder / "away.sql"
+    path.write_bytes(MANY)
+
+    def rewrite():
+        path.write_bytes(MANY[: len(MANY) // 2])
+        path.write_bytes(MANY)
+
+    def come_and_go():
+        path.rename(away)
+        away.rename(path)
+
+    for name, change, allowed in [
+        ("a file that changes", rewrite, lambda ended: accepted(ended) is not None or refusal(ended)),
+        ("a file that comes and goes", come_and_go, lambda ended: accepted(ended) == 1000 or ended == UNREADABLE),
+    ]:
+        answers = while_repeated(change, lambda: program.run(["check", path.name], folder=folder), 100)
+        wrong = [ended for ended in answers if not allowed(ended)]
+        tally.check(name, wrong and f"it ended as {wrong[0]}")
+
+
+def while_repeated(change, ask, times):
+    """Asks so many times while another thread goes on changing, and gives the answers."""
+    over = threading.Event()
+
+    def change_on():
+        while not over.is_set():
+            change()
+
+    changing = threading.Thread(target=change_on)
+    changing.start()
+    try:
+        return [ask() for _ in range(times)]
+    finally:
+        over.set()
+        changing.join()
+
+
+def generated(number):
+    """The lines that `selfrun` makes: each tenth is cut off."""
+    tail = lambda i: b",\n" if i % 10 == 0 else b',"v":[%d,%d],"s":"k%d"}\n' % (i % 7, i % 3, i % 5)
+    return b"".join(b'{"n":%d' % i + tail(i) for i in range(1, number + 1))
 
 
 def check_generated(tally, program, folder):
     """A run over generated lines tells how much the same run over these lines writes."""
     number = 2000
-    tail = lambda i: b",\n" if i % 10 == 0 else b',"v":[%d,%d],"s":"k%d"}\n' % (i % 7, i % 3, i % 5)
-    lines = b"".join(b'{"n":%d' % i + tail(i) for i in range(1, number + 1))
-    (folder / "generated.sql").write_bytes(b"SELECT JSON_VALUE(doc, '$.v[0]' ERROR ON ERROR), JSON_VALUE(doc, '$.s');\n" + ROOT)
-    written = program.run(["run", "generated.sql"], lines, folder).output
+    values = b"SELECT JSON_VALUE(doc, '$.v[0]' ERROR ON ERROR), JSON_VALUE(doc, '$.s');\n"
+    (folder / "generated.sql").write_bytes(values + MEMBER)
+    written = program.run(["run", "generated.sql"], generated(number), folder).output
     rows = written.splitlines()
     errors = sum(row.split(b"\t")[2] == b"E" for row in rows)
     summary = b"lines %d rows %d errors %d bytes %d\n" % (number, len(rows) - errors, errors, len(written))
@@ -74,86 +200,36 @@ def check_generated(tally, program, folder):
     tally.check("a run over generated lines", difference(Ended(0, summary), ended))
 
 
-def check_files(tally, program, folder):
-    """A file may be absent, empty, or of the greatest length and one byte more."""
-    absent = Ended(3, note=b"statement file cannot be read\n")
-    tally.check("an absent file", difference(absent, program.run(["run", "absent.sql"], b"true\n", folder)))
-    tally.check("a folder for a file", difference(absent, program.run(["run", "."], b"true\n", folder)))
-    (folder / "longest.sql").write_bytes(ROOT + b" " * (LONGEST_FILE - len(ROOT)))
-    (folder / "too_long.sql").write_bytes(ROOT + b" " * (LONGEST_FILE - len(ROOT) + 1))
-    wanted = Ended(0, b"1\t1\tR\tTRUE\n")
-    tally.check("the longest file", difference(wanted, program.run(["run", "longest.sql"], b"true\n", folder)))
-    wanted = Ended(8, note=b"statement file too long\n")
-    tally.check("a longer file", difference(wanted, program.run(["run", "too_long.sql"], b"true\n", folder)))
-    for members, wanted in [(256, Ended(0, b"1\t1\tR\tFALSE\n")), (257, Ended(2, note=b"statement 1: path: too deep\n"))]:
-        (folder / "members.sql").write_bytes(b"SELECT JSON_EXISTS(doc, 'lax $" + b".a" * members + b"');")
-        tally.check(f"a path of {members} members", difference(wanted, program.run(["run", "members.sql"], b"true\n", folder)))
-
-
-def check_lines(tally, program, folder):
-    """The limits of length and depth, and blank lines up to the limit of length."""
-    cases = [
-        ("no input", b"", b""),
-        ("the longest line", string(LONGEST_LINE), b"1\t1\tR\tTRUE\n"),
-        ("a longer line", string(LONGEST_LINE + 1) + b"\ntrue", b"1\t1\tR\tFALSE\n2\t1\tR\tTRUE\n"),
-        ("long blank lines", b" " * LONGEST_LINE + b"\n" + b" " * (LONGEST_LINE + 1), b"2\t1\tR\tFALSE\n"),
-        ("the deepest line", nested(DEEPEST), b"1\t1\tR\tTRUE\n"),
-        ("a deeper line", nested(DEEPEST + 1), b"1\t1\tR\tFALSE\n"),
-        ("many open brackets", b"[" * (LONGEST_LINE // 2), b"1\t1\tR\tFALSE\n"),
-    ]
-    for name, given, output in cases:
-        tally.check(name, difference(Ended(0, output), program.run(["run", "root.sql"], given, folder)))
-
-
-def string(length):
-    return b'"' + b"a" * (length - 2) + b'"'
-
-
-def nested(depth):
-    return b"[" * depth + b"]" * depth
-
-
 def check_cuts(tally, program, folder):
-    """Input that comes a byte at a time gives the same rows, and the rows of a line come while the input is open."""
+    """Input in any pieces gives the same rows, which come while it is open, also to a run that was stopped for a while."""
     given = b'\n{"a":"x"}\r\n \t\n{"a"\n{"b":[{"a":null}]}'
-    output = b"2\t1\tR\tTRUE\n4\t1\tR\tFALSE\n5\t1\tR\tFALSE\n"
-    with started(program, "member.sql", folder) as run:
-        for byte in given:
-            run.stdin.write(bytes([byte]))
-        said, note = run.communicate(timeout=LONGEST_WAIT)
-    tally.check("a byte at a time", difference(Ended(0, output), Ended(run.returncode, said, note)))
-    with started(program, "member.sql", folder) as run:
+    wanted = Ended(0, TRUE_ROW % 2 + FALSE_ROW % 4 + FALSE_ROW % 5)
+    tally.check("a byte at a time", difference(wanted, in_pieces(program, folder, [bytes([byte]) for byte in given])))
+    for cut in range(1, len(given)):
+        ended = in_pieces(program, folder, [given[:cut], given[cut:]])
+        tally.check(f"a cut before byte {cut}", difference(wanted, ended))
+    with program.start(RUN, folder, bufsize=0) as run:
         answers = []
         for line in (b'{"a":true}\n', b'{"b":true}\n'):
-            run.stdin.write(line)
+            run.stdin.write(line[:4])
+            run.send_signal(signal.SIGSTOP)
+            os.waitid(os.P_PID, run.pid, os.WSTOPPED)
+            run.stdin.write(line[4:])
+            run.send_signal(signal.SIGCONT)
             answers.append(next_row(run.stdout))
-        run.communicate(timeout=LONGEST_WAIT)
-    wanted = [b"1\t1\tR\tTRUE\n", b"2\t1\tR\tFALSE\n"]
+        run.communicate()
+    wanted = [TRUE_ROW % 1, FALSE_ROW % 2]
     tally.check("rows while the input is open", None if answers == wanted else f"it wrote {answers}, and not {wanted}")
 
 
-def check_faults(tally, program, folder):
-    """Faults of real streams are told by the exit status, also where the message cannot be written."""
-    member, line = ["run", "member.sql"], b'{"a":true}\n'
-    opened = os.open(folder, os.O_RDONLY)
-    try:
-        with program.start(member, cwd=folder, stdin=opened, stdout=subprocess.PIPE, stderr=subprocess.PIPE) as run:
-            output, note = run.communicate(timeout=LONGEST_WAIT)
-    finally:
-        os.close(opened)
-    tally.check("a folder for the input", difference(Ended(4, note=b"input failed\n"), Ended(run.returncode, output, note)))
-    with open("/dev/full", "wb") as full:
-        with program.start(member, cwd=folder, stdin=subprocess.PIPE, stdout=full, stderr=subprocess.PIPE) as run:
-            _, note = run.communicate(line, timeout=LONGEST_WAIT)
-        tally.check("a full disk for the output", difference(Ended(5, note=b"output failed\n"), Ended(run.returncode, note=note)))
-        with program.start([], stdin=subprocess.DEVNULL, stdout=subprocess.PIPE, stderr=full) as run:
-            output, _ = run.communicate(timeout=LONGEST_WAIT)
-        tally.check("a full disk for the messages", difference(Ended(1), Ended(run.returncode, output)))
-
-
-def started(program, file, folder):
-    pipes = {name: subprocess.PIPE for name in ("stdin", "stdout", "stderr")}
-    return program.start(["run", file], cwd=folder, bufsize=0, **pipes)
+def in_pieces(program, folder, pieces):
+    """Runs the program on an input of which each read takes one of these pieces."""
+    ours, theirs = socket.socketpair(socket.AF_UNIX, socket.SOCK_SEQPACKET)
+    with ours, theirs:
+        for piece in pieces:
+            ours.sendall(piece)
+        ours.close()
+        return program.run(RUN, folder=folder, stdin=theirs)
 
 
 def next_row(stream):
@@ -167,3 +243,127 @@ def next_row(stream):
                 break
             row += byte
     return row
+
+
+# What is tried, the words, the streams that are no plain pipes, and how it ends.
+BROKEN_STREAMS = [
+    ("no stream that fails", RUN, {}, Ended(0, ALL_ROWS)),
+    ("a closed input", RUN, {"stdin": CLOSED}, NO_INPUT),
+    ("a folder for the input", RUN, {"stdin": streams.a_folder}, NO_INPUT),
+    ("an input for writing", RUN, {"stdin": streams.for_writing}, NO_INPUT),
+    ("a terminal that hangs up", RUN, {"stdin": streams.terminal_that_hangs_up}, BROKEN_INPUT),
+    ("a connection that breaks", RUN, {"stdin": streams.broken_connection}, BROKEN_INPUT),
+    ("an input that isn't waited for", RUN, {"stdin": streams.without_waiting}, BROKEN_INPUT),
+    ("a full disk", RUN, {"stdout": streams.full_disk}, NO_OUTPUT),
+    ("an output for reading", RUN, {"stdout": streams.for_reading}, NO_OUTPUT),
+    ("an output without a reader", RUN, {"stdout": streams.unread_pipe}, NO_OUTPUT),
+    ("an output without a peer", RUN, {"stdout": streams.unread_socket}, NO_OUTPUT),
+    ("a full pipe that isn't waited for", RUN, {"stdout": streams.full_pipe}, NO_OUTPUT),
+    ("a closed output", RUN, {"stdout": CLOSED}, NO_OUTPUT),
+    ("a checked file and a full disk", CHECK, {"stdout": streams.full_disk}, NO_OUTPUT),
+    ("generated lines and a full disk", SELFRUN, {"stdout": streams.full_disk}, NO_OUTPUT),
+    ("no row for a full disk", ["run", "none.sql"], {"stdout": streams.full_disk}, Ended(0)),
+    ("no row for a closed output", ["run", "none.sql"], {"stdout": CLOSED}, Ended(0)),
+    ("a check without an input", CHECK, {"stdin": CLOSED}, Ended(0, b"accepted 1\n")),
+    ("generated lines without an input", SELFRUN, {"stdin": CLOSED}, Ended(0, b"lines 3 rows 3 errors 0 bytes 36\n")),
+    ("a check without a stream", CHECK, {"stdin": CLOSED, "stdout": CLOSED}, NO_OUTPUT),
+    # Where two things are wrong, the one that is met first decides.
+    ("no command", ["walk"], {"stdin": streams.a_folder, "stdout": streams.full_disk}, Ended(1, note=USAGE)),
+    ("a refused file", ["run", "refused.sql"], {"stdin": streams.a_folder, "stdout": streams.full_disk}, REFUSED),
+    ("an absent file", ["run", "absent.sql"], {"stdin": streams.a_folder, "stdout": streams.full_disk}, UNREADABLE),
+    ("a longer file", ["run", "too_long.sql"], {"stdin": streams.a_folder, "stdout": streams.full_disk}, TOO_LONG),
+    ("an unread folder", RUN, {"stdin": streams.a_folder, "stdout": streams.full_disk}, NO_INPUT),
+    ("an unwritten row", RUN, {"stdin": streams.broken_connection, "stdout": streams.full_disk}, NO_OUTPUT),
+]
+
+
+def check_streams(tally, program, folder):
+    """Faults of streams are told by the status and one message, and a message that can't be written changes nothing."""
+    for name, words, broken, wanted in BROKEN_STREAMS:
+        tally.check(name, difference(wanted, with_streams(program, folder, words, broken)))
+        unsaid = Ended(wanted.status, wanted.output)
+        for which, messages in [("full", streams.full_disk), ("unread", streams.unread_pipe), ("closed", CLOSED)]:
+            ended = with_streams(program, folder, words, {**broken, "stderr": messages})
+            tally.check(f"{name}, and {which} messages", difference(unsaid, ended))
+
+
+def with_streams(program, folder, words, broken, given=streams.LINES):
+    """Runs the program where some streams are of the module streams, or CLOSED."""
+    with ExitStack() as opened:
+        made = {name: stream if stream is CLOSED else stream(opened, folder) for name, stream in broken.items()}
+        return program.run(words, given, folder, **made)
+
+
+def check_broken_reads(tally, program, folder):
+    """An input that fails behind any of its bytes has the rows of the whole lines before, and one that ends, of all."""
+    given = generated(3)
+    length, rows = len(given) // 3, [NUMBER_ROW % (number, number) for number in (1, 2, 3)]
+    for count in range(len(given) + 1):
+        whole, beside = divmod(count, length)
+        with ExitStack() as opened:
+            broken = streams.broken_connection(opened, folder, given[:count])
+            ended = program.run(["run", "number.sql"], folder=folder, stdin=broken)
+        wanted = Ended(4, b"".join(rows[:whole]), INPUT_FAILED)
+        tally.check(f"an input that fails behind byte {count}", difference(wanted, ended))
+        # (the last line may lack its LF, and nothing else)
+        last = [rows[whole] if beside == length - 1 else b"%d\t1\tE\t22032\n" % (whole + 1)] if beside else []
+        ended = program.run(["run", "number.sql"], given[:count], folder)
+        tally.check(f"an input of {count} bytes", difference(Ended(0, b"".join(rows[:whole] + last)), ended))
+
+
+def check_broken_writes(tally, program, folder):
+    """An output that may have so many bytes has just these, where a write beyond them is refused and raises no signal."""
+    whole = b"".join(NUMBER_ROW % (number, number) for number in (1, 2, 3))
+    for room in range(len(whole) + 1):
+        ended, _ = into_file(program, folder, "number.sql", generated(3), room)
+        wanted = Ended(0, whole) if room == len(whole) else Ended(5, whole[:room], OUTPUT_FAILED)
+        tally.check(f"an output with room for {room} bytes", difference(wanted, ended))
+    lines, room = b'{"a":true}\n' * 200_000, 1_000_000
+    rows = b"".join(TRUE_ROW % number for number in range(1, 200_001))
+    ended, taken = into_file(program, folder, "member.sql", lines, room)
+    tally.check("a long output with little room", difference(Ended(5, rows[:room], OUTPUT_FAILED), ended))
+    tally.check("the rows that are owed", front_problem(rows, lines, taken, ended.output))
+
+
+def into_file(program, folder, file, lines, room):
+    """Runs the program from a file into a file that may have so many bytes.
+
+    Gives how the run ended, with what is in the file, and how many bytes of the input it took. The signal that a write
+    beyond the limit raises is ignored, as Python does, so the write is refused.
+    """
+    (folder / "lines").write_bytes(lines)
+    with open(folder / "lines", "rb", buffering=0) as given, open(folder / "rows", "w+b", buffering=0) as rows:
+        limits = [(RLIMIT_FSIZE, room)]
+        how = {"stdin": given, "stdout": rows, "limits": limits, "restore_signals": False}
+        ended = program.run(["run", file], folder=folder, **how)
+        rows.seek(0)
+        return Ended(ended.status, rows.read(), ended.note), given.tell()
+
+
+def check_early_end(tally, program, folder):
+    """A reader that ends early ends the run, with one message, while most of the input is unread."""
+    (folder / "lines").write_bytes(b'{"a":true}\n' * 500_000)
+    with open(folder / "lines", "rb", buffering=0) as given:
+        with program.start(RUN, folder, bufsize=0, stdin=given) as run:
+            row = next_row(run.stdout)
+            run.stdout.close()
+            note = run.stderr.read()
+            run.wait()
+        taken = given.tell()
+    ended = Ended(run.returncode, row, note)
+    tally.check("a reader that ends early", difference(Ended(5, TRUE_ROW % 1, OUTPUT_FAILED), ended))
+    tally.check("what is unread then", None if taken < 1_000_000 else f"it read {taken} bytes")
+    piped = 'set -o pipefail; "$0" run member.sql < lines | head -n 1'
+    ran = subprocess.run(["bash", "-c", piped, program.path], cwd=folder, capture_output=True, timeout=LONGEST_WAIT)
+    ended = Ended(ran.returncode, ran.stdout, ran.stderr)
+    tally.check("a pipe into head", difference(Ended(5, TRUE_ROW % 1, OUTPUT_FAILED), ended))
+
+
+def check_unread_input(tally, program, folder):
+    """The input is left alone where the words or the file are refused, in a check and in a run over generated lines."""
+    (folder / "lines").write_bytes(streams.LINES)
+    for words in [["walk"], ["run", "refused.sql"], ["run", "absent.sql"], ["run", "too_long.sql"], CHECK, SELFRUN]:
+        with open(folder / "lines", "rb", buffering=0) as given:
+            program.run(words, folder=folder, stdin=given)
+            taken = given.tell()
+        tally.check(f"the input of {words}", taken and f"it took {taken} bytes")

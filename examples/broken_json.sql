@@ -1,0 +1,1 @@
+SELECT doc IS JSON;

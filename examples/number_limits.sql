@@ -1,0 +1,1 @@
+SELECT JSON_VALUE(doc, '$ + 0' ERROR ON ERROR);
