@@ -59,7 +59,7 @@ def fault(tag, body, file, given, program, top):
         path = top / FOLDER / recipe[1]
         return None if path.is_file() and body in path.read_bytes() else f"{FOLDER}/{recipe[1]} has no such part"
     if tag == "console":
-        return session_fault(body.decode(), file, given, program, top)
+        return console_fault(body.decode(), file, given, program, top)
     wanted = expected(tag, body)
     if not wanted:
         return f"`{tag}` is no tag of a block"
@@ -79,13 +79,13 @@ def run(program, file, given):
         return program.run(["run", "guide.sql"], given, folder)
 
 
-def session_fault(text, file, given, program, top):
+def console_fault(text, file, given, program, top):
     """Says which command shows something else, or nothing."""
     with room_of(program, top) as room:
         (room.folder / "statements.sql").write_bytes(file or b"")
         (room.folder / "lines.jsonl").write_bytes(given)
         for command, wanted in COMMAND.findall(text):
-            showed = room.session(command)
+            showed = room.shown(command)
             if showed != wanted.encode():
                 return f"`{command}` shows {shown(showed)}, and not {shown(wanted.encode())}"
     return None if COMMAND.match(text) else "it has no command"

@@ -24,7 +24,7 @@ class Room:
         ran = subprocess.run(words, input=given, capture_output=True, cwd=self.folder, env=self.surroundings, timeout=LONGEST_RUN, **how)
         return Ended(ran.returncode, ran.stdout, ran.stderr)
 
-    def session(self, command):
+    def shown(self, command):
         """What a command of bash shows: what it writes and says, in turn."""
         how = {"stdin": subprocess.DEVNULL, "stdout": subprocess.PIPE, "stderr": subprocess.STDOUT}
         return subprocess.run(["bash", "-c", command], cwd=self.folder, env=self.surroundings, timeout=LONGEST_RUN, **how).stdout
