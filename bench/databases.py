@@ -1,10 +1,11 @@
 #!/usr/bin/env python3
 """Loads orders into PostgreSQL and MariaDB with the recipes of examples/recipes/, and compares every value.
 
-A private server of each that is installed is started in a scratch folder, where it listens on a socket alone. The recipe first loads its own
-few orders, and what it shows is compared with the file beside it. Then it loads 200,000 orders that this script makes, with texts that
-need escapes, and with lines that are wrong in ten ways. Each value in the tables is compared with the one that the script put
-into the order, which needs no sqljson; so is each error row. Where one differs the script ends with status 1.
+A private server of each that is installed is started in a scratch folder, where it listens on a socket alone. The recipe
+first loads its own few orders, and what it shows is compared with the file beside it. Then it loads 200,000 orders that
+this script makes, with texts that need escapes, and with lines that are wrong in ten ways. Each value in the tables is
+compared with the one that the script put into the order, which needs no sqljson; so is each error row. Where one differs
+the script ends with status 1.
 
 The servers come by `apt-get install postgresql mariadb-server`. The script is no part of the tests.
 """
@@ -27,7 +28,8 @@ RECIPES = HERE.parent / "examples" / "recipes"
 TOOLS = HERE.parent / "tools"
 SEED = 20161215
 LONGEST_START = 60  # seconds
-TEXTS = ["", "Ann", "E", "R", "\\N", "\\.", "NULL", "TRUE", "a\tb", "a\nb", "a\rb", "\\", "\\\\t", '"', "'", ",", "Chloé", "王", "\U0001f600", "\u2028", "\x01", "a\0b", " x "]
+PLAIN = ["", "Ann", "E", "R", "NULL", "TRUE", '"', "'", ",", "Chloé", "王", "\U0001f600", " x "]
+TEXTS = [*PLAIN, "\\N", "\\.", "\\", "\\\\t", "a\tb", "a\nb", "a\rb", "\u2028", "\x01", "a\0b"]
 
 
 class Made:
@@ -76,8 +78,9 @@ class Made:
         """A line that is no JSON, in one of ten ways."""
         text = self.text(order)
         return self.chance.choice([
-            text[: self.chance.randrange(1, len(text))], text[:-1] + b",}", text.replace(b'"', b"'"), b'{"id":NaN}', b"ERROR at 10:00:01", text + b" more",
-            b'{"id":1,"note":"\\x"}', b'{"id":1,"note":"\\ud83d"}', b'{"id":1,"note":"\xff"}', b"\xef\xbb\xbf" + text])
+            text[: self.chance.randrange(1, len(text))], text[:-1] + b",}", text.replace(b'"', b"'"), text + b" more",
+            b"\xef\xbb\xbf" + text, b"ERROR at 10:00:01", b'{"id":NaN}', b'{"id":1,"note":"\\x"}',
+            b'{"id":1,"note":"\\ud83d"}', b'{"id":1,"note":"\xff"}'])
 
 
 class Price(float):
@@ -149,7 +152,7 @@ def given_away(folder):
 def postgresql(folder, surroundings):
     folder = given_away(folder)
     found = {**surroundings, "PGHOST": str(folder), "PGUSER": "postgres", "PGDATABASE": "postgres"}
-    make = ["initdb", "--pgdata", folder / "data", "--username=postgres", "--auth=trust", "--encoding=UTF8", "--locale=C", "--no-sync"]
+    make = ["initdb", "--pgdata", folder / "data", "--username=postgres", "--auth=trust", "--encoding=UTF8", "--locale=C"]
     subprocess.run(make, check=True, stdout=subprocess.DEVNULL, cwd=folder, **as_other())
     words = ["postgres", "-D", folder / "data", "-k", folder, "-c", "listen_addresses="]
     with started(words, folder, ["psql", "-c", "SELECT 1"], found) as server:
@@ -160,11 +163,12 @@ def postgresql(folder, surroundings):
 def mariadb(folder, surroundings):
     folder = given_away(folder)
     found = {**surroundings, "HOME": str(folder)}
-    make = ["mariadb-install-db", "--no-defaults", f"--datadir={folder / 'data'}", "--auth-root-authentication-method=normal", "--skip-test-db"]
+    data = ["--no-defaults", f"--datadir={folder / 'data'}"]
+    make = ["mariadb-install-db", *data, "--auth-root-authentication-method=normal", "--skip-test-db"]
     subprocess.run(make, check=True, stdout=subprocess.DEVNULL, stderr=subprocess.DEVNULL, cwd=folder, **as_other())
     (folder / ".my.cnf").write_text(f"[client]\nsocket={folder}/socket\nuser=root\ndefault-character-set=utf8mb4\n")
     program = shutil.which("mariadbd") or "/usr/sbin/mariadbd"
-    words = [program, "--no-defaults", f"--datadir={folder / 'data'}", f"--socket={folder}/socket", "--skip-networking", "--local-infile=1", f"--pid-file={folder}/pid"]
+    words = [program, *data, f"--socket={folder}/socket", f"--pid-file={folder}/pid", "--skip-networking", "--local-infile=1"]
     with started(words, folder, ["mariadb", "-e", "SELECT 1"], found) as server:
         server.run(["mariadb", "-e", "CREATE DATABASE orders"])
         with open(folder / ".my.cnf", "a") as file:
@@ -175,14 +179,20 @@ def mariadb(folder, surroundings):
 def in_copy_text(rows):
     """Rows in the text format of COPY, made without sqljson."""
     escapes = str.maketrans({"\\": "\\\\", "\t": "\\t", "\n": "\\n", "\r": "\\r"})
-    special = {None: "\\N", True: "t", False: "f"}
-    field = lambda value: value.translate(escapes) if isinstance(value, str) else special[value] if value is None or isinstance(value, bool) else plain(value)
-    return "".join("\t".join(map(field, row)) + "\n" for row in rows).encode()
+    return written(rows, lambda text: text.translate(escapes), {None: "\\N", True: "t", False: "f"})
 
 
 def in_hex_text(rows):
     """Rows with texts in hexadecimal digits, as the queries for MariaDB ask for them."""
-    field = lambda value: "NULL" if value is None else value.encode().hex().upper() if isinstance(value, str) else str(int(value)) if isinstance(value, bool) else plain(value)
+    return written(rows, lambda text: text.encode().hex().upper(), {None: "NULL", True: "1", False: "0"})
+
+
+def written(rows, of_text, special):
+    def field(value):
+        if value is None or isinstance(value, bool):
+            return special[value]
+        return of_text(value) if isinstance(value, str) else plain(value)
+
     return "".join("\t".join(map(field, row)) + "\n" for row in rows).encode()
 
 
@@ -195,7 +205,10 @@ KINDS = {
     "postgresql": (postgresql, ["psql", "-q", "-c"], in_copy_text, [f"COPY {table} TO STDOUT" for table in TABLES]),
     "mariadb": (
         mariadb, ["mariadb", "--batch", "--skip-column-names", "-e"], in_hex_text,
-        ["SELECT id, HEX(name), vip, HEX(note) FROM orders", "SELECT id, HEX(sku), total FROM order_lines", "SELECT line, statement, HEX(state) FROM errors"],
+        [
+            "SELECT id, HEX(name), vip, HEX(note) FROM orders", "SELECT id, HEX(sku), total FROM order_lines",
+            "SELECT line, statement, HEX(state) FROM errors",
+        ],
     ),
 }
 NEEDED = {"postgresql": ["postgres", "initdb", "psql"], "mariadb": ["mariadb-install-db", "mariadb"]}
@@ -203,7 +216,7 @@ NEEDED = {"postgresql": ["postgres", "initdb", "psql"], "mariadb": ["mariadb-ins
 
 def load(kind, server, room, made):
     """Runs the recipe on its own orders and on those that were made, and says what differs."""
-    ask, written, queries = KINDS[kind][1:]
+    ask, in_text, queries = KINDS[kind][1:]
     wrong = []
     shown = server.run(["bash", f"{kind}.sh"], room)
     if shown != (RECIPES / f"{kind}.out").read_bytes():
@@ -216,8 +229,8 @@ def load(kind, server, room, made):
     for table, query, rows in zip(TABLES, queries, [made.orders, made.items, made.errors]):
         found = server.run([*ask, query])
         print(f"; {table} {found.count(b'%c' % 10):,} rows", end="", flush=True)
-        if found != written(rows):
-            wrong.append(f"{table}: {first_difference(found, written(rows))}")
+        if found != in_text(rows):
+            wrong.append(f"{table}: {first_difference(found, in_text(rows))}")
     print()
     return wrong
 

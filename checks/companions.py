@@ -23,7 +23,8 @@ MANY = 300  # statements, more than a process may have files open on some system
 # Texts of statements, and what `where` writes of each behind the name of the file.
 REFUSED = [
     (
-        "-- a ; in a comment, and a '\nSELECT 'it''s; so';\n\nSELECT JSON_VALUE(doc, '$.a'), -- one\n  JSON_VALUE(doc, '$.b' RETURNING VARCHAR2(9)),\n  2;\nSELECT ;\n",
+        "-- a ; in a comment, and a '\nSELECT 'it''s; so';\n\n"
+        "SELECT JSON_VALUE(doc, '$.a'), -- one\n  JSON_VALUE(doc, '$.b' RETURNING VARCHAR2(9)),\n  2;\nSELECT ;\n",
         ["lines 4 to 6: statement 2: syntax error", "line 5: value 2: JSON_VALUE(doc, '$.b' RETURNING VARCHAR2(9))"],
         ["VARCHAR2 is no type here: write VARCHAR"],
     ),
@@ -48,8 +49,16 @@ REFUSED = [
         ["line 1: statement 1: path: syntax error", "line 1: value 1: JSON_EXISTS(doc, '$.a == 1 and $.b == 2')"],
         ["in a path, `and` is written &&", "a path that is a predicate is written as a filter: $ ? (@.x == 1)"],
     ),
-    ("SELECT DOC IS JSON;", ["line 1: statement 1: syntax error", "line 1: value 1: DOC IS JSON"], ["the line is called doc, in small letters"]),
-    ("SELECT 1 /* one */;", ["line 1: statement 1: lexical error", "line 1: value 1: 1 /* one */"], ["a comment begins with -- and ends with its line"]),
+    (
+        "SELECT 1.5, DOC IS JSON;",
+        ["line 1: statement 1: syntax error", "line 1: value 2: DOC IS JSON"],
+        ["the line is called doc, in small letters"],
+    ),
+    (
+        "SELECT 1.5 /* one */;",
+        ["line 1: statement 1: lexical error", "line 1: value 1: 1.5 /* one */"],
+        ["a comment begins with -- and ends with its line"],
+    ),
 ]
 
 
@@ -57,7 +66,8 @@ def check_companions(tally, program, top):
     with room_of(program, top) as room:
         for name in COMPANIONS:
             helped, wrong = room.run([f"sqljson-{name}", "--help"]), room.run([f"sqljson-{name}", "--no-such-word"])
-            tally.check(f"{name} --help", None if helped.status == 0 and b"exit status" in helped.output else "it doesn't tell of itself")
+            tells = helped.status == 0 and b"exit status" in helped.output
+            tally.check(f"{name} --help", None if tells else "it doesn't tell of itself")
             tally.check(f"{name} with a wrong word", None if wrong.status == 1 and b"usage:" in wrong.note else f"it ended with {wrong}")
         check_split(tally, room)
         check_where(tally, room)
@@ -109,7 +119,7 @@ def check_where(tally, room):
         ended = room.run(["sqljson-where", "refused.sql"])
         tally.check(f"where, text {number}", difference(Ended(2, "\n".join([*wanted, ""]).encode()), ended))
     tally.check("where of an accepted file", difference(Ended(0, b"accepted 2\n"), room.run(["sqljson-where", "orders.sql"])))
-    tally.check("where without a file", None if room.run(["sqljson-where", "none.sql"]).status == 126 else "it ended with another status")
+    tally.check("where without a file", status_fault(126, room.run(["sqljson-where", "none.sql"])))
 
 
 def check_parallel(tally, room):
@@ -118,7 +128,8 @@ def check_parallel(tally, room):
     lines = [b"" if chance.random() < 0.2 else b'{"s":"%s"}' % (b"x" * chance.randrange(60)) for _ in range(400)] + [b'{"s":']
     given = b"\n".join([*lines, b'{"s":"last"}'])
     (room.folder / "values.sql").write_bytes(VALUES)
-    for jobs, piece, text in [(1, 1000, given), (3, 1, given[:900]), (3, 700, given), (3, 700, given + b"\n"), (2, 10**6, given), (2, 10, b"\n\n"), (2, 10, b"")]:
+    short = [(3, 1, given[:900]), (2, 10, b"\n\n"), (2, 10, b"")]
+    for jobs, piece, text in [(1, 1000, given), (3, 700, given), (3, 700, given + b"\n"), (2, 10**6, given), *short]:
         (room.folder / "input").write_bytes(text)
         one = room.run(["sqljson", "run", "values.sql"], text)
         ended = room.run(["sqljson-in-parallel", "--piece", str(piece), str(jobs), "values.sql", "input"])
@@ -127,4 +138,8 @@ def check_parallel(tally, room):
     (room.folder / "input").write_bytes(given)
     refused = Ended(2, note=b"statement 1: syntax error\n")
     tally.check("in-parallel of a refused file", difference(refused, room.run(["sqljson-in-parallel", "2", "refused.sql", "input"])))
-    tally.check("in-parallel without input", None if room.run(["sqljson-in-parallel", "2", "values.sql", "none"]).status == 126 else "it ended with another status")
+    tally.check("in-parallel without input", status_fault(126, room.run(["sqljson-in-parallel", "2", "values.sql", "none"])))
+
+
+def status_fault(wanted, ended):
+    return None if ended.status == wanted else f"it ended with {ended}, and not with {wanted}"

@@ -61,7 +61,8 @@ def check_completion(tally, room, top):
     for command, words, wanted in COMPLETED:
         function = "_sqljson" if command == "sqljson" else "_sqljson_companion"
         typed = " ".join(f"'{word}'" for word in [command, *words])
-        script = f"source {top}/tools/sqljson.bash; COMP_WORDS=({typed}); COMP_CWORD={len(words)}; {function} {command}; echo \"${{COMPREPLY[*]}}\""
+        script = f"source {top}/tools/sqljson.bash; COMP_WORDS=({typed}); COMP_CWORD={len(words)}; {function} {command}"
+        script += "; echo \"${COMPREPLY[*]}\""
         got = sorted(room.run(["bash", "-c", script]).output.decode().split())
         tally.check(f"completion of {typed}", None if got == sorted(wanted.split()) else f"it is {got}")
 
@@ -72,7 +73,8 @@ def check_install(tally, room, program, top, version):
     ended = room.run([top / "tools" / "install", "--program", program.path, prefix])
     tally.check("tools/install", difference(Ended(0), ended))
     page = prefix / "share" / "man" / "man1" / "sqljson.1"
-    tally.check("the installed man page", None if page.is_file() and f"sqljson {version}" in page.read_text(encoding="utf-8") else "it lacks the version")
+    has = page.is_file() and f"sqljson {version}" in page.read_text(encoding="utf-8")
+    tally.check("the installed man page", None if has else "it lacks the version")
     tally.check("the installed program", run_fault(room, prefix))
     for words in [[], ["--no-such-word"], ["one", "two"]]:
         ended = room.run([top / "tools" / "install", *words])
@@ -100,6 +102,7 @@ def check_package(tally, room, program, top, version):
         tally.check(f"the package's {field.split(':')[0]}", None if field in said else f"it says {said}")
     unpacked = room.folder / "unpacked"
     room.run(["dpkg-deb", "--extract", package, unpacked])
-    lacking = [it for it in ["bin/sqljson", *(f"bin/sqljson-{it}" for it in COMPANIONS), "share/man/man1/sqljson.1.gz"] if not (unpacked / "usr" / it).is_file()]
+    files = ["bin/sqljson", *(f"bin/sqljson-{it}" for it in COMPANIONS), "share/man/man1/sqljson.1.gz"]
+    lacking = [it for it in files if not (unpacked / "usr" / it).is_file()]
     tally.check("the package", lacking and f"it lacks {lacking}")
     tally.check("the program of the package", run_fault(room, unpacked / "usr"))

@@ -17,7 +17,8 @@ class Room:
 
     def __init__(self, folder, names):
         self.folder = folder
-        self.surroundings = {**os.environ, "PATH": f"{names}{os.pathsep}{os.environ['PATH']}", "LC_ALL": "C.UTF-8", "PYTHONDONTWRITEBYTECODE": "1"}
+        path = f"{names}{os.pathsep}{os.environ['PATH']}"
+        self.surroundings = {**os.environ, "PATH": path, "LC_ALL": "C.UTF-8", "PYTHONDONTWRITEBYTECODE": "1"}
 
     def run(self, words, given=b"", **how):
         """Runs a command to its end."""

@@ -3,4 +3,4 @@
 set -u
 cp orders.jsonl growing.jsonl
 
-timeout 1 tail -n +1 -f growing.jsonl | sqljson run orders.sql | grep -a --line-buffered -P '^\d+\t\d+\tE\t'
+timeout 3 tail -n +1 -f growing.jsonl | sqljson run orders.sql | grep -a --line-buffered -P '^\d+\t\d+\tE\t'
