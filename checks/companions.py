@@ -138,6 +138,9 @@ def check_parallel(tally, room):
     (room.folder / "input").write_bytes(given)
     refused = Ended(2, note=b"statement 1: syntax error\n")
     tally.check("in-parallel of a refused file", difference(refused, room.run(["sqljson-in-parallel", "2", "refused.sql", "input"])))
+    full = Ended(5, note=b"in-parallel: output failed\n")
+    ended = room.run(["bash", "-c", "sqljson-in-parallel 2 values.sql input > /dev/full"])
+    tally.check("in-parallel onto a full disk", difference(full, ended))
     tally.check("in-parallel without input", status_fault(126, room.run(["sqljson-in-parallel", "2", "values.sql", "none"])))
 
 
