@@ -119,6 +119,12 @@ def check_where(tally, room):
         ended = room.run(["sqljson-where", "refused.sql"])
         tally.check(f"where, text {number}", difference(Ended(2, "\n".join([*wanted, ""]).encode()), ended))
     tally.check("where of an accepted file", difference(Ended(0, b"accepted 2\n"), room.run(["sqljson-where", "orders.sql"])))
+    (room.folder / "empty.sql").write_text("SELECT 'a[-1]', JSON_VALUE(doc, '$ ? (@ == \"[-1]\")'),\n  JSON_VALUE(doc, '$[ \"x\"].a[-1]');")
+    wanted = """accepted 1
+hint: empty.sql: line 2: a subscript that is a text finds nothing: a member is written ."any key"
+hint: empty.sql: line 2: a subscript below 0 finds nothing: the last element is [last]
+"""
+    tally.check("where of paths that find nothing", difference(Ended(0, wanted.encode()), room.run(["sqljson-where", "empty.sql"])))
     tally.check("where without a file", status_fault(126, room.run(["sqljson-where", "none.sql"])))
 
 
