@@ -10,13 +10,16 @@ import sys
 from pathlib import Path
 
 from checks.command import check_command
+from checks.companions import check_companions
 from checks.damage import check_damage
 from checks.edges import check_edges
 from checks.examples import check_examples
 from checks.guide import check_guide
 from checks.hard import check_hard
 from checks.limits import check_limits
+from checks.packaging import check_packaging
 from checks.program import Program
+from checks.recipes import check_recipes
 from checks.tally import Tally
 from checks.texts import check_texts
 
@@ -37,7 +40,10 @@ def main():
     check_texts(tally, TOP)
     if program.exists():
         check_examples(tally, program, TOP / "examples")
-        check_guide(tally, program, TOP / "docs" / "GUIDE.md")
+        check_guide(tally, program, TOP)
+        check_recipes(tally, program, TOP)
+        check_companions(tally, program, TOP)
+        check_packaging(tally, program, TOP)
         check_edges(tally, program)
         check_limits(tally, program)
         check_hard(tally, program)

@@ -13,7 +13,7 @@ def check_examples(tally, program, folder):
     """Runs each example of the folder, and looks for files that belong to none."""
     names = sorted(path.stem for path in folder.glob("*.sql"))
     tally.check("examples/", None if names else "it has no example")
-    strays = [path.name for path in folder.iterdir() if path.suffix not in PARTS or path.stem not in names]
+    strays = [path.name for path in folder.iterdir() if path.is_file() and (path.suffix not in PARTS or path.stem not in names)]
     tally.check("examples/", strays and f"these files belong to no example: {' '.join(sorted(strays))}")
     for name in names:
         ended = program.run(["run", f"{name}.sql"], part(folder, name, ".jsonl"), folder)

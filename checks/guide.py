@@ -1,40 +1,69 @@
-"""The fenced examples of docs/GUIDE.md, run through the program.
+"""The examples of README.md and docs/GUIDE.md, run through the program.
 
 A block tagged `sql` is a statement file and one tagged `jsonl` is an input. A block tagged `output` is what the last
 `sql` block before it writes for the last `jsonl` block before it, with status 0. A block tagged `error N` is the
-message of such a run that writes nothing and ends with status N. A block without a tag is not run.
+message of such a run that writes nothing and ends with status N. A block tagged `console` has commands behind `$` and
+below each what it shows; they run in a copy of examples/recipes/, with the last two blocks as statements.sql and
+lines.jsonl, and may go on in a next line behind a backslash. A block tagged with a language and `recipes/NAME` is a
+part of that recipe. A block without a tag is not run.
+
+In the table of other dialects the first cell of a row is a text, the second what the program says of it, and the third
+a text that it accepts. A text that is no statement is a value of one.
 """
 import re
 import tempfile
 from pathlib import Path
 
-from checks.program import Ended, difference
+from checks.program import Ended, difference, shown
+from checks.room import room_of
 
 FENCE = re.compile(r"^```(.*)\n((?:.*\n)*?)```$", re.M)
+COMMAND = re.compile(r"^\$ ((?:.*\\\n)*.*)\n((?:(?!\$ ).*\n)*)", re.M)
+RECIPE = re.compile(r"\w+ (recipes/.*)")
+DIALECTS = "## From other dialects"
+ROW = re.compile(r"^\| `(.+?)` \| `(.+?)` \| `(.+?)` \|$", re.M)
+FOLDER = "examples"
 
 
-def check_guide(tally, program, guide):
-    """Runs each example of the guide."""
-    file, given, runs = None, b"", 0
-    for tag, body, line in blocks(guide.read_text(encoding="utf-8")):
-        name = f"{guide.name}, line {line}"
-        if tag == "sql":
-            file = body
-        elif tag == "jsonl":
-            given = body
-        elif tag and file is None:
-            tally.check(name, f"a block `{tag}` has no block `sql` before it")
-        elif tag:
-            wanted = expected(tag, body)
-            tally.check(name, difference(wanted, run(program, file, given)) if wanted else f"`{tag}` is no tag of a block")
-            runs += 1
-    tally.check(guide.name, None if runs else "it has no example")
+def check_guide(tally, program, top):
+    """Runs each example of both documents, and looks at the table of other dialects."""
+    for document in [top / "README.md", top / "docs" / "GUIDE.md"]:
+        text = document.read_text(encoding="utf-8")
+        file, given, runs = None, b"", 0
+        for tag, body, line in blocks(text):
+            name = f"{document.name}, line {line}"
+            if tag == "sql":
+                file = body
+            elif tag == "jsonl":
+                given = body
+            elif tag:
+                tally.check(name, fault(tag, body, file, given, program, top))
+                runs += 1
+        tally.check(document.name, None if runs else "it has no example")
+    rows = ROW.findall(text.partition(DIALECTS)[2].partition("\n## ")[0])
+    tally.check(DIALECTS, None if rows else "it has no row")
+    for row in rows:
+        tally.check(f"{document.name}, `{row[0]}`", row_fault(program, *(cell.replace("\\|", "|") for cell in row)))
 
 
 def blocks(text):
     """Yields the tag, the body and the line number of each fenced block."""
     for found in FENCE.finditer(text):
         yield found[1].strip(), found[2].encode(), text.count("\n", 0, found.start()) + 1
+
+
+def fault(tag, body, file, given, program, top):
+    """Says what is wrong with a block that is run or compared, or nothing."""
+    recipe = RECIPE.fullmatch(tag)
+    if recipe:
+        path = top / FOLDER / recipe[1]
+        return None if path.is_file() and body in path.read_bytes() else f"{FOLDER}/{recipe[1]} has no such part"
+    if tag == "console":
+        return console_fault(body.decode(), file, given, program, top)
+    wanted = expected(tag, body)
+    if not wanted:
+        return f"`{tag}` is no tag of a block"
+    return difference(wanted, run(program, file, given)) if file is not None else "there is no block `sql` before it"
 
 
 def expected(tag, body):
@@ -48,3 +77,28 @@ def run(program, file, given):
     with tempfile.TemporaryDirectory() as folder:
         Path(folder, "guide.sql").write_bytes(file)
         return program.run(["run", "guide.sql"], given, folder)
+
+
+def console_fault(text, file, given, program, top):
+    """Says which command shows something else, or nothing."""
+    with room_of(program, top) as room:
+        (room.folder / "statements.sql").write_bytes(file or b"")
+        (room.folder / "lines.jsonl").write_bytes(given)
+        for command, wanted in COMMAND.findall(text):
+            showed = room.shown(command)
+            if showed != wanted.encode():
+                return f"`{command}` shows {shown(showed)}, and not {shown(wanted.encode())}"
+    return None if COMMAND.match(text) else "it has no command"
+
+
+def row_fault(program, elsewhere, says, here):
+    """Says where the program judges the texts of a row in another way, or nothing."""
+    accepted = Ended(0, b"accepted 1\n")
+    said = accepted if says == "accepted" else Ended(2, note=f"statement 1: {says}\n".encode())
+    return difference(said, checked(program, elsewhere)) or difference(accepted, checked(program, here))
+
+
+def checked(program, text):
+    with tempfile.TemporaryDirectory() as folder:
+        Path(folder, "text.sql").write_text(text if text.startswith("SELECT") else f"SELECT {text};", encoding="utf-8")
+        return program.run(["check", "text.sql"], b"", folder)

@@ -10,7 +10,7 @@ HANDLES = "Handles allowed: none.\n"
 PLACE = re.compile(r"(?<![\w./-])/(?:" + "|".join(["home", "root", "tmp", "opt", "mnt", "srv", "work", "farm", "Users"]) + r")/\w")
 LINK = re.compile(r"\]\(([^)#\s]+)[^)\s]*\)")
 KEPT_OUT = {".git", "out", "__pycache__"}
-TOLD_IN = ["README.md", "docs/ARCHITECTURE.md", "docs/PROOFS.md"]
+TOLD_IN = ["docs/ARCHITECTURE.md", "docs/PROOFS.md"]
 
 
 def check_texts(tally, top):

@@ -1,0 +1,1 @@
+SELECT JSON_VALUE(doc, '$.name' ERROR ON ERROR);
