@@ -4,7 +4,7 @@
 The larger file of each kind has about a megabyte. Where a statement has a limit, as of 1,000 columns, the larger file
 has statements at that limit and the smaller file as many statements of a quarter. Each file is checked, and run over no
 input. Told are the least processor times of some rounds, how many times longer the larger file took than the smaller,
-how many times more bytes it has, and the peak of memory for it. A time that grows by over half more than the bytes do is
+how many times more bytes it has, and the peak of memory for it. A time that grows over twice as much as the bytes do is
 marked, and then the script ends with status 1. The benchmark is no part of the tests, and nothing that it says is
 proved.
 """
@@ -16,7 +16,7 @@ from pathlib import Path
 
 from runs import read, words_taken
 
-OFTEN = 1.5  # times more than the bytes grow: a time that grows more is marked
+OFTEN = 2  # times more than the bytes grow: a time that grows more is marked
 SHORT = 0.01  # seconds: no time below is marked
 COMMANDS = ("check", "run")
 
@@ -97,18 +97,18 @@ def measure(program, kind, room, rounds, start):
         grown = max(larger - start, 0) / max(lesser - start, 0.001)
         marked = larger > SHORT and grown > OFTEN * larger_bytes / lesser_bytes
         linear &= not marked
-        told += f"{lesser:>9.3f}{larger:>8.3f}{grown:>6.1f}{'!' if marked else ' '}{peak:>7.1f}"
+        told += f"{lesser:>9.3f}{larger:>8.3f}{grown:>6.1f}{'!' if marked else ' '}{peak:>7.1f} "
     print(told)
     return linear
 
 
 def main():
     words = words_taken(__doc__)
-    words.add_argument("--rounds", type=int, default=3, metavar="N", help="how often each is run (default: 3)")
+    words.add_argument("--rounds", type=int, default=5, metavar="N", help="how often each is run (default: 5)")
     given = read(words)
     rounds = max(given.rounds, 1)
-    heads = (f"{command:>9}{'':8}{'times':>6} {'MB':>7}" for command in COMMANDS)
-    print(f"{'':34}{'bytes':>10}{'times':>7}" + "".join(heads))
+    print(f"{'':51}" + "".join(f"{command:>9}{'':22}" for command in COMMANDS))
+    print(f"{'':34}{'bytes':>10}{'times':>7}" + f"{'lesser':>9}{'larger':>8}{'times':>6} {'MB':>7} " * len(COMMANDS))
     with tempfile.TemporaryDirectory() as room:
         empty = Path(room, "empty.sql")
         empty.write_text("")

@@ -26,6 +26,7 @@ MEMBER = b"SELECT JSON_EXISTS(doc, 'lax $.a');\n"
 NUMBER = b"SELECT JSON_VALUE(doc, 'lax $.n' RETURNING INTEGER ERROR ON ERROR);\n"
 MANY = b"SELECT JSON_VALUE(doc, '$.a' RETURNING NUMERIC(10,2) DEFAULT 0 ON EMPTY), doc IS JSON OBJECT;\n" * 1000
 LONGEST_FILE = 1_048_576
+PIECE = 65_536  # bytes that are read at once
 LONGEST_PIPE = 65_536  # bytes that a pipe holds where nobody reads it
 LONGEST_WAIT = 20  # seconds: within it a pipe is opened, and a row comes
 RUN, CHECK, SELFRUN = ["run", "member.sql"], ["check", "member.sql"], ["selfrun", "3", "member.sql"]
@@ -103,7 +104,7 @@ def check_piped_files(tally, program, folder):
     tally.check("a pipe without a byte", difference(Ended(0), through_pipe(program, folder, [])[0]))
     ended, taken = through_pipe(program, folder, [b" " * 4096] * 1000)
     tally.check("a pipe that goes on", difference(TOO_LONG, ended))
-    most = LONGEST_FILE + 1 + LONGEST_PIPE
+    most = LONGEST_FILE + PIECE + LONGEST_PIPE
     tally.check("what it goes on with", None if taken <= most else f"{taken - LONGEST_PIPE} bytes of it were read")
 
 

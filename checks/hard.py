@@ -103,25 +103,25 @@ HARD_LINES = [
     ("a broken end", lambda: repeated(b'"', "ü".encode(), b'\xc3"'), IS_JSON, lambda: b"R\tFALSE", 60),
     ("spaces before a value", lambda: repeated(b"", b" ", b"1"), IS_JSON, lambda: b"R\tTRUE", 60),
     ("escapes", lambda: repeated(b'"', b"\\u0000", b'"'), "SELECT JSON_QUERY(doc, '$');",
-     lambda: b'R\t"' + b"\\\\u0000" * ESCAPES + b'"', 200),
-    ("digits", lambda: b"1" * LONGEST_LINE, TEXT, lambda: b"R\t" + b"1" * LONGEST_LINE, 200),
-    ("decimals", lambda: repeated(b"0.", b"0", b"1"), TEXT, lambda: b"R\t" + repeated(b"0.", b"0", b"1"), 200),
+     lambda: b'R\t"' + b"\\\\u0000" * ESCAPES + b'"', 100),
+    ("digits", lambda: b"1" * LONGEST_LINE, TEXT, lambda: b"R\t" + b"1" * LONGEST_LINE, 100),
+    ("decimals", lambda: repeated(b"0.", b"0", b"1"), TEXT, lambda: b"R\t" + repeated(b"0.", b"0", b"1"), 100),
     ("zeros that an exponent takes back", lambda: repeated(b"1", b"0", b"e-16777205"), SUM, lambda: b"R\t2", 60),
-    ("elements", lambda: repeated(b"[0", b",0", b"]"), SIZE, lambda: b"R\t%d" % ((LONGEST_LINE - 1) // 2), 400),
-    ("empty arrays", lambda: repeated(b"[[]", b",[]", b"]"), SIZE, lambda: b"R\t%d" % ((LONGEST_LINE - 1) // 3), 400),
-    ("members", lambda: repeated(b'{"":0', b',"":0', b"}"), ANY, lambda: b"R\tTRUE", 400),
+    ("elements", lambda: repeated(b"[0", b",0", b"]"), SIZE, lambda: b"R\t%d" % ((LONGEST_LINE - 1) // 2), 700),
+    ("empty arrays", lambda: repeated(b"[[]", b",[]", b"]"), SIZE, lambda: b"R\t%d" % ((LONGEST_LINE - 1) // 3), 300),
+    ("members", lambda: repeated(b'{"":0', b',"":0', b"}"), ANY, lambda: b"R\tTRUE", 300),
 ]
 HARD_KEYS = [
-    ("one key again and again", lambda: repeated(b'{"k":0', b',"k":0', b"}"), ANY, lambda: b"E\t22037", 500),
-    ("keys that differ at their end", lambda: different_keys(7), ANY, lambda: b"R\tTRUE", 500),
-    ("long keys that differ at their end", lambda: different_keys(4000), ANY, lambda: b"R\tTRUE", 500),
+    ("one key again and again", lambda: repeated(b'{"k":0', b',"k":0', b"}"), ANY, lambda: b"E\t22037", 300),
+    ("keys that differ at their end", lambda: different_keys(7), ANY, lambda: b"R\tTRUE", 200),
+    ("long keys that differ at their end", lambda: different_keys(4000), ANY, lambda: b"R\tTRUE", 60),
 ]
 BLANK_LINES = 8_000_000
 
 
 def check_lines(tally, program, folder):
     """Lines of 16 MiB that are hard to read, and very many lines without anything, each within its memory."""
-    blank = ("no blank", lambda: b"\n" * BLANK_LINES + b"true", IS_JSON, lambda: b"R\tTRUE", 30)
+    blank = ("no blank", lambda: b"\n" * BLANK_LINES + b"true", IS_JSON, lambda: b"R\tTRUE", 10)
     tables = [([], 1, HARD_LINES), (["--unique-keys"], 1, HARD_KEYS), ([], BLANK_LINES + 1, [blank])]
     for options, number, table in tables:
         for name, line, statement, row, most in table:

@@ -7,7 +7,7 @@ from checks.program import Ended, difference
 
 LONGEST_LINE = 16_777_216
 DEEPEST = 512
-STACK = [(RLIMIT_STACK, 8 << 20)]
+STACK = [(RLIMIT_STACK, 4 << 20)]
 TOO_MANY, TOO_DEEP, NO_SYNTAX = "too many columns or paths", "path: too deep", "syntax error"
 
 
@@ -16,6 +16,7 @@ def check_limits(tally, program):
         folder = Path(room)
         check_statements(tally, program, folder)
         check_refused(tally, program, folder)
+        check_stack(tally, program, folder)
         check_lines(tally, program, folder)
 
 
@@ -118,6 +119,21 @@ def check_refused(tally, program, folder):
         ended = program.run(["check", "refused.sql"], folder=folder)
         wanted = Ended(2, note=f"statement 1: {reason}\n".encode()) if reason else Ended(0, b"accepted 1\n")
         tally.check(statement[-60:], difference(wanted, ended))
+
+
+def check_stack(tally, program, folder):
+    """Statements that are deep in two ways at once, and take more stack than the others."""
+    deepest = "$?(1==1" + "&&1==1" * 255 + ")"
+    query, column = f"JSON_QUERY(doc,'{deepest}')", "COLUMNS (c INT PATH '$')"
+    for name, statement in [
+        ("objects", "SELECT " + "JSON_OBJECT('k':" * 62 + query + ")" * 62 + ";"),
+        ("arrays", "SELECT " + "JSON_ARRAY(" * 62 + query + ")" * 62 + ";"),
+        ("tables", "SELECT * FROM JSON_TABLE(doc,'$' " + "COLUMNS (NESTED '$' " * 60 + f"COLUMNS (NESTED '{deepest}' {column}"
+         + ")" * 62 + ";"),
+    ]:
+        (folder / "deep.sql").write_text(statement)
+        ended = program.run(["run", "deep.sql"], b'{"a":1}', folder, limits=STACK)
+        tally.check(f"a path in deep {name}", None if ended.status == 0 and ended.output else f"it ended as {ended}")
 
 
 def string(length):
