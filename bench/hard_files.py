@@ -2,8 +2,8 @@
 """Measures how long hard statement files take at a size and at four times that size: `bench/hard_files.py`, at the top.
 
 The larger file of each kind has about a megabyte. Where a statement has a limit, as of 1,000 columns, the larger file
-has statements at that limit and the smaller file as many statements of a quarter. Each file is checked, and run over no
-input. Told are the least processor times of some rounds, how many times longer the larger file took than the smaller,
+has statements at that limit and the smaller file as many statements of a quarter. Each file is checked, and run over one
+line. Told are the least processor times of some rounds, how many times longer the larger file took than the smaller,
 how many times more bytes it has, and the peak of memory for it. A time that grows over twice as much as the bytes do is
 marked, and then the script ends with status 1. The benchmark is no part of the tests, and nothing that it says is
 proved.
@@ -12,6 +12,7 @@ import os
 import subprocess
 import sys
 import tempfile
+from contextlib import suppress
 from pathlib import Path
 
 from runs import read, words_taken
@@ -19,6 +20,7 @@ from runs import read, words_taken
 OFTEN = 2  # times more than the bytes grow: a time that grows more is marked
 SHORT = 0.01  # seconds: no time below is marked
 COMMANDS = ("check", "run")
+LINE = b'{"a":1}\n'
 
 
 def exists(path):
@@ -31,7 +33,8 @@ def columns(count):
 
 
 def paths(count):
-    nested = ",".join(f"NESTED '$.a' COLUMNS (c{number} INT)" for number in range(1, count))
+    """A table with so many paths, which find nothing in the line: else it would have as many rows as columns."""
+    nested = ",".join(f"NESTED '$.b' COLUMNS (c{number} INT)" for number in range(1, count))
     return f"SELECT * FROM JSON_TABLE(doc, '$' COLUMNS ({nested}));"
 
 
@@ -70,11 +73,15 @@ def spent(program, command, file):
 
     The peak is never below that of this script, which lends its memory until the program begins.
     """
-    how = {"stdin": subprocess.DEVNULL, "stdout": subprocess.DEVNULL, "stderr": subprocess.DEVNULL}
-    ran = subprocess.Popen([str(program), command, str(file)], **how)
-    _, status, used = os.wait4(ran.pid, 0)
-    if os.waitstatus_to_exitcode(status) not in (0, 2):
-        sys.exit(f"{command} ended with status {os.waitstatus_to_exitcode(status)}")
+    how = {"stdin": subprocess.PIPE, "stdout": subprocess.DEVNULL, "stderr": subprocess.DEVNULL}
+    with subprocess.Popen([str(program), command, str(file)], **how) as ran:
+        with suppress(BrokenPipeError):  # (a check reads no input)
+            ran.stdin.write(LINE)
+            ran.stdin.close()
+        _, status, used = os.wait4(ran.pid, 0)
+        ran.returncode = os.waitstatus_to_exitcode(status)
+    if ran.returncode not in (0, 2):
+        sys.exit(f"{command} ended with status {ran.returncode}")
     return used.ru_utime + used.ru_stime, used.ru_maxrss * 1024 / 1e6
 
 
