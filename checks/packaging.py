@@ -8,7 +8,7 @@ from checks.room import COMPANIONS, room_of
 
 VERSION = re.compile(r"\d+\.\d+\.\d+\n")
 STATE = re.compile(r"^\| (22\w{3}) \| (.*) \|$", re.M)
-STATUS = re.compile(r"^\| (\d) \| (.*?) \|", re.M)
+STATUS = re.compile(r"^\| [^|]* \| (\d) \| (.*?) \|", re.M)
 ENTRY = re.compile(r"^\.TP\n(\w+)\n(.*)$", re.M)
 # What a user has typed behind the name of a command, and what it is completed to in the folder of the recipes.
 COMPLETED = [
@@ -46,7 +46,7 @@ def check_page(tally, top, guide, page):
     states = {state: plain(where) for state, where in STATE.findall(guide)}
     told = {name: text for name, text in entries.items() if len(name) == 5}
     tally.check("sqljson.1, SQLSTATEs", None if states and states == told else f"it has {told}, and the guide {states}")
-    for status, message in STATUS.findall(guide.partition("## Errors and exit statuses")[2].partition("\n## ")[0]):
+    for status, message in STATUS.findall(guide.partition("## When something goes wrong")[2].partition("\n## ")[0]):
         message = plain(message)
         has = status in entries and (".." in message or message == "none" or entries[status].startswith(message))
         tally.check(f"sqljson.1, status {status}", None if has else f"it says {entries.get(status)}, and the guide {message}")
