@@ -55,6 +55,16 @@ REFUSED = [
         ["the line is called doc, in small letters"],
     ),
     (
+        "SELECT * FROM JSON_TABLE(doc, '$' COLUMNS (\n  a BOOLEAN EXISTS,\n  b INTEGER EXISTS PATH '$.b'));",
+        ["lines 1 to 3: statement 1: syntax error", "line 3: column 2: b INTEGER EXISTS PATH '$.b'"],
+        ["a column EXISTS has the type BOOLEAN"],
+    ),
+    (
+        "SELECT JSON_VALUE(doc, '$.a.number()'), JSON_VALUE(doc, '$.a.decimal(5,2)');",
+        ["line 1: statement 1: path: syntax error", "line 1: value 2: JSON_VALUE(doc, '$.a.decimal(5,2)')"],
+        ["nothing stands between the parentheses of a method: name a type after RETURNING"],
+    ),
+    (
         "SELECT 1.5 /* one */;",
         ["line 1: statement 1: lexical error", "line 1: value 1: 1.5 /* one */"],
         ["a comment begins with -- and ends with its line"],

@@ -1,8 +1,9 @@
 """Damaged texts: whatever a line, a statement file or a path is, the program has one answer, and no crash and no hang.
 
 From a few rich texts every beginning is taken, every byte is replaced by each of some telling bytes, and every two
-neighbouring pieces are exchanged. Whether a line is JSON is compared with Python's own reading. Of files and paths it is
-known apart from the program where they do not break into tokens; all others have one of the stated answers.
+neighbouring pieces are exchanged. Whether a line is JSON is compared with Python's own reading, also of a few lines at
+the limit of depth. Of files and paths it is known apart from the program where they do not break into tokens; all others
+have one of the stated answers.
 """
 import os
 import re
@@ -12,7 +13,7 @@ from itertools import chain, zip_longest
 from pathlib import Path
 
 from checks.answers import accepted, refusal
-from checks.json_texts import Kinds, is_blank
+from checks.json_texts import DEEPEST, Kinds, is_blank
 from checks.lexing import file_tokens, is_utf8, path_refusal
 from checks.program import shown
 
@@ -44,6 +45,7 @@ ROW = re.compile(rb"1\t1\t(?:R\t(.*)|E\t(22[0-9A-Z]{3}))\n", re.S)
 def check_damage(tally, program):
     with tempfile.TemporaryDirectory() as room:
         check_documents(tally, program, Path(room))
+        check_lines(tally, program, Path(room), "deep", b"\n".join(deep_lines()))
         check_texts(tally, program, Path(room), "a damaged file", FILES, ask_file)
         check_texts(tally, program, Path(room), "a damaged path", PATHS, ask_path)
 
@@ -60,14 +62,31 @@ def damaged(text):
 
 
 def check_documents(tally, program, folder):
-    """All damaged documents are the lines of one run, once for their kinds and once for equal keys."""
+    """All damaged documents are the lines of one run."""
     given = b"\n".join(text for document in DOCUMENTS for text in damaged(document))
+    count = given.count(b"\n") + 1
+    tally.check("damaged lines", None if count >= LEAST_LINES else f"they are {count} alone")
+    check_lines(tally, program, folder, "damaged", given)
+
+
+def deep_lines():
+    """Yields lines of arrays and objects at the limit of depth, one beyond it, and such lines with a byte replaced."""
+    pairs = DEEPEST // 2
+    for head, inner, tail in [(b'[{"k":', b"0", b"}]"), (b' [ {"k":1, "\\u006b" :', b' "]" ', b"} , {} ]")]:
+        deep = head * pairs + inner + tail * pairs
+        yield deep
+        yield head * pairs + b"[]" + tail * pairs
+        for at in (len(deep) // 2, len(deep) - 1):
+            yield from (deep[:at] + bytes([byte]) + deep[at + 1 :] for byte in b']"' if deep[at] != byte)
+
+
+def check_lines(tally, program, folder, which, given):
+    """All lines are given to a run for their kinds, and to one for equal keys."""
     lines = given.split(b"\n")
-    tally.check("damaged lines", None if len(lines) >= LEAST_LINES else f"they are {len(lines)} alone")
     answers = list(expected_rows(lines))
     for name, statement, words, rows in [
-        ("kinds of damaged lines", KINDS, ["run"], [kinds for kinds, _ in answers]),
-        ("equal keys of damaged lines", REPEATS, ["run", "--unique-keys"], [keys for _, keys in answers]),
+        (f"kinds of {which} lines", KINDS, ["run"], [kinds for kinds, _ in answers]),
+        (f"equal keys of {which} lines", REPEATS, ["run", "--unique-keys"], [keys for _, keys in answers]),
     ]:
         (folder / "lines.sql").write_bytes(statement)
         ended = program.run([*words, "lines.sql"], given, folder)

@@ -11,7 +11,7 @@ from contextlib import suppress
 from pathlib import Path
 from resource import RLIMIT_AS
 
-from checks.limits import LONGEST_LINE, STACK, string
+from checks.limits import DEEPEST, LONGEST_LINE, STACK, nested_arrays, nested_objects, string
 from checks.program import Ended, difference, front_problem
 
 LONGEST_FILE = 1_048_576
@@ -89,12 +89,19 @@ def different_keys(width):
     return b"{" + b",".join(b'"%s":0' % (b"%07d" % number).rjust(width, b"k") for number in range(count)) + b"}"
 
 
+def deep_elements(make):
+    """A line of the greatest length at most: an array whose elements are all one short of the greatest depth."""
+    deep = make(DEEPEST - 1)
+    return repeated(b"[" + deep, b"," + deep, b"]")
+
+
 IS_JSON = "SELECT doc IS JSON;"
 ANY = "SELECT JSON_EXISTS(doc, '$' ERROR ON ERROR);"
 TEXT = "SELECT JSON_VALUE(doc, '$');"
 SUM = "SELECT JSON_VALUE(doc, '$ + 1');"
 SIZE = "SELECT JSON_VALUE(doc, '$.size()');"
 ESCAPES = (LONGEST_LINE - 2) // 6
+DEEP_ARRAYS = (LONGEST_LINE - 1) // (2 * DEEPEST - 1)
 # What a line is, the line, the statement, its row but for its numbers, and the most memory, in megabytes.
 HARD_LINES = [
     ("open brackets", lambda: b"[" * LONGEST_LINE, IS_JSON, lambda: b"R\tFALSE", 60),
@@ -109,12 +116,14 @@ HARD_LINES = [
     ("zeros that an exponent takes back", lambda: repeated(b"1", b"0", b"e-16777205"), SUM, lambda: b"R\t2", 60),
     ("elements", lambda: repeated(b"[0", b",0", b"]"), SIZE, lambda: b"R\t%d" % ((LONGEST_LINE - 1) // 2), 700),
     ("empty arrays", lambda: repeated(b"[[]", b",[]", b"]"), SIZE, lambda: b"R\t%d" % ((LONGEST_LINE - 1) // 3), 300),
+    ("deep arrays", lambda: deep_elements(nested_arrays), SIZE, lambda: b"R\t%d" % DEEP_ARRAYS, 400),
     ("members", lambda: repeated(b'{"":0', b',"":0', b"}"), ANY, lambda: b"R\tTRUE", 300),
 ]
 HARD_KEYS = [
     ("one key again and again", lambda: repeated(b'{"k":0', b',"k":0', b"}"), ANY, lambda: b"E\t22037", 300),
     ("keys that differ at their end", lambda: different_keys(7), ANY, lambda: b"R\tTRUE", 200),
     ("long keys that differ at their end", lambda: different_keys(4000), ANY, lambda: b"R\tTRUE", 60),
+    ("deep objects", lambda: deep_elements(nested_objects), ANY, lambda: b"R\tTRUE", 200),
 ]
 BLANK_LINES = 8_000_000
 
@@ -191,6 +200,8 @@ LITTLE_MEMORY = [
         JSON_OBJECTAGG(sku:qty) FROM JSON_TABLE(doc, '$.lines[*]' COLUMNS (sku VARCHAR, qty INTEGER));""",
      SHORT_LINES + LONG_LINE),
     ("many statements", [], "SELECT JSON_VALUE(doc, '$.id' RETURNING INTEGER);\n" * 2000, ORDER % (1, 1) * 20),
+    ("deep lines", ["--unique-keys"], "SELECT JSON_QUERY(doc, '$'), doc IS JSON WITH UNIQUE KEYS;",
+     nested_arrays(DEEPEST) + b"\n" + nested_objects(DEEPEST) + b"\n"),
 ]
 LEAST_MEMORY = 4_000_000  # bytes of address space: with less no program begins
 

@@ -1,16 +1,28 @@
 """Whether a text is JSON, and of which kind, by Python's reader with its leniencies taken out.
 
-The answers do not come from the program, so it can be compared with them. Python's reader takes NaN, Infinity, lone
-surrogates and any depth up to its own limit; here they are no JSON, nor is what isn't UTF-8. Numbers are kept as texts,
-since a number of any length is JSON. An object may have a key more than once, which is told.
+The answers do not come from the program, so it can be compared with them. Python's reader takes NaN, Infinity and lone
+surrogates; here they are no JSON, nor is what isn't UTF-8. Numbers are kept as texts, since a number of any length is
+JSON. An object may have a key more than once, which is told.
+
+Python's reader recurses, and gives up at some hundreds of arrays and objects inside one another. A text with more of
+them is read from the inside out: each array or object that has none in it is read by itself, and null stands in its
+place. No two pieces of a text make a null together, and nothing beside a null does, so the text is JSON exactly if all
+that is read is.
 """
 import json
 import re
 
 LONGEST = 16_777_216
-DEEPEST = 512
+DEEPEST = 100_000
+SHALLOW = 400  # so many arrays and objects are surely within the reach of Python's reader
 BLANKS = b" \t\r"
 SURROGATE = re.compile(r"\\u[dD][89a-fA-F]")
+# A string, one end of an array or object, or what stands between these. A quotation mark alone begins no string.
+PIECE = re.compile(r'"(?:[^"\\]|\\.)*"|[][{}]|[^][{}"]+|"', re.S)
+
+
+class NotJson(ValueError):
+    """The text is not JSON."""
 
 
 class Kinds:
@@ -29,7 +41,7 @@ class Kinds:
         return tuple(pairs)
 
     def refuse_constant(self, word):
-        raise ValueError(word)
+        raise NotJson(word)
 
     def kind(self, line):
         """The kind of a line's value: `OBJECT`, `ARRAY` or `SCALAR`, or nothing where the line is not JSON."""
@@ -38,27 +50,36 @@ class Kinds:
             return None
         try:
             text = line.decode("utf-8")
-            value = self.decoder.decode(text)
-            if SURROGATE.search(text):
-                json.dumps(value, ensure_ascii=False).encode("utf-8")
-        except (ValueError, RecursionError):  # (a text that can't be decoded or encoded is a ValueError too)
+            if text.count("[") + text.count("{") > SHALLOW:
+                self.read_inside_out(text)
+            else:
+                self.read(text)
+        except ValueError:  # (a text that can't be decoded or encoded is a ValueError too)
             return None
-        if text.count("[") + text.count("{") > DEEPEST and depth(value) > DEEPEST:
-            return None
-        return "OBJECT" if isinstance(value, tuple) else "ARRAY" if isinstance(value, list) else "SCALAR"
+        return {"{": "OBJECT", "[": "ARRAY"}.get(text.strip(" \t\n\r")[:1], "SCALAR")
 
+    def read(self, text):
+        value = self.decoder.decode(text)
+        if SURROGATE.search(text):
+            json.dumps(value, ensure_ascii=False).encode("utf-8")
 
-def depth(value):
-    """The greatest number of arrays and objects that are open at one place of a value."""
-    deepest, level = 0, [value]
-    while level := [item for item in level if isinstance(item, (list, tuple))]:
-        deepest += 1
-        level = [inner for item in level for inner in inside(item)]
-    return deepest
-
-
-def inside(item):
-    return item if isinstance(item, list) else [value for _, value in item]
+    def read_inside_out(self, text):
+        """Reads each array and object with null in the place of those in it, and at last the text itself."""
+        around, pieces = [], []
+        for piece in PIECE.findall(text):
+            if piece in ("[", "{"):
+                around.append(pieces)
+                pieces = [piece]
+                if len(around) > DEEPEST:
+                    raise NotJson("it is too deep")
+            elif piece in ("]", "}"):
+                self.read("".join([*pieces, piece]))
+                if not around:
+                    raise NotJson("it closes what isn't open")
+                pieces = [*around.pop(), "null"]
+            else:
+                pieces.append(piece)
+        self.read("".join(pieces))
 
 
 def is_blank(line):

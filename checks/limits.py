@@ -3,11 +3,11 @@ import tempfile
 from pathlib import Path
 from resource import RLIMIT_STACK
 
+from checks.json_texts import DEEPEST, LONGEST as LONGEST_LINE
 from checks.program import Ended, difference
 
-LONGEST_LINE = 16_777_216
-DEEPEST = 512
 STACK = [(RLIMIT_STACK, 4 << 20)]
+SMALL_STACK = [(RLIMIT_STACK, 256 << 10)]
 TOO_MANY, TOO_DEEP, NO_SYNTAX = "too many columns or paths", "path: too deep", "syntax error"
 
 
@@ -18,6 +18,7 @@ def check_limits(tally, program):
         check_refused(tally, program, folder)
         check_stack(tally, program, folder)
         check_lines(tally, program, folder)
+        check_depths(tally, program, folder)
 
 
 def exists(path):
@@ -144,6 +145,10 @@ def nested_arrays(depth):
     return b"[" * depth + b"]" * depth
 
 
+def nested_objects(depth):
+    return b'{"k":' * depth + b"0" + b"}" * depth
+
+
 def check_lines(tally, program, folder):
     """The limits of length and depth, and blank lines up to the limit of length."""
     (folder / "root.sql").write_bytes(b"SELECT JSON_EXISTS(doc, 'lax $');\n")
@@ -153,7 +158,39 @@ def check_lines(tally, program, folder):
         ("a longer line", string(LONGEST_LINE + 1) + b"\ntrue", b"1\t1\tR\tFALSE\n2\t1\tR\tTRUE\n"),
         ("long blank lines", b" " * LONGEST_LINE + b"\n" + b" " * (LONGEST_LINE + 1), b"2\t1\tR\tFALSE\n"),
         ("the deepest line", nested_arrays(DEEPEST), b"1\t1\tR\tTRUE\n"),
-        ("a deeper line", nested_arrays(DEEPEST + 1), b"1\t1\tR\tFALSE\n"),
+        ("a deeper line", nested_arrays(DEEPEST + 1) + b"\ntrue", b"1\t1\tR\tFALSE\n2\t1\tR\tTRUE\n"),
+        ("the deepest objects", nested_objects(DEEPEST), b"1\t1\tR\tTRUE\n"),
+        ("deeper objects", nested_objects(DEEPEST + 1) + b"\ntrue", b"1\t1\tR\tFALSE\n2\t1\tR\tTRUE\n"),
     ]
     for name, given, output in cases:
         tally.check(name, difference(Ended(0, output), program.run(["run", "root.sql"], given, folder, limits=STACK)))
+
+
+# A line by its depth, what is asked of it, and what its row has, by whether the line is deep.
+IN_LITTLE_STACK = [
+    (nested_arrays, "doc IS JSON ARRAY, doc IS JSON WITH UNIQUE KEYS", lambda line, deep: b"TRUE\tTRUE"),
+    (nested_arrays, "JSON_EXISTS(doc, 'lax $[0][0]'), JSON_QUERY(doc, 'lax $')",
+     lambda line, deep: (b"TRUE\t" if deep else b"FALSE\t") + line),
+    (nested_arrays, "JSON_ARRAY(JSON_QUERY(doc, '$' WITH WRAPPER))", lambda line, deep: b"[[" + line + b"]]"),
+    (nested_objects, "doc IS JSON OBJECT, doc IS JSON WITH UNIQUE KEYS", lambda line, deep: b"TRUE\tTRUE"),
+    (nested_objects, "JSON_EXISTS(doc, 'strict $.k.k'), JSON_QUERY(doc, 'lax $')",
+     lambda line, deep: (b"TRUE\t" if deep else b"FALSE\t") + line),
+    (nested_objects, "JSON_OBJECT('k':JSON_QUERY(doc, '$'))", lambda line, deep: b'{"k":' + line + b"}"),
+]
+
+
+def check_depths(tally, program, folder):
+    """A line of any depth is read, looked through for equal keys, printed and given up with the same small stack."""
+    for make, asked, fields in IN_LITTLE_STACK:
+        (folder / "deep.sql").write_text(f"SELECT {asked};")
+        for depth in (1, DEEPEST):
+            line = make(depth)
+            wanted = Ended(0, b"1\t1\tR\t%s\n" % fields(line, depth > 1))
+            for options in ([], ["--unique-keys"]):
+                ended = program.run(["run", *options, "deep.sql"], line, folder, limits=SMALL_STACK)
+                words = " ".join(["in little stack:", *options, asked, "of", make.__name__, f"{depth} deep"])
+                tally.check(words, difference(wanted, ended))
+    repeated = b"[" * (DEEPEST - 1) + b'{"k":1,"k":2}' + b"]" * (DEEPEST - 1)
+    (folder / "deep.sql").write_text("SELECT doc IS JSON WITH UNIQUE KEYS; SELECT JSON_EXISTS(doc, '$' ERROR ON ERROR);")
+    ended = program.run(["run", "--unique-keys", "deep.sql"], repeated, folder, limits=SMALL_STACK)
+    tally.check("equal keys in the depth", difference(Ended(0, b"1\t1\tR\tFALSE\n1\t2\tE\t22037\n"), ended))
