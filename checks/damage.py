@@ -30,12 +30,12 @@ FILES = [
 SELECT JSON_OBJECT(KEY 'k' VALUE JSON_QUERY(doc, 'strict $x[0]' PASSING 1 AS x WITH WRAPPER) ABSENT ON NULL),
 'o''k';""",
     b"""SELECT JSON_OBJECTAGG(s : q WITH UNIQUE KEYS) FROM JSON_TABLE(doc, '$.l[*]' AS r COLUMNS (o FOR ORDINALITY,
-s VARCHAR(9), q INT PATH '$.q' ERROR ON ERROR, NESTED '$.t' AS t COLUMNS (j VARCHAR FORMAT JSON OMIT QUOTES))
+s VARCHAR(9), q INT PATH '$.q' ERROR ON ERROR, NESTED '$.t' AS t COLUMNS (j VARCHAR FORMAT JSON OMIT QUOTES, e BOOLEAN EXISTS UNKNOWN ON ERROR))
 PLAN (r INNER t)) AS z;""",
 ]
 PATHS = [
     rb'lax $.a[0 to last].b ? (@.c * 2 >= -1.5e1 && !(exists(@."k\u0041")) || @ starts with $x).size()',
-    rb"strict $.lines[*].keyvalue() ? ((@.name == $x) is unknown || @.id < 10) [0, last - 1].value.abs() % 7",
+    rb"strict $.lines[*].keyvalue() ? ((@.name == $x) is unknown || @.id < 10) [0, last - 1].value.string().number() % 7",
 ]
 AFTER_TOKENS = {"path: syntax error", "path: misplaced @ or last", "unsupported double", "unsupported datetime",
                 "unsupported like_regex", "unknown variable"}
