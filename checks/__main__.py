@@ -20,6 +20,7 @@ from checks.limits import check_limits
 from checks.packaging import check_packaging
 from checks.program import Program
 from checks.recipes import check_recipes
+from checks.refusals import check_refusals
 from checks.tally import Tally
 from checks.texts import check_texts
 
@@ -38,6 +39,7 @@ def main():
         tally.add_gate(int(status), Path(log).read_text(encoding="utf-8", errors="replace"))
     program = Program(given.program or BUILT)
     check_texts(tally, TOP)
+    check_refusals(tally, TOP)
     if program.exists():
         check_examples(tally, program, TOP / "examples")
         check_guide(tally, program, TOP)
