@@ -6,7 +6,7 @@ use Rattle.sj_token.specs.declared.keyword.Keyword.{Keyword}
 use Rattle.sj_token.specs.declared.keyword.Keyword.TheVariants as w
 use Rattle.sj_grammar.specs.declared.tree.Arith.{Arith}
 use Rattle.sj_grammar.specs.declared.tree.Arith.TheVariants.{Add, Sub, Mul, Div, Rem}
-use Rattle.sj_grammar.specs.declared.tree.Method.TheVariants.{TypeOf, Size, Ceiling, Floor, Abs, KeyValue}
+use Rattle.sj_grammar.specs.declared.tree.Method.TheVariants as m
 use Rattle.sj_grammar.specs.declared.tree.Literal.TheVariants as l
 use Rattle.sj_grammar.specs.Tree.{Expr, Root, Var, Context, Last, Lit, Step, Call, Double}
 
@@ -41,13 +41,20 @@ token_expr (k.Number n) = Some (Lit (l.Num n))
 token_expr (k.Word keyword text) = word_expr keyword
 token_expr _ = None
 
--- a method without an argument: "type" | "size" | "ceiling" | "floor" | "abs" | "keyvalue" | "double"
+-- a method without an argument: "type" | "size" | "ceiling" | "floor" | "abs" | "keyvalue" | "bigint" | "boolean"
+--      | "decimal" | "integer" | "number" | "string" | "double"
 abbrev pub method_of : Keyword → Option Step
-method_of w.Type = Some (Call TypeOf)
-method_of w.Size = Some (Call Size)
-method_of w.Ceiling = Some (Call Ceiling)
-method_of w.Floor = Some (Call Floor)
-method_of w.Abs = Some (Call Abs)
-method_of w.KeyValue = Some (Call KeyValue)
+method_of w.Type = Some (Call m.TypeOf)
+method_of w.Size = Some (Call m.Size)
+method_of w.Ceiling = Some (Call m.Ceiling)
+method_of w.Floor = Some (Call m.Floor)
+method_of w.Abs = Some (Call m.Abs)
+method_of w.KeyValue = Some (Call m.KeyValue)
+method_of w.Bigint = Some (Call m.Bigint)
+method_of w.Boolean = Some (Call m.Boolean)
+method_of w.Decimal = Some (Call m.Decimal)
+method_of w.Integer = Some (Call m.Integer)
+method_of w.Number = Some (Call m.Number)
+method_of w.String = Some (Call m.Text)
 method_of w.Double = Some Double
 method_of _ = None

@@ -5,3 +5,6 @@ pub mod Items
 pub mod Coding
 pub mod Pairs
 pub mod Comparands
+pub mod Scalars
+pub mod Operands
+pub mod Answers

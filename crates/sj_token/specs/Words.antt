@@ -37,6 +37,12 @@ keyword_of text =
     else (if bytes_eq text (codes "floor") then w.Floor
     else (if bytes_eq text (codes "abs") then w.Abs
     else (if bytes_eq text (codes "keyvalue") then w.KeyValue
+    else (if bytes_eq text (codes "bigint") then w.Bigint
+    else (if bytes_eq text (codes "boolean") then w.Boolean
+    else (if bytes_eq text (codes "decimal") then w.Decimal
+    else (if bytes_eq text (codes "integer") then w.Integer
+    else (if bytes_eq text (codes "number") then w.Number
+    else (if bytes_eq text (codes "string") then w.String
     else (if bytes_eq text (codes "double") then w.Double
     else (if bytes_eq text (codes "datetime") then w.Datetime
-    else w.Other)))))))))))))))))))))
+    else w.Other)))))))))))))))))))))))))))

@@ -23,6 +23,12 @@ pub enum Keyword {
     Floor,
     Abs,
     KeyValue,
+    Bigint,
+    Boolean,
+    Decimal,
+    Integer,
+    Number,
+    String,
     Double,
     Datetime,
     /// Any other word.

@@ -1,0 +1,196 @@
+// The casts of an item to a number, a whole number, a truth value and a text.
+ghost use Rattle.std.specs.Prelude.{◌≡◌, ◌≤ℤ◌, IfOk};
+ghost use Rattle.sj_decimal.specs.Rounding.{rounded};
+ghost use Rattle.sj_decimal.specs.Text.{decimal_text};
+ghost use Rattle.sj_json.specs.Numbers.{number_of};
+ghost use Rattle.sj_doc.specs.Listed.{node_tree};
+ghost use Rattle.sj_item.specs.Held.{short_text};
+ghost use Rattle.sj_item.specs.Items.{item_value, item_tree};
+ghost use Rattle.sj_item.specs.Scalars.{spelled_number, number_cast, whole_within, whole_cast, word_truth, truth_cast, word as word_of, text_cast};
+ghost use Rattle.sj_item.specs.Operands.{CastsAs};
+ghost use Rattle.sj_item.specs.Answers.{IsText, values, made_texts};
+
+use crate::held::ShortText;
+use crate::item::Item;
+use sj_base::State;
+use sj_decimal::{Decimal, Parsed};
+use sj_doc::{Kind, NodeRef, Num};
+
+/// An item as an exact number: a number, or a string that is a number by RFC 8259, with no white space round it.
+///
+/// This call and the next three are a table of casts of this project's own, which is not the CAST of ISO/IEC 9075-2.
+/// The item methods of SQL:2023 and the types of RETURNING read it.
+///
+/// # Errors
+/// 22003 where the number is not exact, in a string too. 2203G on a null, on a truth value, and on a string that is no
+/// number. 2203F on an array or an object.
+#[tactic(auto, unfolding(crate::specs::Scalars::number_cast))]
+pub fn to_number<'d>(item: Item<'d>) -> Result<Decimal, State>
+    ensures { result ≡ number_cast (item_tree (item_value item.entry)) }
+{
+    match as_operand(item) {
+        Operand::Null => Err(State::S2203G),
+        Operand::Bool(_) => Err(State::S2203G),
+        Operand::Num(number) => Ok(number),
+        Operand::Wide(_) => Err(State::S22003),
+        Operand::Text(text) => spelled(text),
+        Operand::Short(text) => spelled(text.as_str()),
+        Operand::Structured => Err(State::S2203F),
+    }
+}
+
+/// An item as a whole number from `low` to `high`: the number of [`to_number`], rounded half away from zero.
+///
+/// # Errors
+/// 22003 where the whole number is out of this range, and the state of [`to_number`] where that refuses the item.
+#[tactic(auto, unfolding(crate::specs::Scalars::whole_cast))]
+pub fn to_whole<'d>(item: Item<'d>, low: i128, high: i128) -> Result<Decimal, State>
+    requires { low ≤ℤ high }
+    ensures { result ≡ whole_cast low high (item_tree (item_value item.entry)) }
+{
+    let number = to_number(item)?;
+    within(whole(number), low, high)
+}
+
+/// An item as a truth value: a truth value, or one of the strings `true` and `false`.
+///
+/// # Errors
+/// 2203G on a null, a number and any other string. 2203F on an array or an object.
+#[tactic(auto, unfolding(crate::specs::Scalars::truth_cast))]
+pub fn to_truth<'d>(item: Item<'d>) -> Result<bool, State>
+    ensures { result ≡ truth_cast (item_tree (item_value item.entry)) }
+{
+    match as_operand(item) {
+        Operand::Null => Err(State::S2203G),
+        Operand::Bool(truth) => Ok(truth),
+        Operand::Num(_) => Err(State::S2203G),
+        Operand::Wide(_) => Err(State::S2203G),
+        Operand::Text(text) => word_truth(text),
+        Operand::Short(text) => word_truth(text.as_str()),
+        Operand::Structured => Err(State::S2203F),
+    }
+}
+
+/// An item as a text: a string as it is, an exact number by its text, another number by its spelling, and a truth value
+/// as `true` or `false`. The text is lent where it lies, or is of at most 48 bytes, so no memory is taken.
+///
+/// # Errors
+/// 2203G on a null. 2203F on an array or an object.
+#[tactic(auto, unfolding(crate::specs::Scalars::text_cast))]
+pub fn to_text<'d>(item: Item<'d>) -> Result<Item<'d>, State>
+    ensures value { values result ≡ made_texts (text_cast (item_tree (item_value item.entry))) }
+    ensures text { IfOk result IsText }
+{
+    match as_operand(item) {
+        Operand::Null => Err(State::S2203G),
+        Operand::Bool(truth) => Ok(Item::Text(word(truth))),
+        Operand::Num(number) => Ok(Item::Short(number_text(number))),
+        Operand::Wide(spelling) => Ok(Item::Text(spelling)),
+        Operand::Text(text) => Ok(Item::Text(text)),
+        Operand::Short(text) => Ok(Item::Short(text)),
+        Operand::Structured => Err(State::S2203F),
+    }
+}
+
+// What a cast looks at of an item.
+#[derive(Clone, Copy)]
+enum Operand<'d> {
+    Null,
+    Bool(bool),
+    Num(Decimal),
+    // a number that is not exact, by its spelling
+    Wide(&'d str),
+    Text(&'d str),
+    Short(ShortText),
+    // an array or an object
+    Structured,
+}
+
+#[inline]
+fn as_operand<'d>(item: Item<'d>) -> Operand<'d>
+    ensures { CastsAs (item_tree (item_value item.entry)) result }
+{
+    match item {
+        Item::Node(node) => node_operand(node),
+        Item::Num(number) => Operand::Num(number.value()),
+        Item::Text(text) => Operand::Text(text),
+        Item::Short(text) => Operand::Short(text),
+        Item::Bool(truth) => Operand::Bool(truth),
+        Item::Null => Operand::Null,
+        Item::Pair(_) => Operand::Structured,
+    }
+}
+
+#[inline]
+fn node_operand<'d>(node: NodeRef<'d>) -> Operand<'d>
+    ensures { CastsAs (node_tree node.entry) result }
+{
+    match node.kind() {
+        Kind::Null => Operand::Null,
+        Kind::Truth => Operand::Bool(node.truth()),
+        Kind::Number => match node.number() {
+            Num::Exact(number) => Operand::Num(number),
+            Num::Wide(spelling) => Operand::Wide(spelling),
+        },
+        Kind::String => Operand::Text(node.text()),
+        Kind::Array | Kind::Object => Operand::Structured,
+    }
+}
+
+// The number that the whole of a string spells.
+fn spelled(string: &str) -> Result<Decimal, State>
+    ensures { result ≡ spelled_number (number_of string.now) }
+{
+    match Decimal::parse(string.as_bytes()) {
+        Parsed::Exact(number) => Ok(number),
+        Parsed::Wide => Err(State::S22003),
+        Parsed::NotNumber => Err(State::S2203G),
+    }
+}
+
+// The number rounded to a whole one.
+fn whole(number: Decimal) -> Decimal
+    ensures { result ≡ (rounded 0 number, 0) }
+{
+    // shows the proof that it has at most 38 digits, which rounding keeps
+    let _ = number.parts();
+    match number.round_to(38, 0) {
+        Ok(whole) => whole,
+        Err(_) => unreachable!(),
+    }
+}
+
+// A whole number, where it is from low to high.
+fn within(whole: Decimal, low: i128, high: i128) -> Result<Decimal, State>
+    requires { whole.1 ≡ 0 }
+    ensures { result ≡ whole_within low high whole.0 }
+{
+    let (value, _) = whole.parts();
+    if value < low || high < value {
+        return Err(State::S22003);
+    }
+    Ok(whole)
+}
+
+fn word_truth(string: &str) -> Result<bool, State>
+    ensures { result ≡ word_truth string.now }
+{
+    match string {
+        "true" => Ok(true),
+        "false" => Ok(false),
+        _ => Err(State::S2203G),
+    }
+}
+
+fn word(truth: bool) -> &'static str
+    ensures { result.now ≡ word_of truth }
+{
+    if truth { "true" } else { "false" }
+}
+
+// The text of an exact number, which has at most 41 bytes.
+fn number_text(number: Decimal) -> ShortText
+    ensures { short_text result ≡ decimal_text number }
+{
+    ShortText::new(number.text().as_str())
+}
