@@ -14,7 +14,7 @@ all_keywords =
     w.Value ∷ w.Array ∷ w.Object ∷ w.Scalar ∷ w.String ∷ w.Unique ∷ w.Keys ∷ w.Varchar ∷
     w.Numeric ∷ w.Decimal ∷ w.Integer ∷ w.Int ∷ w.Bigint ∷ w.Boolean ∷ w.Float ∷ w.Real ∷
     w.Double ∷ w.Precision ∷ w.Date ∷ w.Time ∷ w.Timestamp ∷ w.Columns ∷ w.For ∷ w.Ordinality ∷
-    w.Path ∷ w.Plan ∷ w.Outer ∷ w.Inner ∷ w.Union ∷ w.Cross ∷ w.Other ∷ []
+    w.Exists ∷ w.Path ∷ w.Plan ∷ w.Outer ∷ w.Inner ∷ w.Union ∷ w.Cross ∷ w.Other ∷ []
 
 keyword_at : ℕ → Keyword
 keyword_at n = get_or all_keywords n w.Other
@@ -85,6 +85,7 @@ at_number w.Timestamp = refl
 at_number w.Columns = refl
 at_number w.For = refl
 at_number w.Ordinality = refl
+at_number w.Exists = refl
 at_number w.Path = refl
 at_number w.Plan = refl
 at_number w.Outer = refl

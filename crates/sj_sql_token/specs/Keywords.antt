@@ -96,13 +96,14 @@ table_word word =
     if is_spelt word (codes "COLUMNS") then Some w.Columns
     else (if is_spelt word (codes "FOR") then Some w.For
     else (if is_spelt word (codes "ORDINALITY") then Some w.Ordinality
+    else (if is_spelt word (codes "EXISTS") then Some w.Exists
     else (if is_spelt word (codes "PATH") then Some w.Path
     else (if is_spelt word (codes "PLAN") then Some w.Plan
     else (if is_spelt word (codes "OUTER") then Some w.Outer
     else (if is_spelt word (codes "INNER") then Some w.Inner
     else (if is_spelt word (codes "UNION") then Some w.Union
     else (if is_spelt word (codes "CROSS") then Some w.Cross
-    else None))))))))
+    else None)))))))))
 
 -- the first that there is
 abbrev pub or_else : {A : Type 0} → Option A → A → A

@@ -68,13 +68,14 @@ number_of w.Timestamp = 60
 number_of w.Columns = 61
 number_of w.For = 62
 number_of w.Ordinality = 63
-number_of w.Path = 64
-number_of w.Plan = 65
-number_of w.Outer = 66
-number_of w.Inner = 67
-number_of w.Union = 68
-number_of w.Cross = 69
-number_of w.Other = 70
+number_of w.Exists = 64
+number_of w.Path = 65
+number_of w.Plan = 66
+number_of w.Outer = 67
+number_of w.Inner = 68
+number_of w.Union = 69
+number_of w.Cross = 70
+number_of w.Other = 71
 
 abbrev pub same : Keyword → Keyword → Bool
 same v w = number_of v == number_of w

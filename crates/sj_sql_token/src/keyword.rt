@@ -68,6 +68,7 @@ pub enum Keyword {
     Columns,
     For,
     Ordinality,
+    Exists,
     Path,
     Plan,
     Outer,

@@ -180,6 +180,8 @@ fn table_word(word: &[u8]) -> Option<Keyword>
         Some(Keyword::For)
     } else if is(word, b"ORDINALITY") {
         Some(Keyword::Ordinality)
+    } else if is(word, b"EXISTS") {
+        Some(Keyword::Exists)
     } else if is(word, b"PATH") {
         Some(Keyword::Path)
     } else if is(word, b"PLAN") {

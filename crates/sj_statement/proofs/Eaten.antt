@@ -10,7 +10,7 @@ use Rattle.sj_statement.specs.Phrases.{Tokens, Phrase, kind_of}
 use Rattle.sj_statement.specs.Grammar as g
 use Rattle.sj_statement.specs.Grammar.{IsOptional, IsPassedOver, IsList, IsDocument, IsPassed, IsPassing, IsCommon, IsExistsCall, IsValueCall, IsQueryCall, IsKind, IsOwnUnique, IsIsJson, Source, IsValue, IsValues, IsMember, IsMembers, IsColumnPath, IsColumn, IsColumns, IsColumnList, IsPlanExpr, IsUnion, IsCross, IsPlanPrim, IsPlan, IsTable, IsPlainItem, IsRowItem, IsListedItem}
 use Rattle.sj_statement.proofs.Words.{If}
-use Rattle.sj_statement.proofs.Eats.{Eats, Passes, Takes, stays, passes, eats, and_eats, both, joined, word_eats, open_eats, close_eats, comma_eats, colon_eats, string_eats, name_eats, doc_eats, meant_eats, literal_eats, type_eats, encoding_eats, format_eats, passed_eats, exists_clause_eats, returning_eats, value_clause_eats, query_clause_eats, wrapper_eats, quotes_eats, not_eats, unique_eats, nulls_eats, alias_eats, path_name_eats, path_eats, nested_path_eats, formatted_eats}
+use Rattle.sj_statement.proofs.Eats.{Eats, Passes, Takes, stays, passes, eats, and_eats, both, joined, word_eats, open_eats, close_eats, comma_eats, colon_eats, string_eats, name_eats, doc_eats, meant_eats, literal_eats, type_eats, encoding_eats, format_eats, passed_eats, exists_clause_eats, returning_eats, value_clause_eats, query_clause_eats, wrapper_eats, quotes_eats, not_eats, unique_eats, nulls_eats, alias_eats, path_name_eats, path_eats, nested_path_eats, formatted_eats, existence_eats}
 
 -- ---- what may stand, and what is repeated
 
@@ -108,6 +108,8 @@ mutual
   column_eats (g.formatted {ts = ts} {a = a} {b = b} {name = n} h f x p wr q e r) =
       joined ((name_eats ts).holds (n, a) h) (eats ((formatted_eats a).holds b f) (both (optional_passes encoding_eats x) (both (optional_passes path_eats p) (both (optional_passes wrapper_eats wr)
       (both (optional_passes quotes_eats q) (both (optional_passes (query_clause_eats w.Empty refl) e) (optional_passes (query_clause_eats w.Error refl) r)))))))
+  column_eats (g.existence {ts = ts} {a = a} {b = b} {name = n} h x p e) =
+      joined ((name_eats ts).holds (n, a) h) (eats ((existence_eats a).holds b x) (both (optional_passes path_eats p) (optional_passes exists_clause_eats e)))
   column_eats (g.nested {ts = ts} {a = a} {b = b} {path = path} h p n d) =
       joined ((word_eats w.Nested ts refl).holds a h) (joined ((nested_path_eats a).holds (path, b) p) (and_eats (optional_passes path_name_eats n) (columns_eat d)))
 

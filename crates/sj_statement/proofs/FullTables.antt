@@ -3,6 +3,7 @@ use Rattle.std.proofs.Common.{◌≡◌, ℕ, zero, suc, ◌≤◌, Bool, true, 
 use Rattle.sj_grammar.specs.declared.tree.Literal.{Literal}
 use Rattle.sj_value.specs.declared.clauses.Wrapper.TheVariants as wrapper
 use Rattle.sj_value.specs.declared.clauses.QueryAction.TheVariants as on_query
+use Rattle.sj_value.specs.declared.clauses.ExistsAction.TheVariants as on_exists
 use Rattle.sj_sql_token.specs.declared.token.Token.TheVariants as k
 use Rattle.sj_sql_token.specs.declared.keyword.Keyword.{Keyword}
 use Rattle.sj_sql_token.specs.declared.keyword.Keyword.TheVariants as w
@@ -10,17 +11,17 @@ use Rattle.sj_statement.specs.declared.clauses.Passed.{Passed}
 use Rattle.sj_statement.specs.declared.clauses.ValueDo.TheVariants as on_value
 use Rattle.sj_statement.specs.declared.clauses.Quotes.TheVariants as quotes
 use Rattle.sj_statement.specs.Tree.{PathText, Written, Value, Item, ColumnOf, Columns, NamedPlan, PathOf, PlanTree, Table, Statement}
-use Rattle.sj_statement.specs.Phrases.{Tokens, Phrase, ◌>>=◌, word, close_at, comma_at, star_at, constant_of, literal_at, encoding_at, value_clause_at, query_clause_at, wrapper_at, quotes_at, meant, quotes_of, alias_at, table_alias_at, path_name_at, path_at, formatted_at, table_action_of, table_clause_at}
+use Rattle.sj_statement.specs.Phrases.{Tokens, Phrase, ◌>>=◌, word, close_at, comma_at, star_at, constant_of, literal_at, encoding_at, exists_clause_at, value_clause_at, query_clause_at, wrapper_at, quotes_at, meant, quotes_of, alias_at, table_alias_at, path_name_at, path_at, formatted_at, existence_at, table_action_of, table_clause_at}
 use Rattle.sj_statement.specs.Grammar as g
 use Rattle.sj_statement.specs.Grammar.{IsOptional, IsPassedOver, IsList, IsDocument, IsPassing, Source, document, row, IsValue, IsColumnPath, IsColumn, IsColumns, IsColumnList, IsPlanExpr, IsUnion, IsCross, IsPlanPrim, operators, IsPlan, IsTable, IsPlainItem, IsRowItem, IsListedItem, IsSelect}
 use Rattle.sj_statement.specs.Notes.{Notes, value_with, item_with, column_with, columns_with, table_with, plain_with, items_with, statement_with, note_encoding, note_value, note_item, note_column, note_columns, note_table, note_plain, note_items, note_statement}
-use Rattle.sj_statement.specs.Reading.{plan_parens_at, plan_prim_at, union_from, cross_from, joined_at, named_plan_at, plan_over, plan_expr_at, plan_at, has_from, value_at, regular_at, formatted_from, named_column_at, nested_from, column_at, columns_from, columns_over, columns_at, row_path_at, table_at, plain_item_at, array_agg_from, object_agg_from, row_item_at, listed_item_at, items_from, all_at, listed_at, plain_at, select_at}
+use Rattle.sj_statement.specs.Reading.{plan_parens_at, plan_prim_at, union_from, cross_from, joined_at, named_plan_at, plan_over, plan_expr_at, plan_at, has_from, value_at, regular_at, formatted_from, existence_from, named_column_at, nested_from, column_at, columns_from, columns_over, columns_at, row_path_at, table_at, plain_item_at, array_agg_from, object_agg_from, row_item_at, listed_item_at, items_from, all_at, listed_at, plain_at, select_at}
 use Rattle.sj_statement.proofs.Words.{bind_is, bind_none, some_on, none_on, cond_on, cond_off, said}
 use Rattle.sj_sql_token.specs.Keywords.{is_reserved}
 use Rattle.sj_sql_token.specs.Same.{same}
 use Rattle.sj_statement.proofs.Eats.{path_name_eats, word_eats, open_eats, close_eats, comma_eats, name_eats, nested_path_eats}
 use Rattle.sj_statement.proofs.Eaten.{optional_passes, list_eats, column_eats, plan_expr_eats, plan_prim_eats, plain_item_eats, listed_item_eats}
-use Rattle.sj_statement.proofs.Leads.{bound, through, close_leads, open_leads, comma_leads, path_leads, alias_leads, quotes_leads, wrapper_leads, table_clause_leads, value_clause_leads, query_clause_leads, value_error_alone, query_error_alone, name_not_open, name_not_word, type_not_for, type_not_formatted, other_word, word_not_literal, value_heads, value_not_star, EndsDocument, ends_comma, ends_here, ends_as}
+use Rattle.sj_statement.proofs.Leads.{bound, through, close_leads, open_leads, comma_leads, path_leads, alias_leads, quotes_leads, wrapper_leads, exists_leads, table_clause_leads, value_clause_leads, query_clause_leads, value_error_alone, query_error_alone, name_not_open, name_not_word, type_not_for, type_not_formatted, type_not_existence, other_word, word_not_literal, value_heads, value_not_star, EndsDocument, ends_comma, ends_here, ends_as}
 use Rattle.sj_statement.proofs.Full.{optional_full, over_full, document_full, NoPassing, passing_full, comma_no_format, NoWords, no_wrapper, wrapper_stops, no_quotes, quotes_stop, close_no_unique, close_no_nulls, object_nulls, value_full, member_full}
 
 -- ---- plans
@@ -110,6 +111,10 @@ no_query_clause : (cause : Keyword) (ts : Tokens) → Separates ts → query_cla
 unfolding query_clause_at
 no_query_clause cause ts s = separated (λ x. query_clause_at cause x ≡ None) s (λ _. refl) (λ _. refl)
 
+no_exists_clause : (ts : Tokens) → Separates ts → exists_clause_at ts ≡ None
+unfolding exists_clause_at
+no_exists_clause ts s = separated (λ x. exists_clause_at x ≡ None) s (λ _. refl) (λ _. refl)
+
 no_path : (ts : Tokens) → word w.Path ts ≡ None → path_at ts ≡ None
 unfolding path_at
 no_path ts h = bind_none _ _ (bind_none _ _ h)
@@ -128,6 +133,21 @@ formatted_not_for ts rest h =
     let a = bound (word w.Varchar ts >>= word w.Format) (word w.Json) h in
     let b = bound (word w.Varchar ts) (word w.Format) a.is in
     other_word w.Varchar w.For refl ts b.value b.is
+
+no_format : (ts : Tokens) → word w.Varchar ts ≡ None → formatted_at ts ≡ None
+unfolding formatted_at
+no_format ts h = bind_none _ _ (bind_none _ _ h)
+
+-- BOOLEAN is the first word of BOOLEAN EXISTS
+existence_not : (v : Keyword) → same w.Boolean v ≡ false → (ts rest : Tokens) → existence_at ts ≡ Some rest → word v ts ≡ None
+unfolding existence_at
+existence_not v e ts rest h = let b = bound (word w.Boolean ts) (word w.Exists) h in other_word w.Boolean v e ts b.value b.is
+
+-- PATH does not stand before the action of a column that has none of its own
+exists_stops : {c rest : Tokens} {x : _} → IsOptional exists_clause_at on_exists.False c x rest → Separates rest → word w.Path c ≡ None
+exists_stops {c} error s =
+    through (λ y. word w.Path y ≡ None) error (λ h. exists_leads (λ y. word w.Path y ≡ None) c _ h (λ _ _. refl) (λ _ _. refl) (λ _ _. refl) (λ _ _. refl))
+    (separated (λ y. word w.Path y ≡ None) s (λ _. refl) (λ _. refl))
 
 -- a word that stands at no action does not stand before the actions of a column that has none of its own
 value_stops : {c d rest : Tokens} {x y : _} (v : Keyword) → same w.Default v ≡ false → same w.Error v ≡ false → same w.Null v ≡ false → ((r : Tokens) → word v (k.Comma ∷ r) ≡ None) → ((r : Tokens) → word v (k.Close ∷ r) ≡ None)
@@ -223,7 +243,7 @@ behind e = cc
 
 module _ {P F : Type 0} (n : Notes P F) where
   mutual
-    unfolding columns_at columns_over columns_from column_at nested_from named_column_at regular_at formatted_from
+    unfolding columns_at columns_over columns_from column_at nested_from named_column_at regular_at formatted_from existence_from
 
     column_full : {ts rest : Tokens} {x : ColumnOf PathText} → IsColumn ts x rest → Separates rest → (m : ℕ) → length ts ≤ m → (f : F)
         → column_at n (columns_at n m) f ts ≡ Some (column_with n x, note_column n x f, rest)
@@ -231,9 +251,10 @@ module _ {P F : Type 0} (n : Notes P F) where
         none_on _ _ _ (name_not_word w.Nested refl ts (x, a) h) (bind_is _ _ h (some_on _ _ _ i (bind_is _ _ o refl)))
     column_full (g.regular {ts = ts} {a = a} {b = b} {c = c} {d = d} {rest = rest} {name = x} {ty = ty} h i p empty error) s m le f =
         none_on _ _ _ (name_not_word w.Nested refl ts (x, a) h) (bind_is _ _ h (none_on _ _ _ (type_not_for a (ty, b) i) (none_on _ _ _ (type_not_formatted a (ty, b) i (regular_stops w.Format refl refl refl refl (λ _. refl) (λ _. refl) p empty error s))
+        (none_on _ _ _ (type_not_existence a (ty, b) i (regular_stops w.Exists refl refl refl refl (λ _. refl) (λ _. refl) p empty error s))
         (bind_is _ _ i (bind_is _ _ (optional_full p (no_path c (value_stops w.Path refl refl refl (λ _. refl) (λ _. refl) empty error s)))
         (bind_is _ _ (optional_full empty (through (λ y. value_clause_at w.Empty y ≡ None) error (λ h. value_error_alone d _ h) (no_value_clause w.Empty rest s)))
-        (bind_is _ _ (optional_full error (no_value_clause w.Error rest s)) refl)))))))
+        (bind_is _ _ (optional_full error (no_value_clause w.Error rest s)) refl))))))))
     column_full (g.formatted {ts = ts} {a = a} {b = b} {c = c} {d = d} {e = e} {f = i} {g = j} {rest = rest} {name = x} h fo en p wrap quote empty error) s m le f =
         none_on _ _ _ (name_not_word w.Nested refl ts (x, a) h) (bind_is _ _ h (none_on _ _ _ (formatted_not_for a b fo) (some_on _ _ _ fo
         (bind_is _ _ (optional_full en (no_encoding c (through (λ y. word w.Encoding y ≡ None) p (λ h. path_leads (λ y. word w.Encoding y ≡ None) c _ h (λ _ _. refl)) (query_stops w.Encoding wrap quote empty error s (λ _ _. refl) (λ _ _. refl) (λ _ _. refl) (λ _ _. refl) (λ _ _. refl) (λ _ _. refl) (λ _ _. refl) (λ _. refl) (λ _. refl)))))
@@ -242,6 +263,9 @@ module _ {P F : Type 0} (n : Notes P F) where
         (bind_is _ _ (optional_full quote (no_quotes i (quotes_stop empty error (separated (λ y. meant quotes_of y ≡ None) s (λ _. refl) (λ _. refl)))))
         (bind_is _ _ (optional_full empty (through (λ y. query_clause_at w.Empty y ≡ None) error (λ h. query_error_alone j _ h) (no_query_clause w.Empty rest s)))
         (bind_is _ _ (optional_full error (no_query_clause w.Error rest s)) refl)))))))))
+    column_full (g.existence {ts = ts} {a = a} {b = b} {c = c} {rest = rest} {name = x} h ex p error) s m le f =
+        none_on _ _ _ (name_not_word w.Nested refl ts (x, a) h) (bind_is _ _ h (none_on _ _ _ (existence_not w.For refl a b ex) (none_on _ _ _ (no_format a (existence_not w.Varchar refl a b ex)) (some_on _ _ _ ex
+        (bind_is _ _ (optional_full p (no_path c (exists_stops error s))) (bind_is _ _ (optional_full error (no_exists_clause rest s)) refl))))))
     column_full (g.nested {ts = ts} {a = a} h p nm d) s zero le f = absurd (omega (arith, le, ((word_eats w.Nested ts refl).holds a h).shorter))
     column_full (g.nested {ts = ts} {a = a} {b = b} {c = c} {path = path} h p nm d) s (suc m) le f =
         some_on _ _ _ h (bind_is _ _ p (bind_is _ _ (optional_full nm (no_path_name c (columns_lead (λ y. word w.As y ≡ None) d (λ _ _. refl))))

@@ -1,6 +1,6 @@
 -- A list of tokens has at most one tree.
 use Rattle.std.proofs.Common.{◌≡◌, List, [], ◌∷◌, Option, Some, refl, sym, ap, ap₂, subst, ◌∙◌}
-use Rattle.sj_statement.specs.Tree.{PathText, Value, Lit, Column, Exists, ValueOf, Query, IsJson, Object, Array, Values, NoValues, MoreValues, Members, NoMembers, MoreMembers, Item, Single, ArrayAgg, ObjectAgg, ColumnOf, Ordinality, Regular, Formatted, Nested, Columns, Last, More, Table, Statement, Plain, All, Listed}
+use Rattle.sj_statement.specs.Tree.{PathText, Value, Lit, Column, Exists, ValueOf, Query, IsJson, Object, Array, Values, NoValues, MoreValues, Members, NoMembers, MoreMembers, Item, Single, ArrayAgg, ObjectAgg, ColumnOf, Ordinality, Regular, Formatted, Existence, Nested, Columns, Last, More, Table, Statement, Plain, All, Listed}
 use Rattle.sj_statement.specs.Phrases.{Tokens}
 use Rattle.sj_statement.specs.Grammar.{IsSelect, IsStatement}
 use Rattle.sj_statement.specs.Notes.{written, value_with, values_with, members_with, item_with, column_with, columns_with, table_with, plain_with, items_with, statement_with}
@@ -38,6 +38,7 @@ mutual
   column_same (Ordinality name) = refl
   column_same (Regular c) = refl
   column_same (Formatted c) = refl
+  column_same (Existence name path action) = refl
   column_same (Nested path name columns) = ap (Nested path name) (columns_same columns)
 
   columns_same : (xs : Columns PathText) → columns_with written xs ≡ xs

@@ -8,7 +8,7 @@ use Rattle.sj_sql_token.specs.Keywords.{is_reserved}
 use Rattle.sj_sql_token.specs.Same.{same}
 use Rattle.sj_statement.specs.declared.clauses.TypeName.{TypeName}
 use Rattle.sj_statement.specs.Tree.{PathText, Value}
-use Rattle.sj_statement.specs.Phrases.{Tokens, Phrase, ◌>>=◌, if_some, word, open_at, close_at, comma_at, colon_at, star_at, string_at, name_at, doc_at, meant, constant_of, literal_at, varchar_at, type_from, type_at, encoding_at, on_at, exists_action_of, exists_clause_at, returning_at, value_action_of, value_action_at, value_clause_at, query_action_of, query_action_at, query_clause_at, wrapper_at, quotes_of, quotes_at, kind_of, unique_of, unique_at, nulls_of, nulls_at, alias_at, path_name_at, path_at, formatted_at, table_action_of, table_clause_at}
+use Rattle.sj_statement.specs.Phrases.{Tokens, Phrase, ◌>>=◌, if_some, word, open_at, close_at, comma_at, colon_at, star_at, string_at, name_at, doc_at, meant, constant_of, literal_at, varchar_at, type_from, type_at, encoding_at, on_at, exists_action_of, exists_clause_at, returning_at, value_action_of, value_action_at, value_clause_at, query_action_of, query_action_at, query_clause_at, wrapper_at, quotes_of, quotes_at, kind_of, unique_of, unique_at, nulls_of, nulls_at, alias_at, path_name_at, path_at, formatted_at, existence_at, table_action_of, table_clause_at}
 use Rattle.sj_statement.specs.Grammar as g
 use Rattle.sj_statement.specs.Grammar.{IsOptional, IsPassedOver, Source, document, row, IsValue, IsIsJson, IsExistsCall, IsValueCall, IsQueryCall}
 use Rattle.sj_statement.specs.Reading.{begins_value}
@@ -313,6 +313,15 @@ type_not_formatted ts x e none = go (word w.Varchar ts) refl
     go : (o : Option Tokens) → word w.Varchar ts ≡ o → (o >>= word w.Format >>= word w.Json) ≡ None
     go None q = refl
     go (Some rest) q = no_format (word w.Format rest) (after rest (said (λ y. type_at y ≡ Some x → varchar_at rest ≡ Some x) w.Varchar ts rest q (λ text h. h) e))
+
+-- where EXISTS does not follow a type, BOOLEAN EXISTS does not stand there
+pub type_not_existence : (ts : Tokens) (x : TypeName × Tokens) → type_at ts ≡ Some x → word w.Exists x.1 ≡ None → existence_at ts ≡ None
+unfolding type_at type_from existence_at
+type_not_existence ts x e none = go (word w.Boolean ts) refl
+  where
+    go : (o : Option Tokens) → word w.Boolean ts ≡ o → (o >>= word w.Exists) ≡ None
+    go None q = refl
+    go (Some rest) q = said (λ y. type_at y ≡ Some x → word w.Exists rest ≡ None) w.Boolean ts rest q (λ text h. ap (λ (y : TypeName × Tokens). word w.Exists y.1) (some_is h) ∙ none) e
 
 -- ---- what may follow a value
 

@@ -5,7 +5,7 @@ use Rattle.sj_statement.specs.declared.clauses.Encoding.TheVariants.{Read, Refus
 use Rattle.sj_statement.specs.declared.clauses.TypeName.{TypeName}
 use Rattle.sj_statement.specs.declared.clauses.TypeName.TheVariants.{Known, Approximate, Datetime}
 use Rattle.sj_grammar.specs.declared.refusal.Name.TheVariants as name
-use Rattle.sj_statement.specs.Tree.{PathText, Common, Value, Lit, Column, Exists, ValueOf, Query, IsJson, Object, Array, Values, NoValues, MoreValues, Members, NoMembers, MoreMembers, Item, Single, ArrayAgg, ObjectAgg, ColumnOf, Ordinality, Regular, Formatted, Nested, Columns, Last, More, Table, Statement, Plain, All, Listed}
+use Rattle.sj_statement.specs.Tree.{PathText, Common, Value, Lit, Column, Exists, ValueOf, Query, IsJson, Object, Array, Values, NoValues, MoreValues, Members, NoMembers, MoreMembers, Item, Single, ArrayAgg, ObjectAgg, ColumnOf, Ordinality, Regular, Formatted, Existence, Nested, Columns, Last, More, Table, Statement, Plain, All, Listed}
 use Rattle.sj_statement.specs.Notes.{Notes, note_encoding, note_type, note_common, note_value, note_values, note_members, note_item, note_column, note_columns, note_table, note_plain, note_items, note_statement}
 use Rattle.sj_statement.specs.Answers.{Mark, path, lack, listing, marks}
 
@@ -66,6 +66,7 @@ module _ {P F : Type 0} (n : Notes P F) where
     column_seen (Ordinality x) ms f = refl
     column_seen (Regular c) ms f = ap (n.see_path c.path) (type_seen c.ty ms f) ∙ seen_last (note_type listing c.ty ms) (path c.path) f
     column_seen (Formatted c) ms f = ap (n.see_path c.path) (encoding_seen c.encoding ms f) ∙ seen_last (note_encoding listing c.encoding ms) (path c.path) f
+    column_seen (Existence x p action) ms f = seen_last ms (path p) f
     column_seen (Nested p x columns) ms f = ap (note_columns n columns) (seen_last ms (path p) f) ∙ columns_seen columns (ms ++ path p ∷ []) f
 
     columns_seen : (xs : Columns PathText) (ms : List Mark) (f : F) → note_columns n xs (seen ms f) ≡ seen (note_columns listing xs ms) f

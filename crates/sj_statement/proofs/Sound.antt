@@ -10,7 +10,7 @@ use Rattle.sj_statement.specs.Phrases.{Tokens, Phrase, if_some, word, open_at, c
 use Rattle.sj_statement.specs.Grammar as g
 use Rattle.sj_statement.specs.Grammar.{IsOptional, IsPassedOver, IsList, IsDocument, IsPassed, IsPassing, IsCommon, IsKind, IsOwnUnique, IsIsJson, Source, document, row, IsValue, IsValues, IsMember, IsMembers, IsColumn, IsColumns, IsColumnList, IsPlanExpr, IsUnion, IsCross, IsPlanPrim, operators, IsPlan, IsTable, IsPlainItem, IsRowItem, IsListedItem, IsSelect}
 use Rattle.sj_statement.specs.Notes.{Notes}
-use Rattle.sj_statement.specs.Reading.{optional, passed_over, list_from, document_at, passing_at, begins_value, kind_at, is_json_at, plan_parens_at, plan_prim_at, union_from, cross_from, joined_at, named_plan_at, plan_over, plan_expr_at, plan_at, has_from, Noting, common_at, exists_from, value_from, query_from, values_from, member_value_at, keyed_at, valued_at, member_at, members_from, members_to_end, object_from, values_to_end, array_from, asking_at, value_over, value_at, regular_at, formatted_from, named_column_at, nested_from, column_at, columns_from, columns_over, columns_at, row_path_at, table_at, plain_item_at, array_agg_from, object_agg_from, row_item_at, listed_item_at, items_from, ended, all_at, listed_at, plain_at, select_at}
+use Rattle.sj_statement.specs.Reading.{optional, passed_over, list_from, document_at, passing_at, begins_value, kind_at, is_json_at, plan_parens_at, plan_prim_at, union_from, cross_from, joined_at, named_plan_at, plan_over, plan_expr_at, plan_at, has_from, Noting, common_at, exists_from, value_from, query_from, values_from, member_value_at, keyed_at, valued_at, member_at, members_from, members_to_end, object_from, values_to_end, array_from, asking_at, value_over, value_at, regular_at, formatted_from, existence_from, named_column_at, nested_from, column_at, columns_from, columns_over, columns_at, row_path_at, table_at, plain_item_at, array_agg_from, object_agg_from, row_item_at, listed_item_at, items_from, ended, all_at, listed_at, plain_at, select_at}
 use Rattle.sj_statement.proofs.Words.{If, nothing, here, then, given, either, chosen, weaken}
 
 -- ---- what may stand, and what is repeated
@@ -194,12 +194,13 @@ module _ {P F : Type 0} (n : Notes P F) where
   ReadsColumn ts x = (c : ColumnOf PathText) × IsColumn ts c x.2
 
   named_column_reads : (name : List ℕ) (f : F) (ts a : Tokens) → name_at ts ≡ Some (name, a) → If (ReadsColumn ts) (named_column_at n name f a)
-  unfolding named_column_at regular_at formatted_from
+  unfolding named_column_at regular_at formatted_from existence_from
   named_column_reads name f ts a h = either _ _ _ (λ b i. given _ _ (λ rest o. here (_, g.ordinality h i o)))
       (λ _. either _ _ _
       (λ b i. then _ _ (optional_reads _ _ b) (λ e en. then _ _ (optional_reads _ _ e.1) (λ p pa. then _ _ (optional_reads _ _ p.1) (λ wr wa. then _ _ (optional_reads _ _ wr.1) (λ q qu.
       then _ _ (optional_reads _ _ q.1) (λ x em. then _ _ (optional_reads _ _ x.1) (λ y er. here (_, g.formatted h i en pa wa qu em er))))))))
-      (λ _. given _ _ (λ ty i. then _ _ (optional_reads _ _ ty.1) (λ p pa. then _ _ (optional_reads _ _ p.1) (λ x em. then _ _ (optional_reads _ _ x.1) (λ y er. here (_, g.regular h i pa em er)))))))
+      (λ _. either _ _ _ (λ b i. then _ _ (optional_reads _ _ b) (λ p pa. then _ _ (optional_reads _ _ p.1) (λ y er. here (_, g.existence h i pa er))))
+      (λ _. given _ _ (λ ty i. then _ _ (optional_reads _ _ ty.1) (λ p pa. then _ _ (optional_reads _ _ p.1) (λ x em. then _ _ (optional_reads _ _ x.1) (λ y er. here (_, g.regular h i pa em er))))))))
 
   module _ (inner : Noting n (Columns P)) (reads : (f : F) (ts : Tokens) → If (λ x. (c : Columns PathText) × IsColumns ts c x.2) (inner f ts)) where
     column_reads : (f : F) (ts : Tokens) → If (ReadsColumn ts) (column_at n inner f ts)

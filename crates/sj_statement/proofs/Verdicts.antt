@@ -6,7 +6,7 @@ use Rattle.sj_grammar.specs.declared.refusal.PathRefusal.TheVariants as r
 use Rattle.sj_grammar.specs.Tree.{Path}
 use Rattle.sj_statement.specs.declared.refusal.FileKind.{FileKind}
 use Rattle.sj_statement.specs.declared.refusal.FileKind.TheVariants as kind
-use Rattle.sj_statement.specs.Tree.{PathText, Written, OfName, Value, Lit, Column, Exists, ValueOf, Query, IsJson, Object, Array, Values, NoValues, MoreValues, Members, NoMembers, MoreMembers, Item, Single, ArrayAgg, ObjectAgg, ColumnOf, Ordinality, Regular, Formatted, Nested, Columns, Last, More, Table, Statement, Plain, All, Listed}
+use Rattle.sj_statement.specs.Tree.{PathText, Written, OfName, Value, Lit, Column, Exists, ValueOf, Query, IsJson, Object, Array, Values, NoValues, MoreValues, Members, NoMembers, MoreMembers, Item, Single, ArrayAgg, ObjectAgg, ColumnOf, Ordinality, Regular, Formatted, Existence, Nested, Columns, Last, More, Table, Statement, Plain, All, Listed}
 use Rattle.sj_statement.specs.Phrases.{Tokens}
 use Rattle.sj_statement.specs.Grammar.{IsTooDeep, IsStatement}
 use Rattle.sj_statement.specs.Notes.{Notes, written, value_with, values_with, members_with, item_with, column_with, columns_with, table_with, plain_with, items_with, statement_with, note_statement}
@@ -69,6 +69,7 @@ mutual
   column_alike (Ordinality name) = refl
   column_alike (Regular c) = refl
   column_alike (Formatted c) = refl
+  column_alike (Existence name p action) = refl
   column_alike (Nested p name columns) = ap (Nested (finishing.path_of p) name) (columns_alike columns)
 
   columns_alike : (xs : Columns PathText) → columns_with parsing xs ≡ columns_with finishing xs

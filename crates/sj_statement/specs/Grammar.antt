@@ -31,8 +31,8 @@ use Rattle.sj_statement.specs.declared.clauses.Quotes.TheVariants as quotes
 use Rattle.sj_statement.specs.declared.clauses.IsJsonCall.{IsJsonCall}
 use Rattle.sj_statement.specs.declared.clauses.InOut.TheVariants as in_out
 use Rattle.sj_statement.specs.declared.clauses.Siblings.TheVariants as siblings
-use Rattle.sj_statement.specs.Tree.{PathText, Written, OfName, Common, ExistsCall, ValueCall, QueryCall, Value, Lit, Column, Exists, ValueOf, Query, IsJson, Object, Array, Values, NoValues, MoreValues, Members, NoMembers, MoreMembers, Item, Single, ArrayAgg, ObjectAgg, ColumnOf, Ordinality, Regular, Formatted, Nested, Columns, Last, More, NamedPlan, PathOf, Outer, Inner, Union, Cross, PlanTree, Default, Named, Table, Statement, Plain, All, Listed}
-use Rattle.sj_statement.specs.Phrases.{Tokens, Phrase, word, open_at, close_at, comma_at, colon_at, star_at, string_at, name_at, doc_at, literal_at, type_at, encoding_at, format_at, passed_at, exists_clause_at, returning_at, value_clause_at, query_clause_at, wrapper_at, quotes_at, not_at, meant, kind_of, unique_at, nulls_at, alias_at, table_alias_at, path_name_at, path_at, nested_path_at, formatted_at, table_clause_at, default_at}
+use Rattle.sj_statement.specs.Tree.{PathText, Written, OfName, Common, ExistsCall, ValueCall, QueryCall, Value, Lit, Column, Exists, ValueOf, Query, IsJson, Object, Array, Values, NoValues, MoreValues, Members, NoMembers, MoreMembers, Item, Single, ArrayAgg, ObjectAgg, ColumnOf, Ordinality, Regular, Formatted, Existence, Nested, Columns, Last, More, NamedPlan, PathOf, Outer, Inner, Union, Cross, PlanTree, Default, Named, Table, Statement, Plain, All, Listed}
+use Rattle.sj_statement.specs.Phrases.{Tokens, Phrase, word, open_at, close_at, comma_at, colon_at, star_at, string_at, name_at, doc_at, literal_at, type_at, encoding_at, format_at, passed_at, exists_clause_at, returning_at, value_clause_at, query_clause_at, wrapper_at, quotes_at, not_at, meant, kind_of, unique_at, nulls_at, alias_at, table_alias_at, path_name_at, path_at, nested_path_at, formatted_at, existence_at, table_clause_at, default_at}
 
 -- ---- what may stand, and what is repeated
 
@@ -181,6 +181,10 @@ mutual
         → IsOptional wrapper_at wrapper.Without d wrap e → IsOptional quotes_at quotes.Absent e quote f
         → IsOptional (query_clause_at w.Empty) on_query.Null f empty g → IsOptional (query_clause_at w.Error) on_query.Null g error rest
         → IsColumn ts (Formatted (record { name = name; encoding = x; path = path; wrapper = wrap; quotes = quote; on_empty = empty; on_error = error })) rest
+    -- name "BOOLEAN" "EXISTS" [ "PATH" string ] [ ( "TRUE" | "FALSE" | "UNKNOWN" | "ERROR" ) "ON" "ERROR" ]
+    existence : {ts a b c rest : Tokens} {name : List ℕ} {path : PathText} {error : ExistsAction}
+        → name_at ts ≡ Some (name, a) → existence_at a ≡ Some b → IsColumnPath name b path c → IsOptional exists_clause_at on_exists.False c error rest
+        → IsColumn ts (Existence name path error) rest
     -- "NESTED" [ "PATH" ] string [ "AS" name ] columns
     nested : {ts a b c rest : Tokens} {path : PathText} {name : Option (List ℕ)} {xs : Columns PathText}
         → word w.Nested ts ≡ Some a → nested_path_at a ≡ Some (path, b) → IsOptional path_name_at None b name c → IsColumns c xs rest

@@ -6,7 +6,7 @@ use Rattle.sj_statement.specs.declared.clauses.Encoding.{Encoding}
 use Rattle.sj_statement.specs.declared.clauses.Encoding.TheVariants.{Read, Refused}
 use Rattle.sj_statement.specs.declared.clauses.TypeName.{TypeName}
 use Rattle.sj_statement.specs.declared.clauses.TypeName.TheVariants.{Known, Approximate, Datetime}
-use Rattle.sj_statement.specs.Tree.{PathText, Common, ExistsCall, ValueCall, QueryCall, Value, Lit, Column, Exists, ValueOf, Query, IsJson, Object, Array, Values, NoValues, MoreValues, Members, NoMembers, MoreMembers, Item, Single, ArrayAgg, ObjectAgg, RegularColumn, FormattedColumn, ColumnOf, Ordinality, Regular, Formatted, Nested, Columns, Last, More, Table, Statement, Plain, All, Listed}
+use Rattle.sj_statement.specs.Tree.{PathText, Common, ExistsCall, ValueCall, QueryCall, Value, Lit, Column, Exists, ValueOf, Query, IsJson, Object, Array, Values, NoValues, MoreValues, Members, NoMembers, MoreMembers, Item, Single, ArrayAgg, ObjectAgg, RegularColumn, FormattedColumn, ColumnOf, Ordinality, Regular, Formatted, Existence, Nested, Columns, Last, More, Table, Statement, Plain, All, Listed}
 
 -- What stands for a written path, and what is noted of a path, and of a type or an encoding that this implementation lacks,
 -- behind what was noted before.
@@ -69,6 +69,7 @@ module _ {P F : Type 0} (n : Notes P F) where
     column_with (Ordinality name) = Ordinality name
     column_with (Regular c) = Regular (regular_with c)
     column_with (Formatted c) = Formatted (formatted_with c)
+    column_with (Existence name path action) = Existence name (n.path_of path) action
     column_with (Nested path name columns) = Nested (n.path_of path) name (columns_with columns)
 
     pub columns_with : Columns PathText → Columns P
@@ -134,6 +135,7 @@ module _ {P F : Type 0} (n : Notes P F) where
     note_column (Ordinality name) f = f
     note_column (Regular c) f = n.see_path c.path (note_type c.ty f)
     note_column (Formatted c) f = n.see_path c.path (note_encoding c.encoding f)
+    note_column (Existence name path action) f = n.see_path path f
     note_column (Nested path name columns) f = note_columns columns (n.see_path path f)
 
     pub note_columns : Columns PathText → F → F

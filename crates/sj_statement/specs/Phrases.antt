@@ -336,6 +336,10 @@ nested_path_at ts = string_at (passing w.Path ts) >>= λ s. Some (Written s.0, s
 unfoldable pub formatted_at : Tokens → Option Tokens
 formatted_at ts = word w.Varchar ts >>= word w.Format >>= word w.Json
 
+-- "BOOLEAN" "EXISTS"
+unfoldable pub existence_at : Tokens → Option Tokens
+existence_at ts = word w.Boolean ts >>= word w.Exists
+
 abbrev pub table_action_of : Keyword → Option TableAction
 table_action_of w.Empty = Some on_table.Empty
 table_action_of w.Error = Some on_table.Error

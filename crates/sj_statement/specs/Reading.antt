@@ -22,8 +22,8 @@ use Rattle.sj_statement.specs.declared.clauses.Quotes.TheVariants as quotes
 use Rattle.sj_statement.specs.declared.clauses.IsJsonCall.{IsJsonCall}
 use Rattle.sj_statement.specs.declared.clauses.InOut.TheVariants as in_out
 use Rattle.sj_statement.specs.declared.clauses.Siblings.TheVariants as siblings
-use Rattle.sj_statement.specs.Tree.{PathText, Written, OfName, Common, Value, Lit, Column, Exists, ValueOf, Query, IsJson, Object, Array, Values, NoValues, MoreValues, Members, NoMembers, MoreMembers, Item, Single, ArrayAgg, ObjectAgg, ColumnOf, Ordinality, Regular, Formatted, Nested, Columns, Last, More, NamedPlan, PathOf, Outer, Inner, Union, Cross, PlanTree, Default, Named, Table, Statement, Plain, All, Listed}
-use Rattle.sj_statement.specs.Phrases.{Tokens, Phrase, ◌>>=◌, if_some, word, open_at, close_at, comma_at, colon_at, star_at, string_at, name_at, doc_at, literal_at, type_at, encoding_at, format_at, passed_at, exists_clause_at, returning_at, value_clause_at, query_clause_at, wrapper_at, quotes_at, not_at, meant, kind_of, unique_at, nulls_at, alias_at, table_alias_at, path_name_at, path_at, nested_path_at, formatted_at, table_clause_at, default_at}
+use Rattle.sj_statement.specs.Tree.{PathText, Written, OfName, Common, Value, Lit, Column, Exists, ValueOf, Query, IsJson, Object, Array, Values, NoValues, MoreValues, Members, NoMembers, MoreMembers, Item, Single, ArrayAgg, ObjectAgg, ColumnOf, Ordinality, Regular, Formatted, Existence, Nested, Columns, Last, More, NamedPlan, PathOf, Outer, Inner, Union, Cross, PlanTree, Default, Named, Table, Statement, Plain, All, Listed}
+use Rattle.sj_statement.specs.Phrases.{Tokens, Phrase, ◌>>=◌, if_some, word, open_at, close_at, comma_at, colon_at, star_at, string_at, name_at, doc_at, literal_at, type_at, encoding_at, format_at, passed_at, exists_clause_at, returning_at, value_clause_at, query_clause_at, wrapper_at, quotes_at, not_at, meant, kind_of, unique_at, nulls_at, alias_at, table_alias_at, path_name_at, path_at, nested_path_at, formatted_at, existence_at, table_clause_at, default_at}
 use Rattle.sj_statement.specs.Grammar.{Source, document, row, operators}
 use Rattle.sj_statement.specs.Notes.{Notes, note_encoding, note_type}
 
@@ -231,10 +231,15 @@ module _ {P F : Type 0} (n : Notes P F) where
         error.1,
       )
 
+  unfoldable pub existence_from : List ℕ → Noting (ColumnOf P)
+  existence_from name f ts = column_path_at name ts >>= λ path. optional exists_clause_at on_exists.False path.1 >>= λ error.
+      Some (Existence name (n.path_of path.0) error.0, n.see_path path.0 f, error.1)
+
   -- behind the name of a column
   unfoldable pub named_column_at : List ℕ → Noting (ColumnOf P)
   named_column_at name f ts = if_some (word w.For ts) (λ a. word w.Ordinality a >>= λ rest. Some (Ordinality name, f, rest))
-      (if_some (formatted_at ts) (λ a. formatted_from name f a) (regular_at name f ts))
+      (if_some (formatted_at ts) (λ a. formatted_from name f a)
+      (if_some (existence_at ts) (λ a. existence_from name f a) (regular_at name f ts)))
 
   module _ (inner : Noting (Columns P)) where
     unfoldable pub nested_from : Noting (ColumnOf P)

@@ -91,6 +91,7 @@ mutual
     Ordinality : (name : List ℕ) → ColumnOf P
     Regular : (column : RegularColumn P) → ColumnOf P
     Formatted : (column : FormattedColumn P) → ColumnOf P
+    Existence : (name : List ℕ) (path : P) (on_error : ExistsAction) → ColumnOf P
     Nested : (path : P) (name : Option (List ℕ)) (columns : Columns P) → ColumnOf P
 
   pub data Columns (P : Type 0) : Type 0 where
