@@ -9,6 +9,7 @@ import argparse
 import sys
 from pathlib import Path
 
+from checks.allocations import check_allocations
 from checks.command import check_command
 from checks.companions import check_companions
 from checks.damage import check_damage
@@ -49,6 +50,7 @@ def main():
         check_edges(tally, program)
         check_limits(tally, program)
         check_hard(tally, program)
+        check_allocations(tally, program)
         check_damage(tally, program)
         if not given.program:
             check_command(tally, TOP)
