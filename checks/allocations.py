@@ -87,7 +87,9 @@ class Run:
         names = {"LD_PRELOAD": str(self.library), "FAIL_ALLOC": str(number), "FAIL_MARK": str(mark)}
         with open(self.folder / "lines", "rb", buffering=0) as given:
             ended = self.program.run(self.words, folder=self.folder, stdin=given, env={**os.environ, **names})
-            return ended, given.tell(), mark.is_file()
+            came = mark.is_file()
+            mark.unlink(missing_ok=True)
+            return ended, given.tell(), came
 
     def problems(self):
         """Yields for each allocation what is wrong with the run in which it fails, or nothing."""
@@ -113,9 +115,18 @@ class Run:
         return None if rows.startswith(ended.output) else f"it wrote {shown(ended.output)}, which is no beginning of {shown(rows)}"
 
 
+class Telling(Tally):
+    """Tells of the checks that passed, too."""
+
+    def check(self, name, problem):
+        super().check(name, problem)
+        if not problem:
+            print(f"passed {name}", flush=True)
+
+
 def main():
     built = Path(__file__).resolve().parent.parent / "crates" / "sqljson" / "out" / "sqljson"
-    tally, program = Tally(), Program(sys.argv[1] if len(sys.argv) > 1 else built)
+    tally, program = Telling(), Program(sys.argv[1] if len(sys.argv) > 1 else built)
     check_allocations(tally, program)
     print(f"{tally.passed} passed, {tally.failed} failed")
     return 1 if tally.failed else 0
