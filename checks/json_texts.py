@@ -1,14 +1,14 @@
 """Whether a text is JSON, and of which kind, by Python's reader with its leniencies taken out.
 
-The answers do not come from the program, so it can be compared with them. Python's reader takes NaN, Infinity, lone
-surrogates and any depth up to its own limit; here they are no JSON, nor is what isn't UTF-8. Numbers are kept as texts,
-since a number of any length is JSON. An object may have a key more than once, which is told.
+The answers do not come from the program, so it can be compared with them. Python's reader takes NaN, Infinity and lone
+surrogates; here they are no JSON, nor is what isn't UTF-8. Numbers are kept as texts, since a number of any length is
+JSON. An object may have a key more than once, which is told. No text that is asked about may be as deep as Python's
+reader goes, which is some hundreds of arrays and objects.
 """
 import json
 import re
 
 LONGEST = 16_777_216
-DEEPEST = 512
 BLANKS = b" \t\r"
 SURROGATE = re.compile(r"\\u[dD][89a-fA-F]")
 
@@ -43,22 +43,7 @@ class Kinds:
                 json.dumps(value, ensure_ascii=False).encode("utf-8")
         except (ValueError, RecursionError):  # (a text that can't be decoded or encoded is a ValueError too)
             return None
-        if text.count("[") + text.count("{") > DEEPEST and depth(value) > DEEPEST:
-            return None
         return "OBJECT" if isinstance(value, tuple) else "ARRAY" if isinstance(value, list) else "SCALAR"
-
-
-def depth(value):
-    """The greatest number of arrays and objects that are open at one place of a value."""
-    deepest, level = 0, [value]
-    while level := [item for item in level if isinstance(item, (list, tuple))]:
-        deepest += 1
-        level = [inner for item in level for inner in inside(item)]
-    return deepest
-
-
-def inside(item):
-    return item if isinstance(item, list) else [value for _, value in item]
 
 
 def is_blank(line):

@@ -6,7 +6,7 @@ from resource import RLIMIT_STACK
 from checks.program import Ended, difference
 
 LONGEST_LINE = 16_777_216
-DEEPEST = 512
+DEEPEST = 100_000
 STACK = [(RLIMIT_STACK, 4 << 20)]
 TOO_MANY, TOO_DEEP, NO_SYNTAX = "too many columns or paths", "path: too deep", "syntax error"
 
