@@ -1,5 +1,5 @@
 // A document while it is being built.
-ghost use Rattle.std.specs.Prelude.{◌≡◌, ◌+◌, ◌-◌, ◌^◌, ◌<◌, ◌≤◌, length, [], IfOk, OnOk, OnErr, Some, true, false};
+ghost use Rattle.std.specs.Prelude.{◌≡◌, ◌+◌, ◌-◌, ◌^◌, ◌<◌, ◌≤◌, ◌++◌, ◌∷◌, length, [], IfOk, OnOk, OnErr, Some, true, false};
 ghost use Rattle.sj_decimal.specs.Number.{SpellsWide};
 ghost use Rattle.sj_json.specs.Tree.{null, truth, string, number, exact, wide};
 ghost use Rattle.sj_json.specs.Building.{fresh, TakesValue, TakesKey, TakesClose, with_value, with_key, with_open, with_close, IsComplete, top};
@@ -48,6 +48,20 @@ impl Model for DocBuilder {
     ghost invariant = { λ b. IsBuilder (b.arena.items, b.numbers.items) b.nodes.items b.key b.inner b.count b.depth };
 }
 
+// `Vec::push`, which is called only where there is no room: else the item is written in place.
+#[inline(always)]
+fn push_in<T: Drop>(list: &mut Vec<T>, item: T) -> Result<(), Memory>
+    ensures ok { OnOk result (list.new.items ≡ list.old.items ++ item ∷ []) }
+    ensures err { OnErr result (list.new.items ≡ list.old.items) }
+{
+    if list.len() < list.capacity() {
+        list.push_reserved(item);
+        return Ok(());
+    }
+    list.push(item)?;
+    Ok(())
+}
+
 // Puts s at the end of the text, which has room for 2^32 - 1 bytes.
 #[inline(always)]
 fn store(arena: &mut Vec<u8>, s: &str) -> Result<Span, Memory>
@@ -77,7 +91,7 @@ fn store_number(numbers: &mut Vec<Decimal>, n: Decimal) -> Result<u32, Memory>
     if at >= u32::MAX as usize {
         return Err(Memory);
     }
-    numbers.push(n)?;
+    push_in(numbers, n)?;
     Ok(at as u32)
 }
 
@@ -115,11 +129,10 @@ impl DocBuilder {
         ensures ok { OnOk result (self.new ≡ with_value null self.old) }
         ensures err { OnErr result (self.new ≡ self.old) }
     {
-        self.nodes.push(Node {
-            key: self.key,
-            up: self.nodes.len() as u32 - self.inner,
-            body: Body::Null,
-        })?;
+        let up = self.nodes.len() as u32 - self.inner;
+        let key = self.key;
+        let body = Body::Null;
+        push_in(&mut self.nodes, Node { key, up, body })?;
         self.key = None;
         self.count += 1;
         Ok(())
@@ -133,11 +146,10 @@ impl DocBuilder {
         ensures ok { OnOk result (self.new ≡ with_value (truth b) self.old) }
         ensures err { OnErr result (self.new ≡ self.old) }
     {
-        self.nodes.push(Node {
-            key: self.key,
-            up: self.nodes.len() as u32 - self.inner,
-            body: Body::Truth(b),
-        })?;
+        let up = self.nodes.len() as u32 - self.inner;
+        let key = self.key;
+        let body = Body::Truth(b);
+        push_in(&mut self.nodes, Node { key, up, body })?;
         self.key = None;
         self.count += 1;
         Ok(())
@@ -152,11 +164,10 @@ impl DocBuilder {
         ensures err { OnErr result (self.new ≡ self.old) }
     {
         let span = store(&mut self.arena, s)?;
-        self.nodes.push(Node {
-            key: self.key,
-            up: self.nodes.len() as u32 - self.inner,
-            body: Body::Text(span),
-        })?;
+        let up = self.nodes.len() as u32 - self.inner;
+        let key = self.key;
+        let body = Body::Text(span);
+        push_in(&mut self.nodes, Node { key, up, body })?;
         self.key = None;
         self.count += 1;
         Ok(())
@@ -173,11 +184,10 @@ impl DocBuilder {
         // shows the proof that n is in normal form and within the limits
         let _ = n.parts();
         let at = store_number(&mut self.numbers, n)?;
-        self.nodes.push(Node {
-            key: self.key,
-            up: self.nodes.len() as u32 - self.inner,
-            body: Body::Exact(at),
-        })?;
+        let up = self.nodes.len() as u32 - self.inner;
+        let key = self.key;
+        let body = Body::Exact(at);
+        push_in(&mut self.nodes, Node { key, up, body })?;
         self.key = None;
         self.count += 1;
         Ok(())
@@ -193,11 +203,10 @@ impl DocBuilder {
         ensures err { OnErr result (self.new ≡ self.old) }
     {
         let span = store(&mut self.arena, spelling)?;
-        self.nodes.push(Node {
-            key: self.key,
-            up: self.nodes.len() as u32 - self.inner,
-            body: Body::Wide(span),
-        })?;
+        let up = self.nodes.len() as u32 - self.inner;
+        let key = self.key;
+        let body = Body::Wide(span);
+        push_in(&mut self.nodes, Node { key, up, body })?;
         self.key = None;
         self.count += 1;
         Ok(())
@@ -244,15 +253,18 @@ impl DocBuilder {
         ensures err { OnErr result (self.new ≡ self.old) }
     {
         let at = self.nodes.len() as u32;
-        self.nodes.push(Node {
-            key: self.key,
-            up: at - self.inner,
-            body: Body::Opened {
-                is_object,
-                parent: self.inner,
-                before: self.count,
+        push_in(
+            &mut self.nodes,
+            Node {
+                key: self.key,
+                up: at - self.inner,
+                body: Body::Opened {
+                    is_object,
+                    parent: self.inner,
+                    before: self.count,
+                },
             },
-        })?;
+        )?;
         self.key = None;
         self.inner = at;
         self.count = 0;

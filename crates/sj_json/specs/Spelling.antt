@@ -70,7 +70,7 @@ max_length = 16777216
 
 -- the greatest number of arrays and objects that may be open at one place
 abbrev pub max_depth : ℕ
-max_depth = 512
+max_depth = 100000
 
 -- The bytes are a JSON text: well-formed UTF-8 within the limits that spells a tree.
 abbrev pub IsJson : List ℕ → Type 0

@@ -23,7 +23,7 @@ use thiserror::Error;
 pub const MAX_LENGTH: usize = 16_777_216;
 
 /// The greatest number of arrays and objects that may be open at one place.
-pub const MAX_DEPTH: u64 = 512;
+pub const MAX_DEPTH: u64 = 100_000;
 
 /// Why a line was not read.
 #[derive(Clone, Copy, Debug, Drop, PartialEq, Eq, Error)]

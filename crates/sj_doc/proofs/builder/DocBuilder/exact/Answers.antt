@@ -8,7 +8,7 @@ use Rattle.sj_doc.specs.Builders.{built, IsBuilder}
 use Rattle.sj_doc.proofs.Builders.{count_small, value_comes, number_comes, last_decimal, IsAlone}
 use Rattle.sj_json.specs.Cells.{number_cell}
 use Rattle.sj_doc.proofs.builder.DocBuilder.exact.Goals as goal
-use Rattle.sj_doc.proofs.builder.DocBuilder.exact.Goals.{In_ok-at, In_ok-push}
+use Rattle.sj_doc.proofs.builder.DocBuilder.exact.Goals.{In_ok-at, In_ok-push_in}
 
 on_err : {T E P : Type 0} (r : Result T E) → P → OnErr r P
 on_err (Ok x) p = tt
@@ -21,24 +21,24 @@ stored c =
     let g = number_comes (f.arena.items, f.numbers.items) f.nodes.items f.key f.inner f.count f.depth c.self.invariant c.args.n c.store_number.new.numbers.items st.grown st.few in
     (g.0, g.1 ∙ c.self.view_is)
 
-both : (c : In_ok-push) → IsBuilder (c.self.inside.arena.items, c.store_number.new.numbers.items) c.push.new.self.items None c.self.inside.inner (c.self.inside.count + 1) c.self.inside.depth × (built (c.self.inside.arena.items, c.store_number.new.numbers.items) c.push.new.self.items None ≡ with_value (number (exact c.args.n)) c.args.self.now)
+both : (c : In_ok-push_in) → IsBuilder (c.self.inside.arena.items, c.store_number.new.numbers.items) c.push_in.new.list.items None c.self.inside.inner (c.self.inside.count + 1) c.self.inside.depth × (built (c.self.inside.arena.items, c.store_number.new.numbers.items) c.push_in.new.list.items None ≡ with_value (number (exact c.args.n)) c.args.self.now)
 both c =
     let f = c.self.inside in
     let st = c.in_ok-at.ensures.ok in
-    let g = stored (goal.at-In_ok-push c).In_ok-at in
+    let g = stored (goal.at-In_ok-push_in c).In_ok-at in
     let here = last_decimal f.numbers.items c.store_number.new.numbers.items c.args.n c.in_ok-at.at st.grown st.here in
     let alone : IsAlone (f.arena.items, c.store_number.new.numbers.items) (number (exact c.args.n)) (Exact c.in_ok-at.at) = λ k. ap (λ (d : ℤ × ℕ). (k, number_cell (exact d)) ∷ []) (sym here.1) in
-    value_comes _ _ _ _ _ _ g.0 c.args.self.now g.1 (number (exact c.args.n)) (Exact c.in_ok-at.at) c.requires.wanted c.requires.room alone (λ n. refl) (here.0, subst IsDecimal (sym here.1) c.parts.ensures.decimal) (c.len.result - c.self.inside.inner) (omega (arith, c.len.ensures, c.self.inside.nodes.ok.0)) c.push.new.self.items c.in_ok-push.ensures.items
+    value_comes _ _ _ _ _ _ g.0 c.args.self.now g.1 (number (exact c.args.n)) (Exact c.in_ok-at.at) c.requires.wanted c.requires.room alone (λ n. refl) (here.0, subst IsDecimal (sym here.1) c.parts.ensures.decimal) (c.len.result - c.self.inside.inner) (omega (arith, c.len.ensures, c.self.inside.nodes.ok.0)) c.push_in.new.list.items c.in_ok-push_in.ensures.ok
 
-pub invariant_of-self-in_err-push : goal.invariant_of-self-in_err-push
-invariant_of-self-in_err-push c =
+pub invariant_of-self-in_err-push_in : goal.invariant_of-self-in_err-push_in
+invariant_of-self-in_err-push_in c =
     let f = c.self.inside in
-    subst (λ (ns : List Node). IsBuilder (f.arena.items, c.store_number.new.numbers.items) ns f.key f.inner f.count f.depth) (sym {A = List Node} c.in_err-push.ensures.items) (stored (goal.at.invariant_of-self-in_err-push c).In_ok-at).0
+    subst (λ (ns : List Node). IsBuilder (f.arena.items, c.store_number.new.numbers.items) ns f.key f.inner f.count f.depth) (sym {A = List Node} c.in_err-push_in.ensures.err) (stored (goal.at.invariant_of-self-in_err-push_in c).In_ok-at).0
 
-pub returns-in_err-push-clause-err : goal.returns-in_err-push-clause-err
-returns-in_err-push-clause-err c =
+pub returns-in_err-push_in-clause-err : goal.returns-in_err-push_in-clause-err
+returns-in_err-push_in-clause-err c =
     let f = c.self.inside in
-    on_err c.from_residual-in_err-push.result (ap (λ (ns : List Node). built (f.arena.items, c.store_number.new.numbers.items) ns f.key) c.in_err-push.ensures.items ∙ (stored (goal.at.returns-in_err-push-clause-err c).In_ok-at).1)
+    on_err c.from_residual-in_err-push_in.result (ap (λ (ns : List Node). built (f.arena.items, c.store_number.new.numbers.items) ns f.key) c.in_err-push_in.ensures.err ∙ (stored (goal.at.returns-in_err-push_in-clause-err c).In_ok-at).1)
 
 pub overflow_add-self : goal.overflow_add-self
 overflow_add-self c =
@@ -46,7 +46,7 @@ overflow_add-self c =
     omega (arith, count_small (f.arena.items, f.numbers.items) f.nodes.items f.key f.inner f.count f.depth c.self.invariant c.args.self.now c.self.view_is, c.self.invariant.small)
 
 pub invariant_of-self-2 : goal.invariant_of-self-2
-invariant_of-self-2 c = (both (goal.at.invariant_of-self-2 c).In_ok-push).0
+invariant_of-self-2 c = (both (goal.at.invariant_of-self-2 c).In_ok-push_in).0
 
 pub returns-clause-ok : goal.returns-clause-ok
-returns-clause-ok c = (both (goal.at.returns-clause-ok c).In_ok-push).1
+returns-clause-ok c = (both (goal.at.returns-clause-ok c).In_ok-push_in).1

@@ -5,12 +5,12 @@ use Rattle.sj_doc.specs.declared.node.Body.TheVariants.{Null}
 use Rattle.sj_doc.specs.Builders.{built, IsBuilder}
 use Rattle.sj_doc.proofs.Builders.{count_small, value_comes}
 use Rattle.sj_doc.proofs.builder.DocBuilder.null.Goals as goal
-use Rattle.sj_doc.proofs.builder.DocBuilder.null.Goals.{In_ok-push}
+use Rattle.sj_doc.proofs.builder.DocBuilder.null.Goals.{In_ok-push_in}
 
-both : (c : In_ok-push) → IsBuilder (c.self.inside.arena.items, c.self.inside.numbers.items) c.push.new.self.items None c.self.inside.inner (c.self.inside.count + 1) c.self.inside.depth × (built (c.self.inside.arena.items, c.self.inside.numbers.items) c.push.new.self.items None ≡ with_value null c.args.self.now)
+both : (c : In_ok-push_in) → IsBuilder (c.self.inside.arena.items, c.self.inside.numbers.items) c.push_in.new.list.items None c.self.inside.inner (c.self.inside.count + 1) c.self.inside.depth × (built (c.self.inside.arena.items, c.self.inside.numbers.items) c.push_in.new.list.items None ≡ with_value null c.args.self.now)
 both c =
     let f = c.self.inside in
-    value_comes (f.arena.items, f.numbers.items) f.nodes.items f.key f.inner f.count f.depth c.self.invariant c.args.self.now c.self.view_is null Null c.requires.wanted c.requires.room (λ k. refl) (λ n. refl) tt (c.len.result - c.self.inside.inner) (omega (arith, c.len.ensures, c.self.inside.nodes.ok.0)) c.push.new.self.items c.in_ok-push.ensures.items
+    value_comes (f.arena.items, f.numbers.items) f.nodes.items f.key f.inner f.count f.depth c.self.invariant c.args.self.now c.self.view_is null Null c.requires.wanted c.requires.room (λ k. refl) (λ n. refl) tt (c.len.result - c.self.inside.inner) (omega (arith, c.len.ensures, c.self.inside.nodes.ok.0)) c.push_in.new.list.items c.in_ok-push_in.ensures.ok
 
 pub overflow_add-self : goal.overflow_add-self
 overflow_add-self c =
@@ -18,7 +18,7 @@ overflow_add-self c =
     omega (arith, count_small (f.arena.items, f.numbers.items) f.nodes.items f.key f.inner f.count f.depth c.self.invariant c.args.self.now c.self.view_is, c.self.invariant.small)
 
 pub invariant_of-self-2 : goal.invariant_of-self-2
-invariant_of-self-2 c = (both (goal.at.invariant_of-self-2 c).In_ok-push).0
+invariant_of-self-2 c = (both (goal.at.invariant_of-self-2 c).In_ok-push_in).0
 
 pub returns-clause-ok : goal.returns-clause-ok
-returns-clause-ok c = (both (goal.at.returns-clause-ok c).In_ok-push).1
+returns-clause-ok c = (both (goal.at.returns-clause-ok c).In_ok-push_in).1
