@@ -24,6 +24,12 @@ fn method(keyword: Keyword) -> Option<Step>
         Keyword::Floor => Some(Step::Method(Method::Floor)),
         Keyword::Abs => Some(Step::Method(Method::Abs)),
         Keyword::KeyValue => Some(Step::Method(Method::KeyValue)),
+        Keyword::Bigint => Some(Step::Method(Method::Bigint)),
+        Keyword::Boolean => Some(Step::Method(Method::Boolean)),
+        Keyword::Decimal => Some(Step::Method(Method::Decimal)),
+        Keyword::Integer => Some(Step::Method(Method::Integer)),
+        Keyword::Number => Some(Step::Method(Method::Number)),
+        Keyword::String => Some(Step::Method(Method::Text)),
         Keyword::Double => Some(Step::Double),
         _ => None,
     }
