@@ -18,7 +18,7 @@ use Rattle.sj_statement.specs.declared.clauses.Encoding.TheVariants.{Read, Refus
 use Rattle.sj_statement.specs.declared.clauses.TypeName.{TypeName}
 use Rattle.sj_statement.specs.declared.clauses.TypeName.TheVariants.{Known, Approximate, Datetime}
 use Rattle.sj_statement.specs.declared.refusal.FileKind.{FileKind}
-use Rattle.sj_statement.specs.Tree.{PathText, Common, ExistsCall, ValueCall, QueryCall, Value, Values, Members, ColumnOf, Ordinality, Regular, Formatted, Columns, Table, Statement}
+use Rattle.sj_statement.specs.Tree.{PathText, Common, ExistsCall, ValueCall, QueryCall, Value, Values, Members, ColumnOf, Ordinality, Regular, Formatted, Existence, Columns, Table, Statement}
 use Rattle.sj_statement.specs.Phrases.{Tokens, word, open_at, close_at, comma_at, count_at, sized, varchar_at, fixed_at, numeric_at, type_from, type_at, returning_at}
 use Rattle.sj_statement.specs.Grammar as g
 use Rattle.sj_statement.specs.Grammar.{IsOptional, IsList, IsValueCall, Source, IsValue, IsValues, IsMember, IsMembers, IsColumn, IsColumns, IsColumnList, IsTable, IsPlainItem, IsSelect}
@@ -219,6 +219,8 @@ mutual
   column_bindable (g.formatted {name = n} {x = x} {path = p} {wrap = v} {quote = q} {empty = e} {error = f} name format encoding column_path wrap quote empty error) ms d =
       let r = encoding_read x ms (no_path (note_encoding listing x ms) p d) in
       (r.0, one_column (Formatted (formatted_with finishing (record { name = n; encoding = x; path = p; wrapper = v; quotes = q; on_empty = e; on_error = f }))) r.1)
+  column_bindable (g.existence {name = n} {path = p} {error = e} name existence column_path error) ms d =
+      (no_path ms p d, one_column (column_with finishing (Existence n p e)) tt)
   column_bindable (g.nested {path = p} nested nested_path name i) ms d = let r = columns_bindable i (ms ++ path p ∷ []) d in (no_path ms p r.0, r.1)
 
   columns_bindable : {ts rest : Tokens} {xs : Columns PathText} → IsColumns ts xs rest → (ms : List Mark) → Free Lacks (note_columns listing xs ms)

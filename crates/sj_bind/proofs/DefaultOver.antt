@@ -4,7 +4,7 @@ use Rattle.sj_statement.specs.declared.clauses.InOut.{InOut}
 use Rattle.sj_statement.specs.declared.clauses.InOut.TheVariants as i
 use Rattle.sj_statement.specs.declared.clauses.Siblings.{Siblings}
 use Rattle.sj_statement.specs.declared.clauses.Siblings.TheVariants as s
-use Rattle.sj_statement.specs.Tree.{Columns, Last, More, ColumnOf, Ordinality, Regular, Formatted, Nested}
+use Rattle.sj_statement.specs.Tree.{Columns, Last, More, ColumnOf, Ordinality, Regular, Formatted, Existence, Nested}
 use Rattle.sj_value.specs.Plans.{PlanTree, one_at, times, root_of}
 use Rattle.sj_bind.specs.Paths.{paths_in, paths_below}
 use Rattle.sj_bind.specs.Plans.{joined, beside, grouped, over, default_in, default_below}
@@ -45,6 +45,7 @@ mutual
   default_in-total k in_out siblings next (Ordinality name) = sym (inside-none k next)
   default_in-total k in_out siblings next (Regular column) = sym (inside-none k next)
   default_in-total k in_out siblings next (Formatted column) = sym (inside-none k next)
+  default_in-total k in_out siblings next (Existence name path on_error) = sym (inside-none k next)
   default_in-total k in_out siblings next (Nested path name columns) =
       let e = times-over k in_out siblings next (default_below in_out siblings (next + 1) columns) in
       let h = default_below-total k in_out siblings (next + 1) columns in

@@ -2,7 +2,7 @@
 use Rattle.std.proofs.Common.{◌≡◌, ℕ, ◌+◌, List, [], ◌∷◌, ◌++◌, Option, Some, None, length, refl, sym, ap, ◌∙◌}
 use Rattle.sj_statement.specs.declared.clauses.InOut.{InOut}
 use Rattle.sj_statement.specs.declared.clauses.Siblings.{Siblings}
-use Rattle.sj_statement.specs.Tree.{Columns, Last, More, ColumnOf, Ordinality, Regular, Formatted, Nested}
+use Rattle.sj_statement.specs.Tree.{Columns, Last, More, ColumnOf, Ordinality, Regular, Formatted, Existence, Nested}
 use Rattle.sj_value.specs.Plans.{PlanTree}
 use Rattle.sj_bind.specs.Paths.{paths_in}
 use Rattle.sj_bind.specs.Plans.{beside, grouped, over, default_in, default_below}
@@ -35,6 +35,7 @@ mutual
   grown_in-is i s next before (Ordinality name) = refl
   grown_in-is i s next before (Regular column) = refl
   grown_in-is i s next before (Formatted column) = refl
+  grown_in-is i s next before (Existence name path on_error) = refl
   grown_in-is i s next before (Nested path name columns) =
       ap (one_more s before) (ap (path_over i next) (grown_below-is i s (next + 1) None columns) ∙ over_is i s next (default_below i s (next + 1) columns))
 

@@ -1,7 +1,7 @@
 -- The columns and the paths of a table, with and without their numbers.
 use Rattle.std.proofs.Common.{◌≡◌, ℕ, ◌+◌, List, [], ◌∷◌, ◌++◌, length, refl, ap, ◌∙◌}
 use Rattle.sj_grammar.specs.Tree.{Path}
-use Rattle.sj_statement.specs.Tree.{ColumnOf, Ordinality, Regular, Formatted, Nested, Columns, Last, More}
+use Rattle.sj_statement.specs.Tree.{ColumnOf, Ordinality, Regular, Formatted, Existence, Nested, Columns, Last, More}
 use Rattle.sj_bind.specs.Leaves.{leaves_in, leaves}
 use Rattle.sj_bind.specs.Paths.{TablePath, paths_in}
 use Rattle.sj_bind.specs.Rules.{columns_alone, paths_alone}
@@ -20,6 +20,7 @@ mutual
   leaves_of_column path next (Ordinality name) = refl
   leaves_of_column path next (Regular c) = refl
   leaves_of_column path next (Formatted c) = refl
+  leaves_of_column path next (Existence name own on_error) = refl
   leaves_of_column path next (Nested p name columns) = leaves_of_columns next (next + 1) columns
 
   pub leaves_of_columns : (path next : ℕ) (cs : Columns Path) → columns_alone (columns_below path next cs) ≡ leaves cs

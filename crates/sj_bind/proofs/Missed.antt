@@ -4,7 +4,7 @@ use Rattle.std.specs.List.{list_any}
 use Rattle.sj_grammar.specs.Tree.{Path}
 use Rattle.sj_path.specs.Vars.{has_name, names}
 use Rattle.sj_statement.specs.declared.clauses.Passed.{Passed}
-use Rattle.sj_statement.specs.Tree.{ColumnOf, Ordinality, Regular, Formatted, Nested}
+use Rattle.sj_statement.specs.Tree.{ColumnOf, Ordinality, Regular, Formatted, Existence, Nested}
 use Rattle.sj_bind.specs.Clauses.{passed}
 use Rattle.sj_bind.specs.Rules.{is_among, lacks_variable, column_lacks_variable}
 use Rattle.sj_bind.specs.Variables.{AreNamesOf, misses, column_misses}
@@ -17,6 +17,7 @@ column_misses_same : (passing : List Passed) (known : List (List ℕ)) → AreNa
 column_misses_same passing known same (Ordinality name) = refl
 column_misses_same passing known same (Regular c) = misses_same passing known same c.path
 column_misses_same passing known same (Formatted c) = misses_same passing known same c.path
+column_misses_same passing known same (Existence name path on_error) = misses_same passing known same path
 column_misses_same passing known same (Nested path name columns) = refl
 
 pub paths_missed : (passing : List Passed) (known : List (List ℕ)) → AreNamesOf passing known → (ps : List Path) → list_any (misses known) ps ≡ list_any (lacks_variable passing) ps

@@ -5,7 +5,7 @@ use Rattle.std.specs.List.{list_any}
 use Rattle.std.specs.Str.{bytes_eq}
 use Rattle.std.proofs.lemmas.Bool.Decides.{nat_tests}
 use Rattle.std.proofs.lemmas.Slice.Eq.{bytes_eq-Decides}
-use Rattle.sj_statement.specs.Tree.{Columns, Last, More, ColumnOf, Ordinality, Regular, Formatted, Nested, NamedPlan, PathOf, Outer, Inner, Union, Cross}
+use Rattle.sj_statement.specs.Tree.{Columns, Last, More, ColumnOf, Ordinality, Regular, Formatted, Existence, Nested, NamedPlan, PathOf, Outer, Inner, Union, Cross}
 use Rattle.sj_bind.specs.Paths.{Child, paths_in, paths_below, children_in, children, nested_in}
 use Rattle.sj_bind.specs.Tables.{has_twice, path_names_in, path_names_below}
 use Rattle.sj_value.specs.Plans.{one_at, times, root_of}
@@ -66,6 +66,7 @@ unfolding Clean
 clean_in next (Ordinality name) h = tt
 clean_in next (Regular column) h = tt
 clean_in next (Formatted column) h = tt
+clean_in next (Existence name path on_error) h = tt
 clean_in next (Nested path name columns) h = (twice-right (option_to_list name) (path_names_below columns) h, tt)
 
 clean_children : {P : Type 0} (next : ℕ) (columns : Columns P) → has_twice (path_names_below columns) ≡ false → Clean (children next columns)
@@ -94,6 +95,7 @@ unfolding child_names
 any_in p next (Ordinality name) h = refl
 any_in p next (Regular column) h = refl
 any_in p next (Formatted column) h = refl
+any_in p next (Existence name path on_error) h = refl
 any_in p next (Nested path None columns) h = refl
 any_in p next (Nested path (Some n) columns) h = ap (λ z. z || false) (neither (p n) (list_any p (path_names_below columns)) h).0
 
@@ -110,11 +112,13 @@ unfolding child_names
 distinct_children next (Last (Ordinality name)) h = refl
 distinct_children next (Last (Regular column)) h = refl
 distinct_children next (Last (Formatted column)) h = refl
+distinct_children next (Last (Existence name path on_error)) h = refl
 distinct_children next (Last (Nested path None columns)) h = refl
 distinct_children next (Last (Nested path (Some n) columns)) h = refl
 distinct_children next (More (Ordinality name) others) h = distinct_children (next + 0) others h
 distinct_children next (More (Regular column) others) h = distinct_children (next + 0) others h
 distinct_children next (More (Formatted column) others) h = distinct_children (next + 0) others h
+distinct_children next (More (Existence name path on_error) others) h = distinct_children (next + 0) others h
 distinct_children next (More (Nested path None columns) others) h =
     distinct_children (next + suc (length (paths_below columns))) others (twice-right (path_names_below columns) (path_names_below others) h)
 distinct_children next (More (Nested path (Some n) columns) others) h =
@@ -166,6 +170,7 @@ unfolding shares share
 shares-in k next (Ordinality name) = sym (inside-none k next)
 shares-in k next (Regular column) = sym (inside-none k next)
 shares-in k next (Formatted column) = sym (inside-none k next)
+shares-in k next (Existence name path on_error) = sym (inside-none k next)
 shares-in k next (Nested path name columns) = omega arith
 
 -- the paths right under columns have the numbers of all paths under them
@@ -282,10 +287,12 @@ no_paths : {P : Type 0} (next : ℕ) (columns : Columns P) → is_nil (children 
 no_paths next (Last (Ordinality name)) h = refl
 no_paths next (Last (Regular column)) h = refl
 no_paths next (Last (Formatted column)) h = refl
+no_paths next (Last (Existence name path on_error)) h = refl
 no_paths next (Last (Nested path name columns)) h = cc
 no_paths next (More (Ordinality name) others) h = no_paths (next + 0) others h
 no_paths next (More (Regular column) others) h = no_paths (next + 0) others h
 no_paths next (More (Formatted column) others) h = no_paths (next + 0) others h
+no_paths next (More (Existence name path on_error) others) h = no_paths (next + 0) others h
 no_paths next (More (Nested path name columns) others) h = cc
 
 all_named : {P : Type 0} (plan : NamedPlan) (paths : List (Child P)) → fits plan paths ≡ true → AllNamed paths (standing plan)

@@ -1,6 +1,6 @@
 -- Lists of paths, part by part.
 use Rattle.std.proofs.Common.{◌≡◌, ℕ, Bool, true, false, ◌&&◌, if◌then◌else◌, List, [], ◌∷◌, ◌++◌, Some, None, ◌+◌, length, refl, sym, ap, ◌∙◌, arith}
-use Rattle.sj_statement.specs.Tree.{Columns, Last, More, ColumnOf, Ordinality, Regular, Formatted, Nested}
+use Rattle.sj_statement.specs.Tree.{Columns, Last, More, ColumnOf, Ordinality, Regular, Formatted, Existence, Nested}
 use Rattle.sj_bind.specs.Paths.{Child, paths_in, children_in, children}
 use Rattle.sj_bind.specs.Plans.{is_nil, is_name, path_named, each_once, stands_once, name_count}
 
@@ -42,6 +42,7 @@ same_once_in : {P : Type 0} (names : List (List ℕ)) (n m : ℕ) (column : Colu
 same_once_in names n m (Ordinality name) = refl
 same_once_in names n m (Regular column) = refl
 same_once_in names n m (Formatted column) = refl
+same_once_in names n m (Existence name path on_error) = refl
 same_once_in names n m (Nested path name columns) = refl
 
 -- whether each path stands once does not turn on where the numbers begin

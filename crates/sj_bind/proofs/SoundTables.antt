@@ -9,7 +9,7 @@ use Rattle.std.proofs.lemmas.Slice.Eq.{bytes_eq-Decides}
 use Rattle.sj_grammar.specs.Tree.{Path}
 use Rattle.sj_path.specs.Vars.{covers}
 use Rattle.sj_statement.specs.declared.clauses.Passed.{Passed}
-use Rattle.sj_statement.specs.Tree.{ColumnOf, Ordinality, Regular, Formatted, Nested, Columns, Last, More, Table}
+use Rattle.sj_statement.specs.Tree.{ColumnOf, Ordinality, Regular, Formatted, Existence, Nested, Columns, Last, More, Table}
 use Rattle.sj_bind.specs.Clauses.{passed, sql_type, names_text, default_fails}
 use Rattle.sj_bind.specs.Meaning.{column_number, bound_column, bound_columns, bound_table}
 use Rattle.sj_bind.specs.Paths.{TablePath, paths_in, table_paths}
@@ -31,6 +31,7 @@ abbrev own_name : ColumnOf Path → List ℕ
 own_name (Ordinality name) = name
 own_name (Regular c) = c.name
 own_name (Formatted c) = c.name
+own_name (Existence name path on_error) = name
 own_name (Nested path name columns) = []
 
 abbrev own_names : List (TableColumn Path) → List (List ℕ)
@@ -46,6 +47,7 @@ mutual
   names_of_column path next (Ordinality name) = refl
   names_of_column path next (Regular c) = refl
   names_of_column path next (Formatted c) = refl
+  names_of_column path next (Existence name own on_error) = refl
   names_of_column path next (Nested p name columns) = names_of_columns next (next + 1) columns
 
   names_of_columns : (path next : ℕ) (cs : Columns Path) → own_names (columns_below path next cs) ≡ names_below cs
@@ -95,6 +97,7 @@ among_own (c ∷ cs) name h = go c.column h (among_own cs name)
     go (Ordinality n) e f = or_true _ _ (f e)
     go (Regular r) e f = text r.name (names_text r.ty) f e
     go (Formatted g) e f = or_true _ _ (f e)
+    go (Existence n own on_error) e f = or_true _ _ (f e)
     go (Nested p n ds) e f = or_true _ _ (f e)
 
 -- a column has no name of another
@@ -121,6 +124,7 @@ text_at (c ∷ cs) name once h = go (bytes_eq name (own_name c.column)) refl (te
         text true k m = text_type r.ty k
         text false k m = absurd (other r.name cs name is o m)
     here (Formatted f) is o e = absurd (other f.name cs name is o e)
+    here (Existence n own on_error) is o e = absurd (other n cs name is o e)
     here (Nested p n ds) is o e = absurd (other [] cs name is o e)
 
     rest : (column : ColumnOf Path) → bytes_eq name (own_name column) ≡ false → is_among (text_name column ++ text_names (columns_alone cs)) name ≡ true → is_among (text_names (columns_alone cs)) name ≡ true
@@ -131,6 +135,7 @@ text_at (c ∷ cs) name once h = go (bytes_eq name (own_name c.column)) refl (te
         text true m = sym (ap (λ d. d || is_among (text_names (columns_alone cs)) name) is) ∙ m
         text false m = m
     rest (Formatted f) is e = e
+    rest (Existence n own on_error) is e = e
     rest (Nested p n ds) is e = e
 
     go : (d : Bool) → bytes_eq name (own_name c.column) ≡ d
@@ -175,6 +180,7 @@ sound_column passing paths c below bindable covered casts = go c.column bindable
         let d = neither (default_fails (sql_type r.ty) r.on_empty) (default_fails (sql_type r.ty) r.on_error) cst in
         (below, holds (covers (passed passing) r.path) cov, sound_clauses r.ty r.on_empty r.on_error bnd d.0 d.1)
     go (Formatted f) bnd cov cst = (below, holds (covers (passed passing) f.path) cov)
+    go (Existence n own on_error) bnd cov cst = (below, holds (covers (passed passing) own) cov)
     go (Nested p n ds) bnd cov cst = below
 
 sound_columns : (passing : List Passed) (paths : ℕ) (cs : List (TableColumn Path)) → All (λ c. c.path < paths) cs → All IsBindableColumn (columns_alone cs)

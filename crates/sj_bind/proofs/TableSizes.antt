@@ -2,7 +2,7 @@
 use Rattle.std.proofs.Common.{◌≡◌, ℕ, ◌+◌, ◌<◌, ◌≤◌, [], length, refl, sym, ap, ◌∙◌, arith, length-append}
 use Rattle.std.specs.List.{All}
 use Rattle.std.proofs.lemmas.List.Elements.{All-nil, All-cons, All-append}
-use Rattle.sj_statement.specs.Tree.{Table, Columns, Last, More, ColumnOf, Ordinality, Regular, Formatted, Nested}
+use Rattle.sj_statement.specs.Tree.{Table, Columns, Last, More, ColumnOf, Ordinality, Regular, Formatted, Existence, Nested}
 use Rattle.sj_bind.specs.Paths.{paths_in, paths_below, table_paths}
 use Rattle.sj_bind.specs.Tables.{TableColumn, columns_in, columns_below, table_columns, names_in, names_below, column_names}
 
@@ -11,6 +11,7 @@ mutual
   length-columns_in path next (Ordinality name) = refl
   length-columns_in path next (Regular column) = refl
   length-columns_in path next (Formatted column) = refl
+  length-columns_in path next (Existence name own on_error) = refl
   length-columns_in path next (Nested below name columns) = length-columns_below next (next + 1) columns
 
   length-columns_below : {P : Type 0} (path next : ℕ) (columns : Columns P) → length (columns_below path next columns) ≡ length (names_below columns)
@@ -35,6 +36,7 @@ mutual
   under_in m path next (Ordinality name) below room = All-cons (IsUnder m) (record { path = path; column = Ordinality name }) [] below (All-nil (IsUnder m))
   under_in m path next (Regular column) below room = All-cons (IsUnder m) (record { path = path; column = Regular column }) [] below (All-nil (IsUnder m))
   under_in m path next (Formatted column) below room = All-cons (IsUnder m) (record { path = path; column = Formatted column }) [] below (All-nil (IsUnder m))
+  under_in m path next (Existence name own on_error) below room = All-cons (IsUnder m) (record { path = path; column = Existence name own on_error }) [] below (All-nil (IsUnder m))
   under_in m path next (Nested nested name columns) below room = under_below m next (next + 1) columns (omega arith) (omega arith)
 
   under_below : {P : Type 0} (m path next : ℕ) (columns : Columns P) → path < m → next + length (paths_below columns) ≤ m → All (IsUnder m) (columns_below path next columns)

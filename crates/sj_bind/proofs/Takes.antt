@@ -5,7 +5,7 @@ use Rattle.std.proofs.lemmas.List.Elements.{recursion_from_All}
 use Rattle.sj_grammar.specs.Tree as g
 use Rattle.sj_path.specs.declared.tree.Path.{Path}
 use Rattle.sj_path.specs.Tree.{path_of}
-use Rattle.sj_statement.specs.Tree.{Columns, Last, More, ColumnOf, Ordinality, Regular, Formatted, Nested}
+use Rattle.sj_statement.specs.Tree.{Columns, Last, More, ColumnOf, Ordinality, Regular, Formatted, Existence, Nested}
 use Rattle.sj_bind.specs.declared.bound.BoundColumn.{BoundColumn}
 use Rattle.sj_bind.specs.View.{paths_of, columns_of, column_of}
 use Rattle.sj_bind.specs.Clauses.{sql_type, default_fails}
@@ -39,6 +39,7 @@ mutual
   paths_in_are (Ordinality name) = refl
   paths_in_are (Regular column) = refl
   paths_in_are (Formatted column) = refl
+  paths_in_are (Existence name own on_error) = refl
   paths_in_are (Nested path name columns) = ap (λ z. path ∷ z) (paths_are columns)
 
   pub paths_are : (columns : Columns g.Path) → taken_paths columns ≡ paths_alone (paths_below columns)
@@ -58,6 +59,7 @@ mutual
   columns_in_are path next (Ordinality name) = refl
   columns_in_are path next (Regular column) = refl
   columns_in_are path next (Formatted column) = refl
+  columns_in_are path next (Existence name own on_error) = refl
   columns_in_are path next (Nested below name columns) = columns_are next (next + 1) columns
 
   pub columns_are : (path next : ℕ) (columns : Columns g.Path) → taken_columns path next columns ≡ bound_columns (columns_below path next columns)
@@ -95,6 +97,7 @@ mutual
   take_in (Regular c) good fine =
       let both = neither (default_fails (sql_type c.ty) c.on_empty) (default_fails (sql_type c.ty) c.on_error) fine in record { bindable = good.0; empty_casts = both.0; error_casts = both.1 }
   take_in (Formatted c) good fine = tt
+  take_in (Existence name own on_error) good fine = tt
   take_in (Nested below name columns) good fine = take_all columns good fine
 
   take_all : (columns : Columns g.Path) → AllByRecursion IsBindableColumn (leaves columns) → list_any column_default_fails (leaves columns) ≡ false → CanTake columns

@@ -47,6 +47,7 @@ pub data ColumnOf : Type 0 where
   Ordinality : (number : ℕ) → ColumnOf
   Regular : (number : ℕ) (path : Path) (clauses : ValueSpec) → ColumnOf
   Formatted : (number : ℕ) (path : Path) (clauses : QuerySpec) → ColumnOf
+  Existence : (number : ℕ) (path : Path) (on_error : ExistsAction) → ColumnOf
 
 pub record Table : Type 0 where
   pub paths : List Path

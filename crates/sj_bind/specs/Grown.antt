@@ -2,7 +2,7 @@
 use Rattle.std.specs.Prelude.{ℕ, ◌+◌, Option, Some, None, length}
 use Rattle.sj_statement.specs.declared.clauses.InOut.{InOut}
 use Rattle.sj_statement.specs.declared.clauses.Siblings.{Siblings}
-use Rattle.sj_statement.specs.Tree.{Columns, Last, More, ColumnOf, Ordinality, Regular, Formatted, Nested}
+use Rattle.sj_statement.specs.Tree.{Columns, Last, More, ColumnOf, Ordinality, Regular, Formatted, Existence, Nested}
 use Rattle.sj_value.specs.Plans.{PlanTree, path_rows}
 use Rattle.sj_bind.specs.Paths.{paths_in}
 use Rattle.sj_bind.specs.Plans.{joined, beside}
@@ -23,6 +23,7 @@ abbrev mutual
   grown_in in_out siblings next before (Ordinality name) = before
   grown_in in_out siblings next before (Regular column) = before
   grown_in in_out siblings next before (Formatted column) = before
+  grown_in in_out siblings next before (Existence name path on_error) = before
   grown_in in_out siblings next before (Nested path name columns) = one_more siblings before (path_over in_out next (grown_below in_out siblings (next + 1) None columns))
 
   pub grown_below : {P : Type 0} → InOut → Siblings → ℕ → Option PlanTree → Columns P → Option PlanTree

@@ -4,7 +4,7 @@ use Rattle.std.specs.Prelude.{ℕ, zero, suc, List, [], ◌∷◌, ◌++◌, len
 use Rattle.std.specs.List.{position_or_len}
 use Rattle.std.specs.Str.{bytes_eq}
 use Rattle.sj_grammar.specs.Tree.{Path}
-use Rattle.sj_statement.specs.Tree.{Value, Lit, Column, Exists, ValueOf, Query, IsJson, Object, Array, Values, NoValues, MoreValues, Members, NoMembers, MoreMembers, Item, Single, ArrayAgg, ObjectAgg, ColumnOf, Ordinality, Regular, Formatted, Nested, Table, Statement, Plain, All, Listed}
+use Rattle.sj_statement.specs.Tree.{Value, Lit, Column, Exists, ValueOf, Query, IsJson, Object, Array, Values, NoValues, MoreValues, Members, NoMembers, MoreMembers, Item, Single, ArrayAgg, ObjectAgg, ColumnOf, Ordinality, Regular, Formatted, Existence, Nested, Table, Statement, Plain, All, Listed}
 use Rattle.sj_bind.specs.Bound as b
 use Rattle.sj_bind.specs.Clauses.{passed, path_with, value_clauses, query_clauses}
 use Rattle.sj_bind.specs.Plans.{table_plan}
@@ -63,6 +63,7 @@ abbrev pub column_under : ℕ → ColumnOf Path → b.ColumnOf
 column_under n (Ordinality name) = b.Ordinality n
 column_under n (Regular c) = b.Regular n c.path (value_clauses c.ty c.on_empty c.on_error)
 column_under n (Formatted c) = b.Formatted n c.path (query_clauses c.wrapper c.quotes c.on_empty c.on_error)
+column_under n (Existence name path on_error) = b.Existence n path on_error
 column_under n (Nested path name columns) = b.Ordinality n
 
 abbrev pub bound_column : TableColumn Path → b.ColumnOf

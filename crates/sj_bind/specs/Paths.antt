@@ -1,7 +1,7 @@
 -- The paths of a table: the row path, and the nested paths at any depth. They are numbered in the order of the text from 0, and
 -- the row path stands first.
 use Rattle.std.specs.Prelude.{ℕ, ◌+◌, List, [], ◌∷◌, ◌++◌, Option, length}
-use Rattle.sj_statement.specs.Tree.{Table, Columns, Last, More, ColumnOf, Ordinality, Regular, Formatted, Nested}
+use Rattle.sj_statement.specs.Tree.{Table, Columns, Last, More, ColumnOf, Ordinality, Regular, Formatted, Existence, Nested}
 
 -- a path, with its name if it has one
 pub record TablePath (P : Type 0) : Type 0 where
@@ -14,6 +14,7 @@ abbrev mutual
   paths_in (Ordinality name) = []
   paths_in (Regular column) = []
   paths_in (Formatted column) = []
+  paths_in (Existence name path on_error) = []
   paths_in (Nested path name columns) = record { path = path; name = name } ∷ paths_below columns
 
   pub paths_below : {P : Type 0} → Columns P → List (TablePath P)
@@ -35,6 +36,7 @@ abbrev pub children_in : {P : Type 0} → ℕ → ColumnOf P → List (Child P)
 children_in next (Ordinality name) = []
 children_in next (Regular column) = []
 children_in next (Formatted column) = []
+children_in next (Existence name path on_error) = []
 children_in next (Nested path name columns) = record { number = next; name = name; columns = columns } ∷ []
 
 abbrev pub children : {P : Type 0} → ℕ → Columns P → List (Child P)

@@ -5,7 +5,7 @@ use Rattle.sj_statement.specs.declared.clauses.InOut.{InOut}
 use Rattle.sj_statement.specs.declared.clauses.InOut.TheVariants as i
 use Rattle.sj_statement.specs.declared.clauses.Siblings.{Siblings}
 use Rattle.sj_statement.specs.declared.clauses.Siblings.TheVariants as s
-use Rattle.sj_statement.specs.Tree.{Table, Columns, Last, More, ColumnOf, Ordinality, Regular, Formatted, Nested, NamedPlan, PathOf, Outer, Inner, Union, Cross, Default, Named}
+use Rattle.sj_statement.specs.Tree.{Table, Columns, Last, More, ColumnOf, Ordinality, Regular, Formatted, Existence, Nested, NamedPlan, PathOf, Outer, Inner, Union, Cross, Default, Named}
 use Rattle.sj_statement.specs.Tree as t
 use Rattle.sj_value.specs.Plans.{PlanTree, path_rows, outer_join, inner_join, union_of, cross_of}
 use Rattle.sj_bind.specs.Paths.{paths_in, Child, row_path, nested_in}
@@ -131,6 +131,7 @@ abbrev mutual
   default_in in_out siblings next (Ordinality name) = []
   default_in in_out siblings next (Regular column) = []
   default_in in_out siblings next (Formatted column) = []
+  default_in in_out siblings next (Existence name path on_error) = []
   default_in in_out siblings next (Nested path name columns) = over in_out siblings next (default_below in_out siblings (next + 1) columns) ∷ []
 
   pub default_below : {P : Type 0} → InOut → Siblings → ℕ → Columns P → List PlanTree

@@ -11,7 +11,7 @@ use Rattle.sj_statement.specs.declared.clauses.TypeName.{TypeName}
 use Rattle.sj_statement.specs.declared.clauses.ValueDo.{ValueDo}
 use Rattle.sj_statement.specs.declared.refusal.BindKind.{BindKind}
 use Rattle.sj_statement.specs.declared.refusal.BindKind.TheVariants.{TooMany, ColumnTwice, PathNameTwice, PathNameMissing, PlanMismatch, VariableTwice, UnknownVariable, QuotesWithWrapper, DefaultCast, UnknownColumn, AggregateMixed, KeyType}
-use Rattle.sj_statement.specs.Tree.{Common, Value, Lit, Column, Exists, ValueOf, Query, IsJson, Object, Array, Item, Single, ArrayAgg, ObjectAgg, ColumnOf, Ordinality, Regular, Formatted, Nested, Table, Statement, Plain, All, Listed}
+use Rattle.sj_statement.specs.Tree.{Common, Value, Lit, Column, Exists, ValueOf, Query, IsJson, Object, Array, Item, Single, ArrayAgg, ObjectAgg, ColumnOf, Ordinality, Regular, Formatted, Existence, Nested, Table, Statement, Plain, All, Listed}
 use Rattle.sj_bind.specs.Clauses.{passed, passed_names, sql_type, names_text, default_fails, quotes_clash}
 use Rattle.sj_bind.specs.Parts.{Call, exists_call, value_call, query_call, call_common, calls, keys_in_list, keys_in_items, names_in_items}
 use Rattle.sj_bind.specs.Paths.{TablePath, table_paths}
@@ -75,6 +75,7 @@ abbrev pub column_lacks_variable : List Passed → ColumnOf Path → Bool
 column_lacks_variable passing (Ordinality name) = false
 column_lacks_variable passing (Regular c) = lacks_variable passing c.path
 column_lacks_variable passing (Formatted c) = lacks_variable passing c.path
+column_lacks_variable passing (Existence name path on_error) = lacks_variable passing path
 column_lacks_variable passing (Nested path name columns) = false
 
 -- the row path, a nested path or the path of a column
@@ -95,6 +96,7 @@ abbrev pub column_quotes_clash : ColumnOf Path → Bool
 column_quotes_clash (Ordinality name) = false
 column_quotes_clash (Regular c) = false
 column_quotes_clash (Formatted c) = quotes_clash c.wrapper c.quotes
+column_quotes_clash (Existence name path on_error) = false
 column_quotes_clash (Nested path name columns) = false
 
 abbrev pub quotes_with_wrapper : Statement Path → Bool
@@ -115,6 +117,7 @@ abbrev pub column_default_fails : ColumnOf Path → Bool
 column_default_fails (Ordinality name) = false
 column_default_fails (Regular c) = defaults_fail c.ty c.on_empty c.on_error
 column_default_fails (Formatted c) = false
+column_default_fails (Existence name path on_error) = false
 column_default_fails (Nested path name columns) = false
 
 abbrev pub default_cast : Statement Path → Bool
@@ -151,6 +154,7 @@ abbrev pub text_name : ColumnOf Path → List (List ℕ)
 text_name (Ordinality name) = []
 text_name (Regular c) = if names_text c.ty then c.name ∷ [] else []
 text_name (Formatted c) = []
+text_name (Existence name path on_error) = []
 text_name (Nested path name columns) = []
 
 abbrev pub text_names : List (ColumnOf Path) → List (List ℕ)

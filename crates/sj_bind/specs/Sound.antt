@@ -13,7 +13,7 @@ use Rattle.sj_value.specs.declared.clauses.ValueSpec.{ValueSpec}
 use Rattle.sj_value.specs.declared.value.SqlValue.{SqlValue}
 use Rattle.sj_value.specs.declared.value.SqlValue.TheVariants as value
 use Rattle.sj_value.specs.Clauses.{IsValueSpec}
-use Rattle.sj_bind.specs.Bound.{PathWith, Value, Lit, Column, Exists, ValueOf, Query, IsJson, Object, Array, Values, NoValues, MoreValues, Members, NoMembers, MoreMembers, Item, Single, ArrayAgg, ObjectAgg, ColumnOf as BoundColumn, Ordinality, Regular, Formatted, Table as BoundTable, Bound}
+use Rattle.sj_bind.specs.Bound.{PathWith, Value, Lit, Column, Exists, ValueOf, Query, IsJson, Object, Array, Values, NoValues, MoreValues, Members, NoMembers, MoreMembers, Item, Single, ArrayAgg, ObjectAgg, ColumnOf as BoundColumn, Ordinality, Regular, Formatted, Existence, Table as BoundTable, Bound}
 use Rattle.sj_bind.specs.Clauses.{IsBindableType, is_text_type}
 use Rattle.sj_bind.specs.Parts.{Call, exists_call, value_call, query_call, calls}
 use Rattle.sj_value.specs.Plans.{IsPlanOver}
@@ -36,6 +36,7 @@ abbrev pub IsBindableColumn : ColumnOf Path → Type 0
 IsBindableColumn (t.Ordinality name) = Unit {0}
 IsBindableColumn (t.Regular c) = IsBindableType c.ty
 IsBindableColumn (t.Formatted c) = IsRead c.encoding
+IsBindableColumn (t.Existence name path on_error) = Unit {0}
 IsBindableColumn (t.Nested path name columns) = Unit {0}
 
 pub record IsBindableTable (table : Table Path) : Type 0 where
@@ -77,6 +78,7 @@ abbrev pub IsTextColumn : BoundColumn → Type 0
 IsTextColumn (Ordinality n) = ⊥
 IsTextColumn (Regular n path clauses) = is_text_type clauses.ty ≡ true
 IsTextColumn (Formatted n path clauses) = ⊥
+IsTextColumn (Existence n path on_error) = ⊥
 
 -- the columns of the table, and none without one
 abbrev pub columns_of : Option BoundTable → List BoundColumn
@@ -132,6 +134,7 @@ abbrev pub IsSoundColumn : Named → ℕ → BoundColumn → Type 0
 IsSoundColumn vars paths (Ordinality n) = n < paths
 IsSoundColumn vars paths (Regular n path clauses) = (n < paths) × (covers vars path ≡ true) × AreClauses clauses
 IsSoundColumn vars paths (Formatted n path clauses) = (n < paths) × (covers vars path ≡ true)
+IsSoundColumn vars paths (Existence n path on_error) = (n < paths) × (covers vars path ≡ true)
 
 pub record IsSoundTable (table : BoundTable) : Type 0 where
   pub covered : Each (λ path. covers table.vars path ≡ true) table.paths

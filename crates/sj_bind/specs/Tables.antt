@@ -3,7 +3,7 @@ use Rattle.std.specs.Prelude.{ℕ, ◌+◌, Bool, true, false, ◌&&◌, ◌||�
 use Rattle.std.specs.List.{list_any}
 use Rattle.std.specs.Option.{option_to_list}
 use Rattle.std.specs.Str.{bytes_eq}
-use Rattle.sj_statement.specs.Tree.{Table, Columns, Last, More, ColumnOf, Ordinality, Regular, Formatted, Nested, PlanTree, Default, Named}
+use Rattle.sj_statement.specs.Tree.{Table, Columns, Last, More, ColumnOf, Ordinality, Regular, Formatted, Existence, Nested, PlanTree, Default, Named}
 use Rattle.sj_bind.specs.Paths.{paths_in, table_paths}
 
 -- a column, and the number of the path whose rows it is a column of
@@ -18,6 +18,7 @@ abbrev mutual
   columns_in path next (Ordinality name) = record { path = path; column = Ordinality name } ∷ []
   columns_in path next (Regular column) = record { path = path; column = Regular column } ∷ []
   columns_in path next (Formatted column) = record { path = path; column = Formatted column } ∷ []
+  columns_in path next (Existence name own on_error) = record { path = path; column = Existence name own on_error } ∷ []
   columns_in path next (Nested below name columns) = columns_below next (next + 1) columns
 
   pub columns_below : {P : Type 0} → (path next : ℕ) → Columns P → List (TableColumn P)
@@ -34,6 +35,7 @@ abbrev mutual
   names_in (Ordinality name) = name ∷ []
   names_in (Regular column) = column.name ∷ []
   names_in (Formatted column) = column.name ∷ []
+  names_in (Existence name path on_error) = name ∷ []
   names_in (Nested path name columns) = names_below columns
 
   pub names_below : {P : Type 0} → Columns P → List (List ℕ)
@@ -49,6 +51,7 @@ abbrev mutual
   path_names_in (Ordinality name) = []
   path_names_in (Regular column) = []
   path_names_in (Formatted column) = []
+  path_names_in (Existence name path on_error) = []
   path_names_in (Nested path name columns) = option_to_list name ++ path_names_below columns
 
   pub path_names_below : {P : Type 0} → Columns P → List (List ℕ)
@@ -88,6 +91,7 @@ abbrev mutual
   lacks_name_in (Ordinality name) = false
   lacks_name_in (Regular column) = false
   lacks_name_in (Formatted column) = false
+  lacks_name_in (Existence name path on_error) = false
   lacks_name_in (Nested path name columns) = is_none name || lacks_name_below columns
 
   pub lacks_name_below : {P : Type 0} → Columns P → Bool

@@ -1,7 +1,7 @@
 -- What is taken from the columns of a table, each with what is nested in it.
 use Rattle.std.specs.Prelude.{ℕ, ◌+◌, List, [], ◌∷◌, ◌++◌, length}
 use Rattle.sj_grammar.specs.Tree.{Path}
-use Rattle.sj_statement.specs.Tree.{Columns, Last, More, ColumnOf, Ordinality, Regular, Formatted, Nested}
+use Rattle.sj_statement.specs.Tree.{Columns, Last, More, ColumnOf, Ordinality, Regular, Formatted, Existence, Nested}
 use Rattle.sj_bind.specs.Bound as b
 use Rattle.sj_bind.specs.Fits.{AreCastable}
 use Rattle.sj_bind.specs.Meaning.{column_under}
@@ -12,6 +12,7 @@ abbrev mutual
   CanTakeIn (Ordinality name) = Unit {0}
   CanTakeIn (Regular c) = AreCastable c.ty c.on_empty c.on_error
   CanTakeIn (Formatted c) = Unit {0}
+  CanTakeIn (Existence name path on_error) = Unit {0}
   CanTakeIn (Nested path name columns) = CanTake columns
 
   pub CanTake : Columns Path → Type 0
@@ -24,6 +25,7 @@ abbrev mutual
   taken_paths_in (Ordinality name) = []
   taken_paths_in (Regular column) = []
   taken_paths_in (Formatted column) = []
+  taken_paths_in (Existence name path on_error) = []
   taken_paths_in (Nested path name columns) = path ∷ taken_paths columns
 
   pub taken_paths : Columns Path → List Path
@@ -36,6 +38,7 @@ abbrev mutual
   taken_columns_in path next (Ordinality name) = column_under path (Ordinality name) ∷ []
   taken_columns_in path next (Regular column) = column_under path (Regular column) ∷ []
   taken_columns_in path next (Formatted column) = column_under path (Formatted column) ∷ []
+  taken_columns_in path next (Existence name own on_error) = column_under path (Existence name own on_error) ∷ []
   taken_columns_in path next (Nested below name columns) = taken_columns next (next + 1) columns
 
   pub taken_columns : (path next : ℕ) → Columns Path → List b.ColumnOf

@@ -3,7 +3,7 @@ use Rattle.std.specs.Prelude.{◌≡◌, ℕ, Bool, false, not, ◌||◌, List}
 use Rattle.std.specs.List.{list_all}
 use Rattle.sj_grammar.specs.Tree.{Path}
 use Rattle.sj_path.specs.Vars.{has_name, names}
-use Rattle.sj_statement.specs.Tree.{ColumnOf, Ordinality, Regular, Formatted, Nested}
+use Rattle.sj_statement.specs.Tree.{ColumnOf, Ordinality, Regular, Formatted, Existence, Nested}
 use Rattle.sj_statement.specs.declared.clauses.Passed.{Passed}
 use Rattle.sj_bind.specs.Clauses.{passed}
 use Rattle.sj_bind.specs.Rules.{is_among}
@@ -28,4 +28,5 @@ abbrev pub column_misses : List (List ℕ) → ColumnOf Path → Bool
 column_misses known (Ordinality name) = false
 column_misses known (Regular c) = misses known c.path
 column_misses known (Formatted c) = misses known c.path
+column_misses known (Existence name path on_error) = misses known path
 column_misses known (Nested path name columns) = false

@@ -48,6 +48,7 @@ abbrev pub column_of : BoundColumn → b.ColumnOf
 column_of (c.Ordinality n) = b.Ordinality n
 column_of (c.Regular n path clauses) = b.Regular n (path_of path) clauses
 column_of (c.Formatted n path clauses) = b.Formatted n (path_of path) clauses
+column_of (c.Exists n path on_error) = b.Existence n (path_of path) on_error
 
 abbrev pub items_of : List BoundItem → List b.Item
 items_of [] = []

@@ -120,4 +120,6 @@ pub enum BoundColumn {
     Regular(u32, Path, ValueSpec),
     /// FORMAT JSON.
     Formatted(u32, Path, QuerySpec),
+    /// EXISTS: the number of its path, the column's own path, and what an error gives.
+    Exists(u32, Path, ExistsAction),
 }

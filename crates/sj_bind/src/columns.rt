@@ -60,9 +60,10 @@ fn find_column<'t>(column: &'t Column, parts: &mut TableParts<'t>) -> Result<(),
     ensures paths { OnOk result (paths_at parts.new.paths.items ≡ paths_at parts.old.paths.items ++ paths_alone (paths_in (column_of column.now))) }
 {
     match column {
-        Column::Ordinality(_) | Column::Regular(_) | Column::Formatted(_) => {
-            Ok(parts.columns.push(column)?)
-        }
+        Column::Ordinality(_)
+        | Column::Regular(_)
+        | Column::Formatted(_)
+        | Column::Exists(_, _, _) => Ok(parts.columns.push(column)?),
         Column::Nested(path, _, columns) => {
             parts.paths.push(path)?;
             find_columns(columns, parts)?;

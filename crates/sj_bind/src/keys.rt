@@ -89,7 +89,10 @@ fn note_text<'t>(column: &'t Column, names: &mut IndexSet<&'t str>) -> Result<()
     ensures { OnOk result (AddsNames (names_of names.old) (spec.text_name (column_of column.now)) (names_of names.new)) }
 {
     match column {
-        Column::Ordinality(_) | Column::Formatted(_) | Column::Nested(_, _, _) => Ok(()),
+        Column::Ordinality(_)
+        | Column::Formatted(_)
+        | Column::Exists(_, _, _)
+        | Column::Nested(_, _, _) => Ok(()),
         Column::Regular(column) => {
             if !names_text(column.ty) {
                 return Ok(());

@@ -39,6 +39,7 @@ fn one_column_misses(names: &IndexSet<&str>, column: &Column) -> bool
         Column::Ordinality(_) | Column::Nested(_, _, _) => false,
         Column::Regular(column) => !covers(names, &column.path),
         Column::Formatted(column) => !covers(names, &column.path),
+        Column::Exists(_, path, _) => !covers(names, path),
     }
 }
 
@@ -74,7 +75,10 @@ fn column_quotes_clash(column: &Column) -> bool
     ensures { result ≡ spec.column_quotes_clash (column_of column.now) }
 {
     match column {
-        Column::Ordinality(_) | Column::Regular(_) | Column::Nested(_, _, _) => false,
+        Column::Ordinality(_)
+        | Column::Regular(_)
+        | Column::Exists(_, _, _)
+        | Column::Nested(_, _, _) => false,
         Column::Formatted(column) => quotes_clash(column.wrapper, column.quotes),
     }
 }
@@ -96,7 +100,10 @@ fn column_default_fails(alloc: Global, column: &Column) -> Result<bool, Memory>
     ensures { IfOk result (λ b. b ≡ spec.column_default_fails (column_of column.now)) }
 {
     match column {
-        Column::Ordinality(_) | Column::Formatted(_) | Column::Nested(_, _, _) => Ok(false),
+        Column::Ordinality(_)
+        | Column::Formatted(_)
+        | Column::Exists(_, _, _)
+        | Column::Nested(_, _, _) => Ok(false),
         Column::Regular(column) => {
             defaults_fail(alloc, column.ty, &column.on_empty, &column.on_error)
         }

@@ -65,6 +65,9 @@ fn take_column(alloc: Global, column: Column, path: u32, taken: &mut Taken) -> R
         Column::Ordinality(_) => put_column(BoundColumn::Ordinality(path), taken),
         Column::Regular(column) => put_column(bound_regular(alloc, column, path)?, taken),
         Column::Formatted(column) => put_column(bound_formatted(column, path), taken),
+        Column::Exists(_, own, on_error) => {
+            put_column(BoundColumn::Exists(path, own, on_error), taken)
+        }
         Column::Nested(nested, _, columns) => {
             let number = taken.paths.len();
             put_path(nested, taken)?;

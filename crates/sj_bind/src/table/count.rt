@@ -45,7 +45,10 @@ fn count_column(column: &Column, counted: Counts) -> Option<Counts>
     ensures { Adds counted (length (names_in (column_of column.now))) (length (paths_in (column_of column.now))) result }
 {
     match column {
-        Column::Ordinality(_) | Column::Regular(_) | Column::Formatted(_) => one_column(counted),
+        Column::Ordinality(_)
+        | Column::Regular(_)
+        | Column::Formatted(_)
+        | Column::Exists(_, _, _) => one_column(counted),
         Column::Nested(_, _, columns) => count_columns(columns, one_path(counted)?),
     }
 }

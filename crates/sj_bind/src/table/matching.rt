@@ -109,7 +109,10 @@ fn stands_once(column: &Column, plan: &NamedPlan) -> bool
     ensures { (next : ℕ) → result ≡ each_once (standing (plan_of plan.now)) (children_in next (column_of column.now)) }
 {
     match column {
-        Column::Ordinality(_) | Column::Regular(_) | Column::Formatted(_) => true,
+        Column::Ordinality(_)
+        | Column::Regular(_)
+        | Column::Formatted(_)
+        | Column::Exists(_, _, _) => true,
         Column::Nested(_, None, _) => false,
         Column::Nested(_, Some(name), _) => occurrences(plan, name.as_str()) == 1,
     }

@@ -62,6 +62,7 @@ fn note_column<'a>(column: &'a Column, seen: &mut IndexSet<&'a str>) -> Result<b
         Column::Ordinality(name) => note(name.as_str(), seen),
         Column::Regular(column) => note(column.name.as_str(), seen),
         Column::Formatted(column) => note(column.name.as_str(), seen),
+        Column::Exists(name, _, _) => note(name.as_str(), seen),
         Column::Nested(_, _, columns) => note_columns(columns, seen),
     }
 }
@@ -117,7 +118,10 @@ fn note_nested<'a>(column: &'a Column, seen: &mut IndexSet<&'a str>) -> Result<b
     ensures noted { IfOk result (λ b. b ≡ false → names_of seen.new ≡ names_of seen.old ++ path_names_in (column_of column.now)) }
 {
     match column {
-        Column::Ordinality(_) | Column::Regular(_) | Column::Formatted(_) => Ok(false),
+        Column::Ordinality(_)
+        | Column::Regular(_)
+        | Column::Formatted(_)
+        | Column::Exists(_, _, _) => Ok(false),
         Column::Nested(_, None, columns) => note_paths(columns, seen),
         Column::Nested(_, Some(name), columns) => {
             if note(name.as_str(), seen)? {

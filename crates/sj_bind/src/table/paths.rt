@@ -50,7 +50,10 @@ fn has_unnamed_in(column: &Column) -> bool
     ensures { result ≡ lacks_name_in (column_of column.now) }
 {
     match column {
-        Column::Ordinality(_) | Column::Regular(_) | Column::Formatted(_) => false,
+        Column::Ordinality(_)
+        | Column::Regular(_)
+        | Column::Formatted(_)
+        | Column::Exists(_, _, _) => false,
         Column::Nested(_, name, columns) => name.is_none() || has_unnamed(columns),
     }
 }
@@ -62,7 +65,10 @@ pub fn count_paths_in(column: &Column) -> u32
     ensures { result ≡ length (paths_in (column_of column.now)) }
 {
     match column {
-        Column::Ordinality(_) | Column::Regular(_) | Column::Formatted(_) => 0,
+        Column::Ordinality(_)
+        | Column::Regular(_)
+        | Column::Formatted(_)
+        | Column::Exists(_, _, _) => 0,
         Column::Nested(_, _, columns) => 1 + count_paths(columns),
     }
 }

@@ -139,7 +139,10 @@ fn with_column(
     ensures { IfOk result (λ plans. option_map plan_tree plans ≡ grown_in in_out siblings next (option_map plan_tree below) (column_of column.now)) }
 {
     match column {
-        Column::Ordinality(_) | Column::Regular(_) | Column::Formatted(_) => Ok(below),
+        Column::Ordinality(_)
+        | Column::Regular(_)
+        | Column::Formatted(_)
+        | Column::Exists(_, _, _) => Ok(below),
         Column::Nested(_, _, columns) => {
             let plan = default_plan(alloc, columns, next, in_out, siblings)?;
             beside(alloc, below, plan, siblings)
