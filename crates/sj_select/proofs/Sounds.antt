@@ -55,6 +55,7 @@ module _ (vars : Named) (n : ℕ) where
   filled (b.Ordinality k) h = tt
   filled (b.Regular k path clauses) h = h.2.can_be_given
   filled (b.Formatted k path clauses) h = tt
+  filled (b.Existence k path _) h = tt
 
   filled_all : (cs : List b.ColumnOf) → All (IsSoundColumn vars n) cs → All CanFill (map (with_variables vars) cs)
   filled_all [] h = All-nil CanFill

@@ -3,11 +3,12 @@ use Rattle.std.specs.Prelude.{ℕ, List, map, Option, Some, None, Result, pos}
 use Rattle.sj_base.specs.declared.state.State.{State}
 use Rattle.sj_item.specs.Items.{ItemValue}
 use Rattle.sj_path.specs.Vars.{Named}
+use Rattle.sj_value.specs.declared.clauses.ExistsAction.{ExistsAction}
 use Rattle.sj_value.specs.declared.clauses.QuerySpec.{QuerySpec}
 use Rattle.sj_value.specs.declared.clauses.ValueSpec.{ValueSpec}
 use Rattle.sj_value.specs.declared.value.SqlValue.{SqlValue}
 use Rattle.sj_value.specs.declared.value.SqlValue.TheVariants.{Null, Num}
-use Rattle.sj_func.specs.Functions.{on_item, value_outcome, value_cost, query_outcome, query_cost}
+use Rattle.sj_func.specs.Functions.{on_item, exists_outcome, exists_cost, value_outcome, value_cost, query_outcome, query_cost}
 use Rattle.sj_func.specs.declared.context.Outcome.{Outcome}
 use Rattle.sj_func.specs.declared.context.Outcome.TheVariants.{Value}
 use Rattle.sj_table.specs.Rows.{Row, entry}
@@ -20,11 +21,13 @@ pub data Column : Type 0 where
   ordinality : ℕ → Column
   regular : ℕ → PathWith → ValueSpec → Column
   formatted : ℕ → PathWith → QuerySpec → Column
+  existence : ℕ → PathWith → ExistsAction → Column
 
 abbrev pub with_variables : Named → b.ColumnOf → Column
 with_variables vars (b.Ordinality n) = ordinality n
 with_variables vars (b.Regular n path clauses) = regular n (record { path = path; vars = vars }) clauses
 with_variables vars (b.Formatted n path clauses) = formatted n (record { path = path; vars = vars }) clauses
+with_variables vars (b.Existence n path on_error) = existence n (record { path = path; vars = vars }) on_error
 
 abbrev pub columns_of : b.Table → List Column
 columns_of table = map (with_variables table.vars) table.columns
@@ -45,10 +48,16 @@ abbrev pub formatted_of : PathWith → QuerySpec → Option (ItemValue × ℕ) �
 formatted_of x clauses None = Value Null
 formatted_of x clauses (Some e) = query_outcome clauses x.path.mode (on_item e.0) (trace_of x)
 
+-- JSON_EXISTS on the item
+abbrev pub existence_of : PathWith → ExistsAction → Option (ItemValue × ℕ) → Outcome
+existence_of x _ None = Value Null
+existence_of x on_error (Some e) = exists_outcome on_error x.path.mode (on_item e.0) (trace_of x)
+
 abbrev pub column_outcome : Row → Column → Outcome
 column_outcome row (ordinality n) = ordinality_of (entry n row)
 column_outcome row (regular n x clauses) = regular_of x clauses (entry n row)
 column_outcome row (formatted n x clauses) = formatted_of x clauses (entry n row)
+column_outcome row (existence n x on_error) = existence_of x on_error (entry n row)
 
 -- ---- the steps that it may take
 
@@ -60,10 +69,15 @@ abbrev pub formatted_cost : PathWith → QuerySpec → Option (ItemValue × ℕ)
 formatted_cost x clauses None = 0
 formatted_cost x clauses (Some e) = query_cost clauses.wrapper x.path.mode (on_item e.0) (trace_of x)
 
+abbrev pub existence_cost : PathWith → Option (ItemValue × ℕ) → ℕ
+existence_cost x None = 0
+existence_cost x (Some e) = exists_cost x.path.mode (on_item e.0) (trace_of x)
+
 abbrev pub column_cost : Row → Column → ℕ
 column_cost row (ordinality n) = 0
 column_cost row (regular n x clauses) = regular_cost x (entry n row)
 column_cost row (formatted n x clauses) = formatted_cost x clauses (entry n row)
+column_cost row (existence n x _) = existence_cost x (entry n row)
 
 -- ---- all columns in their order, or the first state
 

@@ -3,10 +3,11 @@ use Rattle.std.specs.Prelude.{◌≡◌, List, Option, Some, None, Result, Ok, E
 use Rattle.sj_base.specs.declared.state.State.{State}
 use Rattle.sj_value.specs.Clauses.{IsValueSpec}
 use Rattle.sj_value.specs.declared.value.SqlValue.{SqlValue}
-use Rattle.sj_select.specs.Columns.{Column, ordinality, regular, formatted}
+use Rattle.sj_select.specs.Columns.{Column, ordinality, regular, formatted, existence}
 use Rattle.sj_select.specs.Operations.{path_with}
 use Rattle.sj_select.specs.declared.columns.Column.{Column as ColumnHeld}
 use Rattle.sj_select.specs.declared.columns.Column.TheVariants as held
+use Rattle.sj_select.specs.declared.columns.ExistsColumn.{ExistsColumn}
 use Rattle.sj_select.specs.declared.columns.FormattedColumn.{FormattedColumn}
 use Rattle.sj_select.specs.declared.columns.RegularColumn.{RegularColumn}
 
@@ -16,17 +17,22 @@ regular_column c = regular c.path (path_with c.call.cursor) c.call.clauses.now
 abbrev pub formatted_column : FormattedColumn → Column
 formatted_column c = formatted c.path (path_with c.call.cursor) c.call.clauses
 
+abbrev pub exists_column : ExistsColumn → Column
+exists_column c = existence c.path (path_with c.call.cursor) c.call.on_error
+
 -- a column without where its cursor stands
 abbrev pub column_of : ColumnHeld → Column
 column_of (held.Ordinality n) = ordinality n
 column_of (held.Regular c) = regular_column c
 column_of (held.Formatted c) = formatted_column c
+column_of (held.Exists c) = exists_column c
 
 -- its clauses can be given
 abbrev pub CanFill : Column → Type 0
 CanFill (ordinality n) = Unit {0}
 CanFill (regular n x clauses) = IsValueSpec clauses
 CanFill (formatted n x clauses) = Unit {0}
+CanFill (existence n x _) = Unit {0}
 
 -- no state was raised and these are the values, or this state was raised
 abbrev pub Gathers : Result (List SqlValue) State → Option State → List SqlValue → Type 0

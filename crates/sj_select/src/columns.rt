@@ -6,9 +6,9 @@ ghost use Rattle.sj_func.specs.Functions.{IsPrinted};
 ghost use Rattle.sj_table.specs.Rows.{entry_value};
 ghost use Rattle.sj_bind.specs.View as bound;
 ghost use Rattle.sj_select.specs.Columns.{column_outcome, column_cost, columns_given, columns_cost, ordinality_of, with_variables};
-ghost use Rattle.sj_select.specs.Filling.{column_of, regular_column, formatted_column, CanFill, Gathers};
+ghost use Rattle.sj_select.specs.Filling.{column_of, regular_column, formatted_column, exists_column, CanFill, Gathers};
 
-use crate::operation::{QueryCall, ValueCall};
+use crate::operation::{ExistsCall, QueryCall, ValueCall};
 use sj_base::{Ledger, Memory, State, Steps};
 use sj_bind::{BoundColumn, BoundTable};
 use sj_cursor::Cursor;
@@ -26,6 +26,7 @@ pub(crate) enum Column<'d> {
     Ordinality(u32),
     Regular(RegularColumn<'d>),
     Formatted(FormattedColumn<'d>),
+    Exists(ExistsColumn<'d>),
 }
 
 impl<'d> Drop for Column<'d> {
@@ -34,6 +35,7 @@ impl<'d> Drop for Column<'d> {
             Column::Ordinality(_) => {}
             Column::Regular(_column) => {}
             Column::Formatted(_column) => {}
+            Column::Exists(_column) => {}
         }
     }
 }
@@ -50,6 +52,13 @@ pub(crate) struct RegularColumn<'d> {
 pub(crate) struct FormattedColumn<'d> {
     pub(crate) path: u32,
     pub(crate) call: QueryCall<'d>,
+}
+
+/// EXISTS: JSON_EXISTS on the items of the path of this number.
+#[derive(Drop)]
+pub(crate) struct ExistsColumn<'d> {
+    pub(crate) path: u32,
+    pub(crate) call: ExistsCall<'d>,
 }
 
 impl<'d> Column<'d> {
@@ -78,6 +87,17 @@ impl<'d> Column<'d> {
                     call,
                 }))
             }
+            BoundColumn::Exists(number, path, on_error) => {
+                let cursor = Cursor::new(alloc, path, vars, Item::Null)?;
+                let call = ExistsCall {
+                    cursor,
+                    on_error: *on_error,
+                };
+                Ok(Column::Exists(ExistsColumn {
+                    path: *number,
+                    call,
+                }))
+            }
         }
     }
 
@@ -98,6 +118,7 @@ impl<'d> Column<'d> {
             Column::Ordinality(path) => Ok(ordinality(row.at(*path))),
             Column::Regular(column) => column.outcome(alloc, row, steps),
             Column::Formatted(column) => column.outcome(alloc, row, steps),
+            Column::Exists(column) => Ok(column.outcome(row, steps)),
         }
     }
 }
@@ -137,6 +158,20 @@ impl<'d> FormattedColumn<'d> {
         match row.at(self.path) {
             Some((item, _)) => self.call.outcome(alloc, Context::Item(item), steps),
             None => Ok(Outcome::Value(SqlValue::Null)),
+        }
+    }
+}
+
+impl<'d> ExistsColumn<'d> {
+    fn outcome<L: Ledger>(&mut self, row: &TableCursor<'d>, steps: &mut Steps<L>) -> Outcome
+        ensures outcome { result ≡ column_outcome row.now.given (exists_column self.old) }
+        ensures printed { IsPrinted result }
+        ensures costs { steps.new ≤ raised steps.old (column_cost row.now.given (exists_column self.old)) }
+        ensures column { exists_column self.new ≡ exists_column self.old }
+    {
+        match row.at(self.path) {
+            Some((item, _)) => self.call.outcome(Context::Item(item), steps),
+            None => Outcome::Value(SqlValue::Null),
         }
     }
 }
