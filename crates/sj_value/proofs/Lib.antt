@@ -1,2 +1,3 @@
 pub mod Rounded
 pub mod Counts
+pub mod Cells

@@ -1,164 +1,113 @@
 // The cast of an item to a type.
-ghost use Rattle.std.specs.Prelude.{◌≡◌, ◌^◌, nat_le, min, length, pos, ◌≤ℤ◌, Ok, IfOk};
+ghost use Rattle.std.specs.Prelude.{◌≡◌, nat_le, min, length, Ok, IfOk};
 ghost use Rattle.std.specs.Str.{chars};
-ghost use Rattle.sj_decimal.specs.Rounding.{rounded, rounded_within};
-ghost use Rattle.sj_json.specs.Numbers.{number_of};
-ghost use Rattle.sj_doc.specs.Listed.{node_tree};
-ghost use Rattle.sj_item.specs.Items.{item_value};
+ghost use Rattle.sj_decimal.specs.Rounding.{rounded_within};
+ghost use Rattle.sj_item.specs.Answers.{IsText};
+ghost use Rattle.sj_item.specs.Items.{item_value, item_tree, made_text};
+ghost use Rattle.sj_item.specs.Scalars.{text_cast};
 ghost use Rattle.sj_value.specs.Types.{AreDigits, IsCastType};
 ghost use Rattle.sj_value.specs.Values.{IsPrintable};
-ghost use Rattle.sj_value.specs.Casts.{text_within, fixed, is_below, whole_below, exact_cast, wide_cast, numeral_cast, word_cast, string_cast, word as word_of, truth_cast, tree_cast, cast_of, GivesCast};
+ghost use Rattle.sj_value.specs.Casts.{given, text_within, fixed, scalar_cast, cast_of, GivesCast};
 
 use crate::refusal::CastRefusal;
 use crate::types::SqlType;
 use crate::value::SqlValue;
 use sj_base::{State, Text};
-use sj_decimal::{Decimal, Parsed};
-use sj_doc::{Kind, NodeRef, Num};
-use sj_item::Item;
+use sj_decimal::Decimal;
+use sj_doc::Kind;
+use sj_item::{Item, kind, to_number, to_text, to_truth, to_whole};
 use std::alloc::Global;
 
 /// An item as a value of a type, by this project's own table of casts, which is not the CAST of ISO/IEC 9075-2.
 ///
 /// A JSON null is NULL for every type, and an array or an object is refused with 2203F. Of the others:
 ///
-/// - VARCHAR is a string as it is, a number by its text, or by its spelling where it is not exact, and a truth value as `true` or
-///   `false`. VARCHAR(n) refuses a text of more than n code points with 22001; none is cut.
-/// - NUMERIC is an exact number, or a string that is a number by RFC 8259, with no white space round it. A number that is not exact
-///   is refused with 22003, in a string too; what is no number with 2203G.
-/// - NUMERIC(p, s) rounds such a number to s decimals, half away from zero, and prints s decimals. INTEGER and BIGINT round it to
-///   a whole number in the same way. More than p digits, or a whole number out of range, is refused with 22003.
+/// - VARCHAR is a string as it is, a number by its text, or by its spelling where it is not exact, and a truth value as
+///   `true` or `false`. VARCHAR(n) refuses a text of more than n code points with 22001; none is cut.
+/// - NUMERIC is an exact number, or a string that is a number by RFC 8259, with no white space round it. A number that is
+///   not exact is refused with 22003, in a string too; what is no number with 2203G.
+/// - NUMERIC(p, s) rounds such a number to s decimals, half away from zero, and prints s decimals. INTEGER and BIGINT
+///   round it to a whole number in the same way. More than p digits, or a whole number out of range, is refused with
+///   22003.
 /// - BOOLEAN is a truth value, or one of the strings `true` and `false`. Anything else is refused with 2203G.
 ///
 /// The value is printable. A text takes its memory once, and nothing else takes any.
 ///
 /// # Errors
 /// `State` exactly where the table refuses the item, with its state, and `Memory` where memory ran out.
-#[tactic(auto, unfolding(crate::specs::Casts::tree_cast))]
 pub fn cast<'d>(alloc: Global, item: Item<'d>, ty: SqlType) -> Result<SqlValue, CastRefusal>
     requires { IsCastType ty }
     ensures value { GivesCast (cast_of (item_value item.entry) ty) result }
     ensures printable { IfOk result IsPrintable }
 {
-    match item {
-        Item::Node(node) => cast_node(alloc, node, ty),
-        Item::Num(number) => cast_exact(alloc, number.value(), ty),
-        Item::Text(text) => cast_string(alloc, text, ty),
-        Item::Short(text) => cast_string(alloc, text.as_str(), ty),
-        Item::Bool(truth) => cast_truth(alloc, truth, ty),
-        Item::Null => Ok(SqlValue::Null),
-        Item::Pair(_) => refused(State::S2203F),
-    }
-}
-
-#[tactic(auto, unfolding(crate::specs::Casts::tree_cast))]
-fn cast_node(alloc: Global, node: NodeRef<'_>, ty: SqlType) -> Result<SqlValue, CastRefusal>
-    requires { IsCastType ty }
-    ensures value { GivesCast (tree_cast (node_tree node.entry) ty) result }
-    ensures printable { IfOk result IsPrintable }
-{
-    match node.kind() {
+    match kind(item) {
         Kind::Null => Ok(SqlValue::Null),
-        Kind::Truth => cast_truth(alloc, node.truth(), ty),
-        Kind::Number => match node.number() {
-            Num::Exact(number) => cast_exact(alloc, number, ty),
-            Num::Wide(spelling) => cast_wide(alloc, spelling, ty),
-        },
-        Kind::String => cast_string(alloc, node.text(), ty),
-        Kind::Array | Kind::Object => refused(State::S2203F),
+        _ => cast_scalar(alloc, item, ty),
     }
 }
 
-#[tactic(auto, unfolding(crate::specs::Casts::truth_cast))]
-fn cast_truth(alloc: Global, truth: bool, ty: SqlType) -> Result<SqlValue, CastRefusal>
-    ensures value { GivesCast (truth_cast truth ty) result }
-    ensures printable { IfOk result IsPrintable }
-{
-    match ty {
-        SqlType::Varchar => text_value(alloc, word(truth)),
-        SqlType::VarcharMax(n) => limited_text(alloc, word(truth), n),
-        SqlType::Boolean => Ok(SqlValue::Bool(truth)),
-        SqlType::Numeric | SqlType::NumericFixed(_, _) | SqlType::Integer | SqlType::Bigint => {
-            refused(State::S2203G)
-        }
-    }
-}
-
-#[tactic(auto, unfolding(crate::specs::Casts::string_cast))]
-fn cast_string(alloc: Global, string: &str, ty: SqlType) -> Result<SqlValue, CastRefusal>
+#[tactic(auto, unfolding(crate::specs::Casts::scalar_cast))]
+fn cast_scalar(alloc: Global, item: Item<'_>, ty: SqlType) -> Result<SqlValue, CastRefusal>
     requires { IsCastType ty }
-    ensures value { GivesCast (string_cast string.now ty) result }
+    ensures value { GivesCast (scalar_cast (item_tree (item_value item.entry)) ty) result }
     ensures printable { IfOk result IsPrintable }
 {
     match ty {
-        SqlType::Varchar => text_value(alloc, string),
-        SqlType::VarcharMax(n) => limited_text(alloc, string, n),
-        SqlType::Boolean => cast_word(string),
-        SqlType::Numeric | SqlType::NumericFixed(_, _) | SqlType::Integer | SqlType::Bigint => {
-            cast_numeral(alloc, string, ty)
-        }
+        SqlType::Varchar => any_text(alloc, item),
+        SqlType::VarcharMax(n) => limited_text(alloc, item, n),
+        SqlType::Numeric => plain_number(to_number(item)),
+        SqlType::NumericFixed(p, s) => fixed_number(to_number(item), p, s),
+        SqlType::Integer => plain_number(to_whole(item, -(1 << 31), (1 << 31) - 1)),
+        SqlType::Bigint => plain_number(to_whole(item, -(1 << 63), (1 << 63) - 1)),
+        SqlType::Boolean => truth_value(to_truth(item)),
     }
 }
 
-// A string as the number that it spells.
-fn cast_numeral(alloc: Global, string: &str, ty: SqlType) -> Result<SqlValue, CastRefusal>
-    requires { IsCastType ty }
-    ensures value { GivesCast (numeral_cast (number_of string.now) ty) result }
+fn any_text(alloc: Global, item: Item<'_>) -> Result<SqlValue, CastRefusal>
+    ensures value { GivesCast (given (λ s. Ok (SqlValue.Text s)) (text_cast (item_tree (item_value item.entry)))) result }
     ensures printable { IfOk result IsPrintable }
 {
-    match Decimal::parse(string.as_bytes()) {
-        Parsed::Exact(number) => cast_exact(alloc, number, ty),
-        Parsed::Wide => cast_wide(alloc, string, ty),
-        Parsed::NotNumber => refused(State::S2203G),
+    match to_text(item) {
+        Ok(text) => text_value(alloc, text_of(&text)),
+        Err(state) => refused(state),
     }
 }
 
-fn cast_word(string: &str) -> Result<SqlValue, CastRefusal>
-    ensures value { GivesCast (word_cast string.now) result }
+// A text of at most n characters.
+fn limited_text(alloc: Global, item: Item<'_>, n: u32) -> Result<SqlValue, CastRefusal>
+    ensures value { GivesCast (given (text_within n) (text_cast (item_tree (item_value item.entry)))) result }
     ensures printable { IfOk result IsPrintable }
 {
-    match string {
-        "true" => Ok(SqlValue::Bool(true)),
-        "false" => Ok(SqlValue::Bool(false)),
-        _ => refused(State::S2203G),
+    match to_text(item) {
+        Ok(text) => short_text(alloc, text_of(&text), n),
+        Err(state) => refused(state),
     }
 }
 
-#[tactic(auto, unfolding(crate::specs::Casts::exact_cast))]
-fn cast_exact(alloc: Global, number: Decimal, ty: SqlType) -> Result<SqlValue, CastRefusal>
-    requires { IsCastType ty }
-    ensures value { GivesCast (exact_cast number ty) result }
+// A number that prints its plain text.
+fn plain_number(cell: Result<Decimal, State>) -> Result<SqlValue, CastRefusal>
+    ensures value { GivesCast (given (λ d. Ok (SqlValue.Num d 0)) cell) result }
     ensures printable { IfOk result IsPrintable }
 {
-    match ty {
-        SqlType::Varchar => text_value(alloc, number.text().as_str()),
-        SqlType::VarcharMax(n) => limited_text(alloc, number.text().as_str(), n),
-        SqlType::Numeric => Ok(SqlValue::Num(number, 0)),
-        SqlType::NumericFixed(p, s) => fixed_number(number, p, s),
-        SqlType::Integer => whole_number(number, 1 << 31),
-        SqlType::Bigint => whole_number(number, 1 << 63),
-        SqlType::Boolean => refused(State::S2203G),
+    match cell {
+        Ok(number) => Ok(SqlValue::Num(number, 0)),
+        Err(state) => refused(state),
     }
 }
 
-// A number that is not exact, by its spelling.
-#[tactic(auto, unfolding(crate::specs::Casts::wide_cast))]
-fn cast_wide(alloc: Global, spelling: &str, ty: SqlType) -> Result<SqlValue, CastRefusal>
-    ensures value { GivesCast (wide_cast spelling.now ty) result }
+// A number rounded to s decimals, which it prints.
+fn fixed_number(cell: Result<Decimal, State>, p: u32, s: u32) -> Result<SqlValue, CastRefusal>
+    requires { AreDigits p s }
+    ensures value { GivesCast (given (λ d. fixed s (rounded_within p s d)) cell) result }
     ensures printable { IfOk result IsPrintable }
 {
-    match ty {
-        SqlType::Varchar => text_value(alloc, spelling),
-        SqlType::VarcharMax(n) => limited_text(alloc, spelling, n),
-        SqlType::Boolean => refused(State::S2203G),
-        SqlType::Numeric | SqlType::NumericFixed(_, _) | SqlType::Integer | SqlType::Bigint => {
-            refused(State::S22003)
-        }
+    match cell {
+        Ok(number) => rounded_number(number, p, s),
+        Err(state) => refused(state),
     }
 }
 
-// The number rounded to s decimals, which it prints.
-fn fixed_number(number: Decimal, p: u32, s: u32) -> Result<SqlValue, CastRefusal>
+fn rounded_number(number: Decimal, p: u32, s: u32) -> Result<SqlValue, CastRefusal>
     requires { AreDigits p s }
     ensures value { GivesCast (fixed s (rounded_within p s number)) result }
     ensures printable { IfOk result IsPrintable }
@@ -169,30 +118,26 @@ fn fixed_number(number: Decimal, p: u32, s: u32) -> Result<SqlValue, CastRefusal
     }
 }
 
-// The number rounded to a whole one, from -end to end - 1.
-fn whole_number(number: Decimal, end: i128) -> Result<SqlValue, CastRefusal>
-    requires positive { pos 0 ≤ℤ end }
-    requires small { end ≤ℤ pos (2 ^ 63) }
-    ensures value { GivesCast (whole_below end (rounded 0 number)) result }
+fn truth_value(cell: Result<bool, State>) -> Result<SqlValue, CastRefusal>
+    ensures value { GivesCast (given (λ b. Ok (SqlValue.Bool b)) cell) result }
     ensures printable { IfOk result IsPrintable }
 {
-    let Ok(whole) = number.round_to(38, 0) else {
-        return refused(State::S22003);
-    };
-    if !lies_below(whole, end) {
-        return refused(State::S22003);
+    match cell {
+        Ok(truth) => Ok(SqlValue::Bool(truth)),
+        Err(state) => refused(state),
     }
-    Ok(SqlValue::Num(whole, 0))
 }
 
-// Whether a whole number lies from -end to end - 1.
-fn lies_below(number: Decimal, end: i128) -> bool
-    requires positive { pos 0 ≤ℤ end }
-    requires small { end ≤ℤ pos (2 ^ 63) }
-    ensures { result ≡ is_below end number.0 }
+// The text that an item holds as a text.
+fn text_of<'a>(text: &'a Item<'_>) -> &'a str
+    requires { IsText text.now }
+    ensures { item_value text.now ≡ made_text result.now }
 {
-    let (value, _) = number.parts();
-    value >= -end && value < end
+    match text {
+        Item::Text(text) => text,
+        Item::Short(text) => text.as_str(),
+        _ => unreachable!(),
+    }
 }
 
 fn text_value(alloc: Global, text: &str) -> Result<SqlValue, CastRefusal>
@@ -202,8 +147,7 @@ fn text_value(alloc: Global, text: &str) -> Result<SqlValue, CastRefusal>
     Ok(SqlValue::Text(Text::from_str(alloc, text)?))
 }
 
-// A text of at most n characters.
-fn limited_text(alloc: Global, text: &str, n: u32) -> Result<SqlValue, CastRefusal>
+fn short_text(alloc: Global, text: &str, n: u32) -> Result<SqlValue, CastRefusal>
     ensures value { GivesCast (text_within n text.now) result }
     ensures printable { IfOk result IsPrintable }
 {
@@ -226,12 +170,6 @@ fn char_count(text: &str, most: usize) -> usize
     ensures { result ≡ min most (length (chars text.now)) }
 {
     text.chars().take(most).count()
-}
-
-fn word(truth: bool) -> &'static str
-    ensures { result.now ≡ word_of truth }
-{
-    if truth { "true" } else { "false" }
 }
 
 fn refused(state: State) -> Result<SqlValue, CastRefusal>

@@ -1,6 +1,6 @@
 use Rattle.std.proofs.Common.{sym, ◌∙◌}
 use Rattle.sj_value.proofs.Rounded.{rounded_prints}
-use Rattle.sj_value.proofs.casts.fixed_number.Goals as goal
+use Rattle.sj_value.proofs.casts.rounded_number.Goals as goal
 
 pub returns-in-Ok-clause-printable : goal.returns-in-Ok-clause-printable
 returns-in-Ok-clause-printable c some =
