@@ -5,6 +5,7 @@ pub mod Items
 pub mod Coding
 pub mod Pairs
 pub mod Comparands
+pub mod Bounds
 pub mod Scalars
 pub mod Operands
 pub mod Answers

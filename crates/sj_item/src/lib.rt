@@ -13,6 +13,7 @@
 //! take no memory. The types of RETURNING and the item methods of SQL:2023 read this table and no other.
 #![tactic(auto)]
 
+mod bounds;
 mod casts;
 mod comparison;
 mod held;
@@ -20,6 +21,7 @@ mod item;
 mod texts;
 mod truth;
 
+pub use bounds::{BIGINT_HIGH, BIGINT_LOW, INTEGER_HIGH, INTEGER_LOW};
 pub use casts::{to_number, to_text, to_truth, to_whole};
 pub use comparison::{compare, starts_with};
 pub use held::{Exact, ShortText};
