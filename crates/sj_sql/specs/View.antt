@@ -94,6 +94,7 @@ abbrev mutual
   column_of (c.Ordinality name) = t.Ordinality name
   column_of (c.Regular x) = t.Regular (regular_of x)
   column_of (c.Formatted x) = t.Formatted (formatted_of x)
+  column_of (c.Exists name path action) = t.Existence name (path_of path) action
   column_of (c.Nested' path name a columns) = t.Nested (path_of path) name (columns_of columns)
 
   pub columns_of : Columns → t.Columns Path

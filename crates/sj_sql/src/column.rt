@@ -15,7 +15,8 @@ use crate::optional::{name_of_path, value_action};
 use crate::passing::put;
 use crate::path::{column_path, nested_path, path};
 use crate::phrase::{
-    encoding_clause, formatted_type, query_clause, quotes_clause, type_name, wrapper,
+    encoding_clause, existence_type, exists_clause, formatted_type, query_clause, quotes_clause,
+    type_name, wrapper,
 };
 use crate::refusal::Refusal;
 use crate::seq::Seq;
@@ -24,7 +25,7 @@ use crate::tree::{Column, Columns, FormattedColumn, RegularColumn};
 use sj_base::{Memory, Text};
 use sj_sql_token::Keyword;
 use sj_statement::{Encoding, Quotes};
-use sj_value::{QueryAction, Wrapper};
+use sj_value::{ExistsAction, QueryAction, Wrapper};
 use std::alloc::Global;
 
 /// A column that is JSON_VALUE, behind its name.
@@ -81,6 +82,21 @@ fn formatted(
     Ok((Column::Formatted(column), faults, rest))
 }
 
+/// A column that is JSON_EXISTS, behind its name and BOOLEAN EXISTS.
+#[tactic(auto, unfolding(sj_statement::specs::Reading::existence_from))]
+fn existence(
+    alloc: Global,
+    name: Text,
+    faults: Faults,
+    tokens: Tokens<'_>,
+) -> Result<(Column, Faults, Tokens<'_>), Refusal>
+    ensures { Gives (λ x. (column_of x.0, faults_of x.1, x.2.now)) result (reading.existence_from parsing name (faults_of faults) tokens.now) }
+{
+    let (path, faults, rest) = column_path(alloc, &name, faults, tokens)?;
+    let (on_error, rest) = exists_clause(rest).unwrap_or((ExistsAction::False, rest));
+    Ok((Column::Exists(name, path, on_error), faults, rest))
+}
+
 /// A column, behind its name.
 #[tactic(auto, unfolding(sj_statement::specs::Reading::named_column_at))]
 fn named_column(
@@ -95,8 +111,11 @@ fn named_column(
         let rest = word(Keyword::Ordinality, rest).ok_or(Refusal::Syntax)?;
         return Ok((Column::Ordinality(name), faults, rest));
     }
-    match formatted_type(tokens) {
-        Some(rest) => formatted(alloc, name, faults, rest),
+    if let Some(rest) = formatted_type(tokens) {
+        return formatted(alloc, name, faults, rest);
+    }
+    match existence_type(tokens) {
+        Some(rest) => existence(alloc, name, faults, rest),
         None => regular(alloc, name, faults, tokens),
     }
 }

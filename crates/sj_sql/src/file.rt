@@ -85,12 +85,23 @@ pub struct FileFault {
 }
 
 /// What a file is read as.
-#[derive(Drop)]
+///
+/// Its `drop` is written out, so that whoever holds one gives it up by one call, and not part by part at each place
+/// where the holder may return early.
 pub struct Script {
     /// All statements, or those before the first that is refused.
     pub statements: Statements,
     /// Why that one is refused.
     pub fault: Option<FileFault>,
+}
+
+impl Drop for Script {
+    fn drop(self) {
+        let Script {
+            statements: _statements,
+            fault: _fault,
+        } = self;
+    }
 }
 
 /// What stands at the front of a file.

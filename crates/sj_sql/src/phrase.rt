@@ -248,3 +248,12 @@ pub fn formatted_type(tokens: Tokens<'_>) -> Option<Tokens<'_>>
     let rest = word(Keyword::Format, rest)?;
     word(Keyword::Json, rest)
 }
+
+/// What follows BOOLEAN EXISTS, if it stands first.
+#[tactic(auto, unfolding(sj_statement::specs::Phrases::existence_at))]
+pub fn existence_type(tokens: Tokens<'_>) -> Option<Tokens<'_>>
+    ensures { option_copied result ≡ phrase.existence_at tokens.now }
+{
+    let rest = word(Keyword::Boolean, tokens)?;
+    word(Keyword::Exists, rest)
+}

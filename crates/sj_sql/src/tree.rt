@@ -194,6 +194,8 @@ pub enum Column {
     Regular(RegularColumn),
     /// FORMAT JSON.
     Formatted(FormattedColumn),
+    /// EXISTS: whether the path has an item; the column's name, the path, what an error gives.
+    Exists(Text, Path, ExistsAction),
     /// NESTED: the path, its name and its columns.
     Nested(Path, Option<Text>, Box<Columns>),
 }
