@@ -2,6 +2,7 @@ pub mod Docs
 pub mod Made
 pub mod Builders
 pub mod Listing
+mod Searching
 pub mod Distinct
 pub mod Stops
 pub mod Ups

@@ -2,6 +2,8 @@ pub mod Nodes
 pub mod Kinds
 pub mod Builders
 pub mod Children
+pub mod Keyed
+pub mod Spots
 pub mod Listed
 pub mod Numbers
 pub mod Slots

@@ -1,7 +1,10 @@
 // The children of a node, one after another.
-ghost use Rattle.std.specs.Prelude.{◌≡◌, [], ◌∷◌, MatchOption, is_some, if◌then◌else◌};
+ghost use Rattle.std.specs.Prelude.{◌≡◌, ◌-◌, [], ◌∷◌, length, true, Some, MatchOption, is_some, option_map, if◌then◌else◌};
 ghost use Rattle.sj_base.specs.Outside.{raised};
-ghost use Rattle.sj_doc.specs.Listed.{member_of};
+ghost use Rattle.sj_doc.specs.Children.{children_left, IsChildren};
+ghost use Rattle.sj_doc.specs.Keyed.{is_key, from_key};
+ghost use Rattle.sj_doc.specs.Spots.{spots_left, Finds};
+ghost use Rattle.sj_doc.specs.Listed.{member_of, node_id, node_tree};
 
 use crate::doc::{Doc, Member, NodeRef, text_at};
 use sj_base::{Ledger, Steps};
@@ -32,6 +35,59 @@ impl<'d> Model for Children<'d> {
     ghost invariant = { λ a. IsChildren a.doc.now a.at a.left };
 }
 
+// Where a child under a key is, and the children behind it.
+#[derive(Clone, Copy, Drop)]
+struct Spot {
+    child: u32,
+    next: u32,
+    left: u32,
+}
+
+// Whether two texts have one length and one last byte.
+#[inline(always)]
+fn ends_alike(a: &[u8], b: &[u8]) -> bool
+    ensures { a.now ≡ b.now → result ≡ true }
+{
+    a.len() == b.len() && (a.is_empty() || a[a.len() - 1] == b[b.len() - 1])
+}
+
+// Whether a name is the key.
+#[inline(always)]
+fn is_named(name: Option<&str>, key: &str) -> bool
+    ensures { result ≡ is_key key.now (option_map (λ s. s.now) name.entry) }
+{
+    match name {
+        // Most names that are not the key have another length or another last byte.
+        Some(name) => ends_alike(name.as_bytes(), key.as_bytes()) && name == key,
+        None => false,
+    }
+}
+
+// The first child under the key among those that are left from a place on. Its place stays in registers.
+#[inline(always)]
+fn find<L: Ledger>(doc: &Doc, from: u32, left: u32, key: &str, steps: &mut Steps<L>) -> Option<Spot>
+    requires { IsChildren doc.now from left }
+    ensures spot { MatchOption result (from_key key.now (children_left doc.now from left) ≡ []) (Finds doc.now from left key.now) }
+    ensures step { steps.new ≡ raised steps.old (left - spots_left result) }
+{
+    let mut next = from;
+    let mut rest = left;
+    'children: while rest > 0 {
+        let child = next;
+        next = doc.end_of(child);
+        rest -= 1;
+        steps.tick();
+        if is_named(doc.key_at(child), key) {
+            return Some(Spot {
+                child,
+                next,
+                left: rest,
+            });
+        }
+    }
+    None
+}
+
 impl<'d> Children<'d> {
     /// The next child. `None` comes exactly at the end. The counter rises by one where a child is given,
     /// and stays as it is at the end.
@@ -45,6 +101,28 @@ impl<'d> Children<'d> {
                 Some(child)
             }
             None => None,
+        }
+    }
+
+    /// The next child under the key. Those before it are passed over. `None` comes exactly where no child that
+    /// is left is under the key, and then none is left. The counter rises by one for each child that is passed
+    /// over or given.
+    #[inline]
+    pub fn next_under<L: Ledger>(&mut self, key: &str, steps: &mut Steps<L>) -> Option<NodeRef<'d>>
+        ensures child { MatchOption result ((from_key key.now self.old ≡ []) × (self.new ≡ []))
+            (λ n. from_key key.now self.old ≡ (Some key.now, node_id n, node_tree n) ∷ self.new) }
+        ensures step { steps.new ≡ raised steps.old (length self.old - length self.new) }
+    {
+        match find(self.doc, self.at, self.left, key, steps) {
+            Some(spot) => {
+                self.at = spot.next;
+                self.left = spot.left;
+                Some(self.doc.node_at(spot.child))
+            }
+            None => {
+                self.left = 0;
+                None
+            }
         }
     }
 

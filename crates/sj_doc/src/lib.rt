@@ -9,8 +9,8 @@
 //! left, and a `DocBuilder` as the containers that are open. The words over a `NodeRef` are in
 //! `specs/Listed.antt`: `node_tree`, `node_id` and `member_of`.
 //!
-//! `Children::next` and `Tour::next` alone hand out the children of a node, and raise the counter by one
-//! for each.
+//! `Children::next`, `Children::next_under` and `Tour::next` alone hand out the children of a node, and raise
+//! the counter by one for each.
 #![tactic(auto)]
 
 mod builder;

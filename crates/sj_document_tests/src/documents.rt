@@ -31,7 +31,13 @@ fn builds_and_walks(rt: HostRuntime) -> Result<(), Fail> {
     let element = second.node.children().next(&mut steps).ok_or("no element")?;
     assert_eq!(rt; element.node.kind(), Kind::Truth);
     assert!(rt; doc.root().tour().next(&mut steps).is_some());
-    assert_eq!(rt; steps.ledger().count(), 3);
+    let mut under = doc.root().children();
+    let found = under
+        .next_under("a", &mut steps)
+        .ok_or("no member under the key")?;
+    assert_eq!(rt; found.id(), 1);
+    assert!(rt; under.next_under("b", &mut steps).is_none());
+    assert_eq!(rt; steps.ledger().count(), 5);
     assert_eq!(rt; doc.recycle().wants(), Want::Value);
     Ok(())
 }
