@@ -24,8 +24,8 @@ use std::alloc::Global;
 ///
 /// - VARCHAR is a string as it is, a number by its text, or by its spelling where it is not exact, and a truth value as
 ///   `true` or `false`. VARCHAR(n) refuses a text of more than n code points with 22001; none is cut.
-/// - NUMERIC is an exact number, or a string that is a number by RFC 8259, with no white space round it. A number that is
-///   not exact is refused with 22003, in a string too; what is no number with 2203G.
+/// - NUMERIC is an exact number, or a string that is a number by RFC 8259, with no white space round it. A number that
+///   is not exact is refused with 22003, in a string too; what is no number with 2203G.
 /// - NUMERIC(p, s) rounds such a number to s decimals, half away from zero, and prints s decimals. INTEGER and BIGINT
 ///   round it to a whole number in the same way. More than p digits, or a whole number out of range, is refused with
 ///   22003.
