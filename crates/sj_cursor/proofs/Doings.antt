@@ -1,28 +1,28 @@
 -- What is done with the opened items of an expression is the meaning of the whole.
-use Rattle.std.proofs.Common.{◌≡◌, ℕ, ◌+◌, ◌≤◌, ap, sym, ◌∙◌, refl, arith}
+use Rattle.std.specs.Prelude.{if◌then◌else◌}
+use Rattle.std.proofs.Common.{◌≡◌, ℕ, Bool, true, false, ◌+◌, ◌≤◌, ap, sym, ◌∙◌, refl, arith}
 use Rattle.sj_grammar.specs.Tree as t
 use Rattle.sj_grammar.specs.declared.tree.Method.{Method}
-use Rattle.sj_grammar.specs.declared.tree.Method.TheVariants as methods
 use Rattle.sj_item.specs.Items.{ItemValue}
 use Rattle.sj_path.specs.Nodes.{expr_nodes, sub_nodes, subs_nodes}
 use Rattle.sj_step.specs.Trace.{Trace, each, only}
+use Rattle.sj_step.specs.Reach.{spread}
 use Rattle.sj_step.proofs.Traces.{each-only}
 use Rattle.sj_method.specs.Methods.{method_of}
-use Rattle.sj_cursor.specs.Meaning.{Env, meaning}
+use Rattle.sj_cursor.specs.Meaning.{Env, takes_arrays, meaning}
 use Rattle.sj_cursor.specs.Left.{Doing, Acts, Keeps, Picks, doing_on, doing_opening, doing_nodes, done, operand_whole}
 use Rattle.sj_cursor.specs.declared.cells.Act.TheVariants as acts
-use Rattle.sj_cursor.specs.declared.cells.Opening.TheVariants.{AsItIs}
+use Rattle.sj_cursor.specs.declared.cells.Opening.TheVariants.{AsItIs, Unwrapped}
 
 pub as_it_is : (e : t.Expr) (env : Env) → operand_whole AsItIs e env ≡ meaning e env
 as_it_is e env = each-only (meaning e env)
 
+input_is : (as_it_stands : Bool) (e : t.Expr) (env : Env) → operand_whole (if as_it_stands then AsItIs else Unwrapped) e env ≡ (if as_it_stands then meaning e env else spread env.mode (meaning e env))
+input_is true e env = as_it_is e env
+input_is false e env = refl
+
 method_is : (m : Method) (e : t.Expr) (env : Env) → each (operand_whole (doing_opening (Acts (acts.Method m))) e env) (done (Acts (acts.Method m)) env) ≡ meaning (t.Access e (t.Call m)) env
-method_is methods.TypeOf e env = ap (λ u. each u (method_of methods.TypeOf)) (as_it_is e env)
-method_is methods.Size e env = ap (λ u. each u (method_of methods.Size)) (as_it_is e env)
-method_is methods.Ceiling e env = refl
-method_is methods.Floor e env = refl
-method_is methods.Abs e env = refl
-method_is methods.KeyValue e env = refl
+method_is m e env = ap (λ u. each u (method_of m)) (input_is (takes_arrays m) e env)
 
 pub doing_is : (d : Doing) (e : t.Expr) (env : Env) → each (operand_whole (doing_opening d) e env) (done d env) ≡ meaning (doing_on d e) env
 doing_is (Acts (acts.Member key)) e env = refl

@@ -4,7 +4,6 @@ use Rattle.sj_base.specs.declared.state.State.TheVariants.{S22039}
 use Rattle.sj_grammar.specs.declared.tree.Mode.{Mode}
 use Rattle.sj_grammar.specs.declared.tree.Mode.TheVariants.{Lax, Strict}
 use Rattle.sj_grammar.specs.declared.tree.Method.{Method}
-use Rattle.sj_grammar.specs.declared.tree.Method.TheVariants as methods
 use Rattle.sj_grammar.specs.Tree as t
 use Rattle.sj_item.specs.Items.{ItemValue, item_value, made_number}
 use Rattle.sj_item.specs.Truths.{truth_of}
@@ -18,7 +17,7 @@ use Rattle.sj_step.specs.Reach.{reach, by_key, all_members, all_elements, unwrap
 use Rattle.sj_step.specs.Walk.{walk_left}
 use Rattle.sj_method.specs.Methods.{method_of, sign_of}
 use Rattle.sj_method.specs.Pairs.{pairs_left}
-use Rattle.sj_cursor.specs.Meaning.{Env, at_item, at_last, literal_value, variable, where_array, meaning, parts, part, verdict}
+use Rattle.sj_cursor.specs.Meaning.{Env, at_item, at_last, literal_value, variable, takes_arrays, where_array, meaning, parts, part, verdict}
 use Rattle.sj_cursor.specs.Verdicts.{filtered}
 use Rattle.sj_cursor.specs.Rows.{ItemTruth}
 use Rattle.sj_cursor.specs.declared.env.Env.{Env as EnvHeld}
@@ -86,12 +85,7 @@ acted acts.Minus mode x = sign_of true x
 acted (acts.Method m) mode x = method_of m x
 
 abbrev pub method_opening : Method → Opening
-method_opening methods.TypeOf = AsItIs
-method_opening methods.Size = AsItIs
-method_opening methods.Ceiling = Unwrapped
-method_opening methods.Floor = Unwrapped
-method_opening methods.Abs = Unwrapped
-method_opening methods.KeyValue = Unwrapped
+method_opening m = if takes_arrays m then AsItIs else Unwrapped
 
 abbrev pub act_opening : Act → Opening
 act_opening (acts.Member key) = Unwrapped

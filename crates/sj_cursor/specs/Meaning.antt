@@ -1,5 +1,5 @@
 -- What a path means on an item: the whole trace of it (ISO/IEC 9075-2, SQL/JSON path language).
-use Rattle.std.specs.Prelude.{ℕ, List, Option, Some, None, option_map, find, ℤ, pos, true, false}
+use Rattle.std.specs.Prelude.{ℕ, Bool, true, false, if◌then◌else◌, List, Option, Some, None, option_map, find, ℤ, pos}
 use Rattle.std.specs.Str.{bytes_eq}
 use Rattle.sj_base.specs.declared.state.State.TheVariants.{S22039}
 use Rattle.sj_grammar.specs.declared.tree.Mode.{Mode}
@@ -62,13 +62,13 @@ initial_value env (initials.Lit s) = made_text s
 initial_value env (initials.Var name) = variable env name
 
 -- the methods `type` and `size` take an array as it is
+abbrev pub takes_arrays : Method → Bool
+takes_arrays methods.TypeOf = true
+takes_arrays methods.Size = true
+takes_arrays _ = false
+
 abbrev pub method_input : Method → Mode → Trace → Trace
-method_input methods.TypeOf mode t = t
-method_input methods.Size mode t = t
-method_input methods.Ceiling mode t = spread mode t
-method_input methods.Floor mode t = spread mode t
-method_input methods.Abs mode t = spread mode t
-method_input methods.KeyValue mode t = spread mode t
+method_input m mode t = if takes_arrays m then t else spread mode t
 
 -- in strict mode an item that is no array is refused before any subscript is evaluated
 abbrev pub where_array : Option ℤ → (ℤ → Trace) → Trace

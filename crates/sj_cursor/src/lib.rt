@@ -3,7 +3,8 @@
 //! `specs/Meaning.antt` says which trace a path has (ISO/IEC 9075-2, SQL/JSON path language): its items in order, how it
 //! ends, and which children of nodes are handed out on the way. `specs/Verdicts.antt` and `specs/Comparisons.antt` say what
 //! predicates are, and what finding their truth may take; `specs/Single.antt` and `specs/Numbers.antt` what operands and
-//! subscripts are.
+//! subscripts are. `specs/FaultFree.antt` says which paths cannot have a fault, by their form alone, and the law
+//! [`fault_free_paths_end_well`] that each of them ends well on every item.
 //!
 //! A [`Cursor`] has a cell for each part of its path, made in `Cursor::new`, which takes all memory. A cell asks the cells
 //! below it for one item at a time and holds where it stands, and no list. `specs/Left.antt` says which expression a cell is
