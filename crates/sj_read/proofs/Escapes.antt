@@ -1,12 +1,13 @@
 -- Escapes, as the code reads them.
-use Rattle.std.proofs.Common.{◌≡◌, ℕ, zero, suc, ◌+◌, ◌*◌, ◌^◌, ◌<◌, ◌≤◌, List, ◌++◌, length, drop, get_or, Bool, true, false, cond, ◌==◌, Option, Some, None, IfSome, option_map, refl, ap, ◌∙◌, subst, arith, pow-suc}
+use Rattle.std.proofs.Common.{◌≡◌, ℕ, zero, suc, ◌+◌, ◌-◌, ◌*◌, ◌^◌, ◌<◌, ◌≤◌, List, ◌++◌, length, drop, get_or, Bool, true, false, cond, ◌==◌, Option, Some, None, IfSome, option_map, refl, sym, ap, ◌∙◌, subst, arith, pow-suc}
 use Rattle.std.specs.Char.{encode_utf8, digit_value, is_digit}
 use Rattle.std.proofs.lemmas.List.{drop_all}
 use Rattle.std.proofs.lemmas.Bool.Decides.{nat_tests}
 use Rattle.sj_json.specs.Building.{State}
 use Rattle.sj_json.specs.Strings.{letter_char}
 use Rattle.sj_json.specs.Machine.{Escape, begun, unit, high, second, Step, wait, char, unit_step, escape_step, after_step, escaped, quoted, run}
-use Rattle.sj_read.proofs.Steps.{goes, stops}
+use Rattle.sj_read.specs.Strings.{FindsEscape}
+use Rattle.sj_read.proofs.Steps.{goes, stops, cond_no}
 
 pub few_digits : (n v : ℕ) → n < 4 → v < 16 ^ n → v < 4096
 few_digits zero v l h = omega (arith, h)
@@ -71,3 +72,23 @@ module _ (text : List ℕ) (at : ℕ) (e : Escape) (h : at < length text) where
 pub escape_cut : (text : List ℕ) (at : ℕ) (e : Escape) → length text ≤ at → (limit : ℕ) (k : Bool) (x : List ℕ) (s : State) → run limit (escaped k x e) s (drop at text) ≡ None
 unfolding run
 escape_cut text at e h limit k x s = ap (run limit (escaped k x e) s) (drop_all at text h)
+
+-- ---- an escape of one letter
+
+not_u : (x : Bool) (b c : ℕ) → (b == 117) ≡ x → letter_char b ≡ Some c → (b == 117) ≡ false
+not_u false b c e f = e
+not_u true b c e f = let none : Some c ≡ None = sym f ∙ ap letter_char (Rattle.std.proofs.lemmas.Bool.eqb-true b 117 e) in cc
+
+letter_step : (b c : ℕ) → letter_char b ≡ Some c → escape_step begun b ≡ Some (char c)
+letter_step b c e = cond_no (b == 117) _ _ (not_u (b == 117) b c refl e) ∙ ap (option_map char) e
+
+pub letter_escape : (text : List ℕ) (from c : ℕ) → from < length text → letter_char (get_or text from 0) ≡ Some c → FindsEscape text from c (from + 1)
+letter_escape text from c h e =
+    let is = letter_step (get_or text from 0) c e in
+    let place : from ≡ from + 1 - 1 = omega arith in
+    record {
+      reads = escape_ends text from begun h c is;
+      later = omega arith;
+      within = omega (arith, h);
+      ascii = subst (λ (i : ℕ). get_or text i 0 < 128) place (step_byte begun (get_or text from 0) (char c) is);
+    }

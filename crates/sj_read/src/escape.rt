@@ -159,8 +159,24 @@ impl Escape {
     }
 }
 
-// The character of the escape that goes on at `from`, behind its backslash, and the place behind it.
+// The character of the escape that goes on at `from`, behind its backslash, and the place behind it. Most escapes
+// are one letter, which is looked at first.
+#[inline(always)]
 pub(crate) fn escaped_char(bytes: &[u8], from: usize) -> Option<(char, usize)>
+    requires { from ≤ length bytes.now }
+    ensures { MatchOption result (NoEscape bytes.now from) (λ r. FindsEscape bytes.now from r.0 r.1) }
+{
+    if from < bytes.len() {
+        if let Some(c) = letter_char(bytes[from]) {
+            return Some((c, from + 1));
+        }
+    }
+    long_escape(bytes, from)
+}
+
+// The same, byte by byte.
+#[inline(never)]
+fn long_escape(bytes: &[u8], from: usize) -> Option<(char, usize)>
     requires { from ≤ length bytes.now }
     ensures { MatchOption result (NoEscape bytes.now from) (λ r. FindsEscape bytes.now from r.0 r.1) }
 {

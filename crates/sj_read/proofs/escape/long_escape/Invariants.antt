@@ -2,7 +2,7 @@ use Rattle.std.proofs.Common.{◌≡◌, ℕ, List, Bool, drop}
 use Rattle.sj_json.specs.Building.{State}
 use Rattle.sj_json.specs.Machine.{run, escaped, begun}
 use Rattle.sj_read.specs.Strings.{escape_of, IsEscape}
-use Rattle.sj_read.proofs.escape.escaped_char.Given as goal
+use Rattle.sj_read.proofs.escape.long_escape.Given as goal
 
 abbrev pub invariant-loop-at : goal.invariant-loop-at
 invariant-loop-at l = record {
