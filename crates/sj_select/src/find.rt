@@ -94,12 +94,15 @@ fn literal_outcome(alloc: Global, literal: &Literal) -> Result<Outcome, Memory>
     ensures is { IfOk result (λ o. o ≡ meaning.literal_outcome literal.now) }
     ensures printed { IfOk result IsPrinted }
 {
-    Ok(Outcome::Value(match literal {
-        Literal::Text(text) => SqlValue::Text(Text::from_str(alloc, text.as_str())?),
-        Literal::Num(number) => SqlValue::Num(*number, 0),
-        Literal::Bool(truth) => SqlValue::Bool(*truth),
-        Literal::Null => SqlValue::Null,
-    }))
+    match literal {
+        Literal::Text(text) => {
+            let text = Text::from_str(alloc, text.as_str())?;
+            Ok(Outcome::Value(SqlValue::Text(text)))
+        }
+        Literal::Num(number) => Ok(Outcome::Value(SqlValue::Num(*number, 0))),
+        Literal::Bool(truth) => Ok(Outcome::Value(SqlValue::Bool(*truth))),
+        Literal::Null => Ok(Outcome::Value(SqlValue::Null)),
+    }
 }
 
 // The value of the column of this number, or NULL where there is none.
