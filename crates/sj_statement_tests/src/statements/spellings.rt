@@ -309,18 +309,3 @@ SELECT a, 1, JSON_OBJECT('k' VALUE JSON_ARRAY(a)) FROM JSON_TABLE(doc, '$' COLUM
 ! SELECT a, 1, JSON_OBJECT('k' VALUE JSON_ARRAY(a NULL ON NULL)) FROM JSON_TABLE(doc, '$' COLUMNS (a INT));
 ! SELECT a, 1, JSON_OBJECT('k' VALUE JSON_ARRAY(a) WITH UNIQUE KEYS) FROM JSON_TABLE(doc, '$' COLUMNS (a INT));
 "##;
-
-// Pairs with one tree, with white space and comments between the tokens.
-pub(super) const COMMENTED: [(&str, &str); 5] = [
-    ("SELECT 1;", "\tSELECT\r\n1\n\n;\r"),
-    ("SELECT 2;", "SELECT --1\n2;"),
-    (
-        "SELECT 1, 2;",
-        "--a\nSELECT--'\n1--\r\n,--;\n2-- \"\n;--end",
-    ),
-    ("SELECT '--', 1;", "SELECT '--' -- '--'\n, 1;\n--"),
-    (
-        "SELECT * FROM JSON_TABLE(doc, '$' COLUMNS (a INT));",
-        "SELECT--\n*--\nFROM--\nJSON_TABLE--\n(--\ndoc--\n,--\n'$'--\nCOLUMNS--\n(--\na--\nINT--\n)--\n)--\n;--",
-    ),
-];
