@@ -165,7 +165,7 @@ fn gives_items_and_ends(rt: HostRuntime) -> Result<(), Fail> {
             None => doc = read(rt.alloc(), line.as_bytes())?,
         }
     }
-    assert_eq!(rt; paths, 232);
+    assert_eq!(rt; paths, 375);
     Ok(())
 }
 

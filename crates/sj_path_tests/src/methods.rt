@@ -36,6 +36,12 @@ fn outcome<'d>(name: &str, item: Item<'d>) -> Result<Result<Item<'d>, State>, Fa
         ("ceiling", Method::Ceiling),
         ("floor", Method::Floor),
         ("abs", Method::Abs),
+        ("bigint", Method::Bigint),
+        ("boolean", Method::Boolean),
+        ("decimal", Method::Decimal),
+        ("integer", Method::Integer),
+        ("number", Method::Number),
+        ("string", Method::Text),
     ] {
         if method_name == name {
             return applied(method, item);
@@ -78,13 +84,106 @@ fn expect_applied(
     Ok(())
 }
 
+/// The methods that cast, on items of every kind.
+const CAST: &str = r#"bigint null => 2203G
+boolean null => 2203G
+decimal null => 2203G
+integer null => 2203G
+number null => 2203G
+string null => 2203G
+bigint true => 2203G
+boolean true => true
+decimal true => 2203G
+integer true => 2203G
+number true => 2203G
+string true => true
+bigint false => 2203G
+boolean false => false
+decimal false => 2203G
+integer false => 2203G
+number false => 2203G
+string false => false
+bigint 2.5 => 3
+boolean 2.5 => 2203G
+decimal 2.5 => 2.5
+integer 2.5 => 3
+number 2.5 => 2.5
+string 2.5 => 2.5
+bigint -2.5 => -3
+boolean -2.5 => 2203G
+decimal -2.5 => -2.5
+integer -2.5 => -3
+number -2.5 => -2.5
+string -2.5 => -2.5
+bigint 3000000000 => 3000000000
+boolean 3000000000 => 2203G
+decimal 3000000000 => 3000000000
+integer 3000000000 => 22003
+number 3000000000 => 3000000000
+string 3000000000 => 3000000000
+bigint 9223372036854775808 => 22003
+boolean 9223372036854775808 => 2203G
+decimal 9223372036854775808 => 9223372036854775808
+integer 9223372036854775808 => 22003
+number 9223372036854775808 => 9223372036854775808
+string 9223372036854775808 => 9223372036854775808
+bigint 1e400 => 22003
+boolean 1e400 => 2203G
+decimal 1e400 => 22003
+integer 1e400 => 22003
+number 1e400 => 22003
+string 1e400 => 1e400
+bigint "12.5" => 13
+boolean "12.5" => 2203G
+decimal "12.5" => 12.5
+integer "12.5" => 13
+number "12.5" => 12.5
+string "12.5" => 12.5
+bigint "1e400" => 22003
+boolean "1e400" => 2203G
+decimal "1e400" => 22003
+integer "1e400" => 22003
+number "1e400" => 22003
+string "1e400" => 1e400
+bigint "true" => 2203G
+boolean "true" => true
+decimal "true" => 2203G
+integer "true" => 2203G
+number "true" => 2203G
+string "true" => true
+bigint "x" => 2203G
+boolean "x" => 2203G
+decimal "x" => 2203G
+integer "x" => 2203G
+number "x" => 2203G
+string "x" => x
+bigint [1] => 2203F
+boolean [1] => 2203F
+decimal [1] => 2203F
+integer [1] => 2203F
+number [1] => 2203F
+string [1] => 2203F
+bigint {"a":1} => 2203F
+boolean {"a":1} => 2203F
+decimal {"a":1} => 2203F
+integer {"a":1} => 2203F
+number {"a":1} => 2203F
+string {"a":1} => 2203F"#;
+
+// A line of a name, an item and the answer.
+fn expect_line(rt: &impl Abort, alloc: Global, line: &str) -> Result<(), Fail> {
+    let (call, want) = sides(line)?;
+    let (name, text) = call.split_once(' ').ok_or("no item")?;
+    let doc = read(alloc, text.as_bytes())?;
+    expect_applied(rt, alloc, name, &doc, want)
+}
+
 #[test]
 fn applies_methods_and_signs(rt: HostRuntime) -> Result<(), Fail> {
-    for line in APPLIED.lines() {
-        let (call, want) = sides(line)?;
-        let (name, text) = call.split_once(' ').ok_or("no item")?;
-        let doc = read(rt.alloc(), text.as_bytes())?;
-        expect_applied(&rt, rt.alloc(), name, &doc, want)?;
+    for lines in [APPLIED, CAST] {
+        for line in lines.lines() {
+            expect_line(&rt, rt.alloc(), line)?;
+        }
     }
     Ok(())
 }

@@ -17,6 +17,12 @@ fn method(m: Method) -> &'static str {
         Method::Floor => "floor",
         Method::Abs => "abs",
         Method::KeyValue => "keyvalue",
+        Method::Bigint => "bigint",
+        Method::Boolean => "boolean",
+        Method::Decimal => "decimal",
+        Method::Integer => "integer",
+        Method::Number => "number",
+        Method::Text => "string",
     }
 }
 
@@ -282,6 +288,39 @@ fn examples(rt: HostRuntime) -> Result<(), Fail> {
             "$ ? (@ like_regex \"a\" flag \"i\").double()",
             "unsupported like_regex",
         ),
+    ] {
+        expect_shown(&rt, rt.alloc(), text, answer)?;
+    }
+    Ok(())
+}
+
+#[test]
+fn methods_that_cast(rt: HostRuntime) -> Result<(), Fail> {
+    for (text, answer) in [
+        (
+            "$.bigint().boolean().decimal().integer().number().string()",
+            "$.bigint().boolean().decimal().integer().number().string()",
+        ),
+        (
+            "$.bigint.boolean.decimal.integer.number.string",
+            "$.\"bigint\".\"boolean\".\"decimal\".\"integer\".\"number\".\"string\"",
+        ),
+        (
+            "strict $.string.string ( ) + $.number()",
+            "strict ($.\"string\".string() + $.number())",
+        ),
+        ("-$[*].integer()", "(-$[*].integer())"),
+        (
+            "$ ? (@.string() starts with \"a\")",
+            "$?(@.string() starts with \"a\")",
+        ),
+        ("$.a.text()", SYNTAX),
+        ("$.string(1)", SYNTAX),
+        ("$.number(", SYNTAX),
+        ("$.decimal(5, 2)", SYNTAX),
+        ("$.Integer()", SYNTAX),
+        ("$.int()", SYNTAX),
+        ("string()", SYNTAX),
     ] {
         expect_shown(&rt, rt.alloc(), text, answer)?;
     }
