@@ -3,7 +3,8 @@ mod statements;
 mod tables;
 
 use super::cases::expect;
-use sj_bind::{BindRefusal, Bound, bind};
+use sj_bind::{BindRefusal, Bound, BoundColumn, BoundTable, bind};
+use sj_path::nodes;
 use sj_sql::parse_file;
 use sj_value::Plan;
 use statements::{FEWER_BROKEN, STATEMENTS};
@@ -96,6 +97,37 @@ fn the_first_rule_that_a_text_breaks_is_named(rt: HostRuntime) -> Result<(), Fai
         }
     }
     Ok(())
+}
+
+/// The columns of a table that tell whether a path has an item, each with the number of its path, the nodes of its own path and what
+/// an error gives.
+fn existences(alloc: Global, table: &BoundTable) -> Result<String, AllocError> {
+    let mut all = String::new(alloc);
+    for column in table.columns.as_slice() {
+        if let BoundColumn::Exists(path, own, on_error) = column {
+            let shown = format!(in alloc; "{path} {} {on_error:?}; ", nodes(own))?;
+            all.push_str(shown.as_str())?;
+        }
+    }
+    Ok(all)
+}
+
+const EXISTENCES: &str =
+    "SELECT * FROM JSON_TABLE(doc, '$' COLUMNS (a BOOLEAN EXISTS, n INT, NESTED '$' COLUMNS (b BOOLEAN EXISTS PATH '$.b.c' ERROR ON ERROR)));";
+
+#[test]
+fn columns_that_tell_of_an_item(rt: HostRuntime) -> Result<(), Fail> {
+    match bound(rt.alloc(), EXISTENCES)? {
+        Ok(bound) => match &bound.table {
+            Some(table) => {
+                let found = existences(rt.alloc(), table)?;
+                expect(&rt, found.as_str(), "0 3 False; 1 5 Error; ", EXISTENCES);
+                Ok(())
+            }
+            None => Err(Fail::from("no table")),
+        },
+        Err(_) => Err(Fail::from("refused")),
+    }
 }
 
 #[test]
@@ -201,6 +233,8 @@ fn limits_of_statements(rt: HostRuntime) -> Result<(), Fail> {
         ("SELECT JSON_ARRAY(1", items, 2000, ");", "accepted"),
         (one, columns, 999, "));", "accepted"),
         (one, columns, 1000, "));", many),
+        (one, (", c", " BOOLEAN EXISTS"), 999, "));", "accepted"),
+        (one, (", c", " BOOLEAN EXISTS"), 1000, "));", many),
         (nested, columns, 998, ")));", "accepted"),
         (nested, columns, 999, ")));", many),
         (one, paths, 63, "));", "accepted"),

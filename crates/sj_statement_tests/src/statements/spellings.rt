@@ -1,7 +1,24 @@
 // Groups of statements. A line with `=` in front has the tree of the statement at the head of its group, and one with `!` has
 // another.
 
-pub(super) const SPELLINGS: &str = r##"SELECT 1;
+pub(super) const SPELLINGS: &str =
+    r##"SELECT * FROM JSON_TABLE(doc, '$' COLUMNS (a BOOLEAN EXISTS));
+= select * from json_table(doc, '$' columns (a boolean exists path '$.a'));
+= SELECT * FROM JSON_TABLE(doc, '$' COLUMNS ("a" BOOLEAN EXISTS PATH 'lax $."a"' FALSE ON ERROR));
+= SELECT * FROM JSON_TABLE(doc, '$' COLUMNS (a BOOLEAN EXISTS FALSE ON ERROR));
+! SELECT * FROM JSON_TABLE(doc, '$' COLUMNS (a BOOLEAN));
+! SELECT * FROM JSON_TABLE(doc, '$' COLUMNS (a BOOLEAN PATH '$.a'));
+! SELECT * FROM JSON_TABLE(doc, '$' COLUMNS (A BOOLEAN EXISTS));
+! SELECT * FROM JSON_TABLE(doc, '$' COLUMNS (A BOOLEAN EXISTS PATH '$.a'));
+! SELECT * FROM JSON_TABLE(doc, '$' COLUMNS (a BOOLEAN EXISTS PATH '$.b'));
+! SELECT * FROM JSON_TABLE(doc, '$' COLUMNS (a BOOLEAN EXISTS PATH 'strict $.a'));
+! SELECT * FROM JSON_TABLE(doc, '$' COLUMNS (a BOOLEAN EXISTS TRUE ON ERROR));
+! SELECT * FROM JSON_TABLE(doc, '$' COLUMNS (a BOOLEAN EXISTS UNKNOWN ON ERROR));
+! SELECT * FROM JSON_TABLE(doc, '$' COLUMNS (a BOOLEAN EXISTS ERROR ON ERROR));
+! SELECT * FROM JSON_TABLE(doc, '$' COLUMNS (a BOOLEAN EXISTS, b BOOLEAN EXISTS));
+! SELECT * FROM JSON_TABLE(doc, '$' COLUMNS (a FOR ORDINALITY));
+
+SELECT 1;
 = select 1 ;
 = SeLeCt  1;
 = SELECT +1;
