@@ -274,6 +274,35 @@ SELECT * FROM JSON_TABLE(doc,'lax $.g[*]' COLUMNS (i FOR ORDINALITY, NESTED PATH
 SELECT JSON_ARRAYAGG(v) FROM JSON_TABLE(doc,'lax $.g[*]' COLUMNS (i FOR ORDINALITY, NESTED PATH 'lax $.e[*].abs()' COLUMNS (v INTEGER PATH 'lax $')) ERROR ON ERROR); => 22036
 SELECT i, v FROM JSON_TABLE(doc,'lax $.g[*]' COLUMNS (i FOR ORDINALITY, v INTEGER PATH 'lax $.e[0]' ERROR ON ERROR)); => |1:0|1:0|2203G
 
+{"g":[{"a":null},{"b":1}]}
+SELECT * FROM JSON_TABLE(doc,'lax $.g[*]' COLUMNS (o FOR ORDINALITY, h BOOLEAN EXISTS PATH 'lax $.a', a BOOLEAN EXISTS)); => |1:0|TRUE|TRUE||2:0|FALSE|FALSE|
+SELECT * FROM JSON_TABLE(doc,'lax $.g[*]' COLUMNS (o FOR ORDINALITY, h BOOLEAN EXISTS PATH 'strict $.a' ERROR ON ERROR)); => |1:0|TRUE|2203A
+SELECT * FROM JSON_TABLE(doc,'lax $.g[*]' COLUMNS (n BOOLEAN EXISTS PATH 'strict $.a', f BOOLEAN EXISTS PATH 'strict $.a' FALSE ON ERROR, t BOOLEAN EXISTS PATH 'strict $.a' TRUE ON ERROR, u BOOLEAN EXISTS PATH 'strict $.a' UNKNOWN ON ERROR) ERROR ON ERROR); => |TRUE|TRUE|TRUE|TRUE||FALSE|FALSE|TRUE|NULL|
+SELECT exists, 'k' FROM JSON_TABLE(doc,'lax $.g[*]' COLUMNS (exists BOOLEAN EXISTS PATH '$.b')); => |FALSE|'k'||TRUE|'k'|
+SELECT JSON_ARRAYAGG(a), JSON_OBJECTAGG('k' : a) FROM JSON_TABLE(doc,'lax $.g[*]' COLUMNS (a BOOLEAN EXISTS)); => |[true,false]|{"k":true,"k":false}|
+SELECT JSON_ARRAY(a), JSON_OBJECT('k' : a) FROM JSON_TABLE(doc,'lax $.g[*]' COLUMNS (a BOOLEAN EXISTS)); => |[true]|{"k":true}||[false]|{"k":false}|
+SELECT a FROM JSON_TABLE(doc,'lax $.g[*] ? (exists(@.c))' COLUMNS (a BOOLEAN EXISTS ERROR ON ERROR)); =>
+
+{"p":[{"n":1,"x":[5]},{"n":2,"x":[]},{"n":3,"x":[7,8]}]}
+SELECT * FROM JSON_TABLE(doc,'lax $.p[*]' COLUMNS (n INTEGER, NESTED 'lax $.x[*]' COLUMNS (e BOOLEAN EXISTS PATH 'lax $ ? (@ > 5)'))); => |1:0|FALSE||2:0|NULL||3:0|TRUE||3:0|TRUE|
+SELECT * FROM JSON_TABLE(doc,'lax $.p[*]' COLUMNS (n INTEGER, NESTED 'lax $.x[*]' COLUMNS (e BOOLEAN EXISTS PATH 'strict $.y' ERROR ON ERROR))); => 2203C
+SELECT e FROM JSON_TABLE(doc,'lax $.p[*] ? (@.n == 2)' COLUMNS (NESTED 'lax $.x[*]' COLUMNS (e BOOLEAN EXISTS PATH 'strict $.y' ERROR ON ERROR))); => |NULL|
+
+{"a":
+SELECT e FROM JSON_TABLE(doc,'lax $' COLUMNS (e BOOLEAN EXISTS)); =>
+SELECT e FROM JSON_TABLE(doc,'lax $' COLUMNS (e BOOLEAN EXISTS) ERROR ON ERROR); => 22032
+
+{"a":"12.5","b":2.5,"c":true,"d":null,"e":"x","f":[1,2],"w":1e400,"h":3000000000}
+SELECT JSON_VALUE(doc,'$.a.number() + 1' ERROR ON ERROR), JSON_VALUE(doc,'$.b.integer()' ERROR ON ERROR), JSON_VALUE(doc,'$.b.string().type()' ERROR ON ERROR) ; => |'13.5'|'3'|'string'|
+SELECT JSON_VALUE(doc,'$.c.string()' ERROR ON ERROR), JSON_VALUE(doc,'$.w.string()' ERROR ON ERROR), JSON_VALUE(doc,'$.h.bigint()' ERROR ON ERROR); => |'true'|'1e400'|'3000000000'|
+SELECT JSON_VALUE(doc,'$.d.string()' ERROR ON ERROR); => 2203G
+SELECT JSON_VALUE(doc,'$.e.number()' ERROR ON ERROR); => 2203G
+SELECT JSON_VALUE(doc,'$.b.boolean()' ERROR ON ERROR); => 2203G
+SELECT JSON_VALUE(doc,'$.w.number()' ERROR ON ERROR); => 22003
+SELECT JSON_VALUE(doc,'$.h.integer()' ERROR ON ERROR); => 22003
+SELECT JSON_VALUE(doc,'strict $.f.number()' ERROR ON ERROR); => 2203F
+SELECT JSON_QUERY(doc,'lax $.f.string()' WITH WRAPPER); => |["1","2"]|
+
 {"a":
 SELECT a FROM JSON_TABLE(doc,'lax $' COLUMNS (a VARCHAR)); =>
 SELECT a FROM JSON_TABLE(doc,'lax $' COLUMNS (a VARCHAR) ERROR ON ERROR); => 22032
@@ -307,7 +336,7 @@ fn gives_the_row_of_a_statement(rt: HostRuntime) -> Result<(), Fail> {
 
 #[test]
 fn gives_the_rows_of_a_table(rt: HostRuntime) -> Result<(), Fail> {
-    assert_eq!(rt; try_groups(&rt, rt.alloc(), TABLE_ROWS)?, 25);
+    assert_eq!(rt; try_groups(&rt, rt.alloc(), TABLE_ROWS)?, 46);
     Ok(())
 }
 
