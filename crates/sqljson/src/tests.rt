@@ -463,7 +463,7 @@ fn checked(alloc: Global, file: &[u8]) -> Result<Vec<u8>, Fail> {
 #[test]
 fn checked_files(rt: HostRuntime) -> Result<(), Fail> {
     let alloc = rt.alloc();
-    let cases: [(&[u8], &str); 26] = [
+    let cases: [(&[u8], &str); 28] = [
         (b"", "accepted 0\n"),
         (
             b"SELECT JSON_OBJECT('a' VALUE 1, 'b' VALUE NULL), JSON_ARRAY(1, NULL, 'x', TRUE), JSON_OBJECT(KEY 'k' VALUE JSON_ARRAY(1.50)); SELECT JSON_OBJECT('a' : 1, 'a' : 2 WITH UNIQUE KEYS); SELECT JSON_OBJECT(JSON_VALUE(doc,'$.none') VALUE 1);",
@@ -552,6 +552,14 @@ fn checked_files(rt: HostRuntime) -> Result<(), Fail> {
             "accepted 1\n",
         ),
         (
+            b"SELECT JSON_EXISTS(doc,'$.a.text()');",
+            "statement 1: path: syntax error\n",
+        ),
+        (
+            b"SELECT * FROM JSON_TABLE(doc,'$' COLUMNS (a INTEGER EXISTS));",
+            "statement 1: syntax error\n",
+        ),
+        (
             b"SELECT JSON_EXISTS(doc FORMAT JSON ENCODING UTF16, '$');",
             "statement 1: unsupported encoding\n",
         ),
@@ -601,8 +609,8 @@ fn nested(alloc: Global, depth: usize) -> Result<Vec<u8>, Fail> {
 #[test]
 fn json_at_its_limits(rt: HostRuntime) -> Result<(), Fail> {
     for (depth, row) in [
-        (512, b"1\t1\tR\tTRUE\n".as_slice()),
-        (513, b"1\t1\tR\tFALSE\n"),
+        (100_000, b"1\t1\tR\tTRUE\n".as_slice()),
+        (100_001, b"1\t1\tR\tFALSE\n"),
     ] {
         let line = nested(rt.alloc(), depth)?;
         expect_row(&rt, rt.alloc(), b"SELECT doc IS JSON ARRAY;", &line, row)?;
@@ -617,6 +625,22 @@ fn json_at_its_limits(rt: HostRuntime) -> Result<(), Fail> {
     }
     Ok(())
 }
+
+// The deepest line is printed as it is.
+#[test]
+fn prints_a_deep_line(rt: HostRuntime) -> Result<(), Fail> {
+    let line = nested(rt.alloc(), 100_000)?;
+    let mut row = Vec::from_slice(rt.alloc(), b"1\t1\tR\tTRUE\t")?;
+    row.extend_from_slice(line.as_slice())?;
+    row.push(b'\n')?;
+    let setup = Setup {
+        room: 1_000_000,
+        ..plain(DEEP, &line, 0)
+    };
+    expect_ending(&rt, rt.alloc(), &setup, (Status::Done, &row, b""))
+}
+
+const DEEP: &[u8] = b"SELECT JSON_EXISTS(doc,'lax $[0][0]'), JSON_QUERY(doc,'lax $');";
 
 // Blank lines at the limit of a line and one byte past it.
 #[test]
