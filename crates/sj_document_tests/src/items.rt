@@ -1,8 +1,10 @@
 // Examples of comparisons, kinds and sizes.
+use sj_base::State;
 use sj_decimal::Decimal;
 use sj_doc::{Doc, Kind};
 use sj_item::{
     Compare, Exact, Item, Pair, PairValue, ShortText, Truth, compare, kind, size, starts_with,
+    to_number, to_text, to_truth, to_whole,
 };
 use sj_read::read;
 use std::alloc::Global;
@@ -135,6 +137,84 @@ fn holds_made_values(rt: HostRuntime) -> Result<(), Fail> {
         Truth::True
     );
     Ok(())
+}
+
+// Documents, each with its casts to a number, to a whole number from -99 to 99, to a truth value and to a text.
+const CASTS: &str = r#"null => 2203G 2203G 2203G 2203G
+true => 2203G 2203G true true
+false => 2203G 2203G false false
+2.5 => 2.5 3 2203G 2.5
+-2.5 => -2.5 -3 2203G -2.5
+99.4 => 99.4 99 2203G 99.4
+99.5 => 99.5 22003 2203G 99.5
+-99 => -99 -99 2203G -99
+-99.5 => -99.5 22003 2203G -99.5
+1e400 => 22003 22003 2203G 1e400
+"2.5" => 2.5 3 2203G 2.5
+"100" => 100 22003 2203G 100
+"1e400" => 22003 22003 2203G 1e400
+"01" => 2203G 2203G 2203G 01
+"true" => 2203G 2203G true true
+"false" => 2203G 2203G false false
+"True" => 2203G 2203G 2203G True
+"x" => 2203G 2203G 2203G x
+[1] => 2203F 2203F 2203F 2203F
+{} => 2203F 2203F 2203F 2203F"#;
+
+fn number_shown(alloc: Global, cast: Result<Decimal, State>) -> Result<String, Fail> {
+    match cast {
+        Ok(number) => Ok(String::from_str(alloc, number.text().as_str())?),
+        Err(state) => Ok(String::from_str(alloc, state.code())?),
+    }
+}
+
+fn truth_shown(cast: Result<bool, State>) -> &'static str {
+    match cast {
+        Ok(true) => "true",
+        Ok(false) => "false",
+        Err(state) => state.code(),
+    }
+}
+
+fn text_shown(alloc: Global, cast: Result<Item<'_>, State>) -> Result<String, Fail> {
+    match cast {
+        Ok(Item::Text(text)) => Ok(String::from_str(alloc, text)?),
+        Ok(Item::Short(text)) => Ok(String::from_str(alloc, text.as_str())?),
+        Ok(_) => Err("no text")?,
+        Err(state) => Ok(String::from_str(alloc, state.code())?),
+    }
+}
+
+// The four casts of an item, between spaces.
+fn casts_of(alloc: Global, item: Item<'_>) -> Result<String, Fail> {
+    let number = number_shown(alloc, to_number(item))?;
+    let whole = number_shown(alloc, to_whole(item, -99, 99))?;
+    let text = text_shown(alloc, to_text(item))?;
+    let truth = truth_shown(to_truth(item));
+    Ok(format!(in alloc; "{number} {whole} {truth} {text}")?)
+}
+
+fn expect_casts(rt: &impl Abort, alloc: Global, item: Item<'_>, want: &str) -> Result<(), Fail> {
+    let casts = casts_of(alloc, item)?;
+    assert_eq!(rt; casts.as_str(), want);
+    Ok(())
+}
+
+#[test]
+fn casts(rt: HostRuntime) -> Result<(), Fail> {
+    for line in CASTS.lines() {
+        let (text, want) = line.split_once(" => ").ok_or("no arrow")?;
+        let doc = read(rt.alloc(), text.as_bytes())?;
+        expect_casts(&rt, rt.alloc(), Item::Node(doc.root()), want)?;
+        expect_casts(&rt, rt.alloc(), made(&doc), want)?;
+    }
+    Ok(())
+}
+
+#[test]
+fn casts_a_short_text(rt: HostRuntime) -> Result<(), Fail> {
+    let short = Item::Short(ShortText::new("12.5"));
+    expect_casts(&rt, rt.alloc(), short, "12.5 13 2203G 12.5")
 }
 
 #[test]
