@@ -50,7 +50,8 @@ fn push_answer(answer: Pull<'_>, out: &mut Bytes) -> Result<(), Fail> {
     Ok(())
 }
 
-// The answers of a cursor up to its end, but at most so many, and the steps that they took. An end comes again without a step.
+// The answers of a cursor up to its end, but at most so many, and the steps that they took. An end comes again without
+// a step.
 fn trail(
     rt: &impl Abort,
     alloc: Global,

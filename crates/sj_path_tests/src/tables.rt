@@ -203,8 +203,8 @@ fn second_rows<'d>(
     push_rows(text, cursor, count, &mut steps)
 }
 
-// Appends the rows on the first document to one text and those on the second one to another, and says how many steps the first
-// ones took.
+// Appends the rows on the first document to one text and those on the second one to another, and says how many steps
+// the first ones took.
 fn rows_on<'d>(
     alloc: Global,
     plan: &'d Plan,
@@ -261,7 +261,8 @@ fn expect_rows(
     expect_rows_on(rt, alloc, &plan, &paths, on_error, docs, wanted)
 }
 
-// A line has a shape, what an error gives and paths, and behind the arrow the rows and the most steps that they may take.
+// A line has a shape, what an error gives and paths, and behind the arrow the rows and the most steps that they may
+// take.
 fn expect_line(rt: &impl Abort, alloc: Global, line: &str, docs: (&Doc, &Doc)) -> Result<(), Fail> {
     let (table, wanted) = sides(line)?;
     let (words, texts) = table.split_once(" ; ").ok_or("no path")?;

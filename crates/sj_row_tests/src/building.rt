@@ -18,7 +18,8 @@ fn price(alloc: Global, text: &str) -> Result<SqlValue, Fail> {
     }
 }
 
-/// A word as a value: NULL, a truth value, a text behind an apostrophe, a JSON text behind a colon, or a number that is to print two decimals.
+/// A word as a value: NULL, a truth value, a text behind an apostrophe, a JSON text behind a colon, or a number that is
+/// to print two decimals.
 fn value(alloc: Global, word: &str) -> Result<SqlValue, Fail> {
     if let Some(text) = word.strip_prefix('\'') {
         return Ok(SqlValue::Text(Text::from_str(alloc, text)?));

@@ -127,8 +127,8 @@ fn push_end(
     Ok(())
 }
 
-/// The rows that are left, each with its values between bars, and the end behind them. An end comes again, with no row and without a
-/// step.
+/// The rows that are left, each with its values between bars, and the end behind them. An end comes again, with no row
+/// and without a step.
 fn shown(rt: &impl Abort, alloc: Global, rows: &mut RowsOf<'_>) -> Result<String, Fail> {
     let mut out = String::new(alloc);
     let mut steps = Steps::new(Tally::new());

@@ -1,4 +1,5 @@
-//! The rules that a statement keeps, and the plan of its table over the numbers of its paths, from statements that are read from texts.
+//! The rules that a statement keeps, and the plan of its table over the numbers of its paths, from statements that are
+//! read from texts.
 mod statements;
 mod tables;
 
@@ -99,8 +100,8 @@ fn the_first_rule_that_a_text_breaks_is_named(rt: HostRuntime) -> Result<(), Fai
     Ok(())
 }
 
-/// The columns of a table that tell whether a path has an item, each with the number of its path, the nodes of its own path and what
-/// an error gives.
+/// The columns of a table that tell whether a path has an item, each with the number of its path, the nodes of its own
+/// path and what an error gives.
 fn existences(alloc: Global, table: &BoundTable) -> Result<String, AllocError> {
     let mut all = String::new(alloc);
     for column in table.columns.as_slice() {

@@ -49,7 +49,8 @@ fn sequences(rt: HostRuntime) -> Result<(), Fail> {
     Ok(())
 }
 
-/// What a file is read as, briefly: how many statements are taken, and then maybe the number of the next and why it is refused.
+/// What a file is read as, briefly: how many statements are taken, and then maybe the number of the next and why it is
+/// refused.
 fn answer_of(alloc: Global, file: &[u8]) -> Result<String, Fail> {
     if file.len() > 1_048_576 {
         return Err(Fail::from("too long"));

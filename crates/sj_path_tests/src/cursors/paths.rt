@@ -1,9 +1,10 @@
-// Paths over small documents. Behind a document stand its paths, each with what it gives: the items, the end, and how many steps it
-// takes to get there. Where the modes differ, strict mode stands behind the semicolon. $n is 5, $p is "An", $t is true.
+// Paths over small documents. Behind a document stand its paths, each with what it gives: the items, the end, and how
+// many steps it takes to get there. Where the modes differ, strict mode stands behind the semicolon. $n is 5, $p is
+// "An", $t is true.
 //
-// The answers were worked out by hand. A member accessor takes a step for each member of its object, `[*]`, unwrapping and
-// `keyvalue()` one for each child, and a subscript one for each element up to the last that it reaches; what stands on the right
-// of a comparison is gone through once for each item on the left, and once where there is none.
+// The answers were worked out by hand. A member accessor takes a step for each member of its object, `[*]`, unwrapping
+// and `keyvalue()` one for each child, and a subscript one for each element up to the last that it reaches; what stands
+// on the right of a comparison is gone through once for each item on the left, and once where there is none.
 
 pub(super) const PATHS: &str = r##"
 {"a":[{"b":1},[{"b":2}],{"c":3}]}

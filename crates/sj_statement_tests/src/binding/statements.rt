@@ -1,5 +1,5 @@
-// Statements, with what is said of them above them. Behind the statements that break one rule alone stand some that break the
-// next rule too, as a rule further on in the text or before it.
+// Statements, with what is said of them above them. Behind the statements that break one rule alone stand some that
+// break the next rule too, as a rule further on in the text or before it.
 
 pub(super) const STATEMENTS: &str = r##"accepted
 SELECT 1;

@@ -283,7 +283,8 @@ SELECT * FROM JSON_TABLE(doc, '$' COLUMNS (a INT) PLAN DEFAULT (OUTER UNION));
 SELECT * FROM JSON_TABLE(doc, '$' COLUMNS (a INT) PLAN DEFAULT (OUTER, UNION, INNER));
 "##;
 
-/// Groups of refused statements, each under its kind. Most have a fault of a later kind too, before that one or behind it.
+/// Groups of refused statements, each under its kind. Most have a fault of a later kind too, before that one or behind
+/// it.
 pub(super) const REFUSED: &str = r##"lexical error
 SELECT SELECT #;
 

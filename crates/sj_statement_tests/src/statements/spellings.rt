@@ -1,5 +1,5 @@
-// Groups of statements. A line with `=` in front has the tree of the statement at the head of its group, and one with `!` has
-// another.
+// Groups of statements. A line with `=` in front has the tree of the statement at the head of its group, and one with
+// `!` has another.
 
 pub(super) const SPELLINGS: &str =
     r##"SELECT * FROM JSON_TABLE(doc, '$' COLUMNS (a BOOLEAN EXISTS));

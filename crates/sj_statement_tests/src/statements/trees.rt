@@ -19,7 +19,8 @@ fn statement_of(alloc: Global, file: &str) -> Result<Option<Statement>, Fail> {
     Ok(script.statements.take_first())
 }
 
-/// `=` where two files of one statement have one tree, and `!` where they do not. There is no other answer where one of them is refused.
+/// `=` where two files of one statement have one tree, and `!` where they do not. There is no other answer where one of
+/// them is refused.
 fn is_same(alloc: Global, first: &str, second: &str) -> Result<&'static str, Fail> {
     let Some(first) = statement_of(alloc, first)? else {
         return Ok("refused");
