@@ -1,12 +1,14 @@
 // A document is built, walked and built anew.
-use sj_base::{Steps, Tally};
+use sj_base::{Memory, Steps, Tally};
 use sj_decimal::Decimal;
-use sj_doc::{DocBuilder, Kind, Num, Want};
+use sj_doc::{Doc, DocBuilder, Kind, Num, Want};
+use std::alloc::Global;
+use std::process::Abort;
 use std::test::Fail;
 
-#[test]
-fn builds_and_walks(rt: HostRuntime) -> Result<(), Fail> {
-    let mut builder = DocBuilder::new(rt.alloc());
+// {"a":"x","a":[true,null]}
+fn built(rt: &impl Abort, alloc: Global) -> Result<Doc, Memory> {
+    let mut builder = DocBuilder::new(alloc);
     builder.open_object()?;
     assert_eq!(rt; builder.wants(), Want::KeyOrClose);
     builder.key("a")?;
@@ -18,8 +20,10 @@ fn builds_and_walks(rt: HostRuntime) -> Result<(), Fail> {
     assert_eq!(rt; builder.depth(), 2);
     builder.close();
     builder.close();
-    let doc = builder.finish();
-    assert!(rt; !doc.unique_keys(rt.alloc())?);
+    Ok(builder.finish())
+}
+
+fn walks(rt: &impl Abort, doc: &Doc) -> Result<(), Fail> {
     let mut steps = Steps::new(Tally::new());
     let mut members = doc.root().children();
     let first = members.next(&mut steps).ok_or("no member")?;
@@ -31,13 +35,29 @@ fn builds_and_walks(rt: HostRuntime) -> Result<(), Fail> {
     let element = second.node.children().next(&mut steps).ok_or("no element")?;
     assert_eq!(rt; element.node.kind(), Kind::Truth);
     assert!(rt; doc.root().tour().next(&mut steps).is_some());
+    assert_eq!(rt; steps.ledger().count(), 3);
+    Ok(())
+}
+
+// The search for the children under a key.
+fn searches(rt: &impl Abort, doc: &Doc) -> Result<(), Fail> {
+    let mut steps = Steps::new(Tally::new());
     let mut under = doc.root().children();
     let found = under
         .next_under("a", &mut steps)
         .ok_or("no member under the key")?;
     assert_eq!(rt; found.id(), 1);
     assert!(rt; under.next_under("b", &mut steps).is_none());
-    assert_eq!(rt; steps.ledger().count(), 5);
+    assert_eq!(rt; steps.ledger().count(), 2);
+    Ok(())
+}
+
+#[test]
+fn builds_and_walks(rt: HostRuntime) -> Result<(), Fail> {
+    let doc = built(&rt, rt.alloc())?;
+    assert!(rt; !doc.unique_keys(rt.alloc())?);
+    walks(&rt, &doc)?;
+    searches(&rt, &doc)?;
     assert_eq!(rt; doc.recycle().wants(), Want::Value);
     Ok(())
 }

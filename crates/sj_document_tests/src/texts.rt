@@ -1,8 +1,9 @@
 // Examples of printed texts.
 use sj_base::{Bytes, Steps, Tally};
-use sj_decimal::{Decimal, Parsed};
-use sj_doc::{Doc, DocBuilder};
+use sj_decimal::Decimal;
+use sj_doc::Doc;
 use sj_item::{Exact, Item, Pair, PairValue, ShortText};
+use sj_read::read;
 use sj_text::{item_text, string_text};
 use std::alloc::Global;
 use std::process::Abort;
@@ -10,47 +11,6 @@ use std::test::Fail;
 
 fn decimal(c: i128, s: u32) -> Result<Decimal, Fail> {
     Ok(Decimal::from_parts(c, s).ok_or("not exact")?)
-}
-
-// [1,[2]]
-fn nested(alloc: Global) -> Result<Doc, Fail> {
-    let mut builder = DocBuilder::new(alloc);
-    builder.open_array()?;
-    builder.exact(decimal(1, 0)?)?;
-    builder.open_array()?;
-    builder.exact(decimal(2, 0)?)?;
-    builder.close();
-    builder.close();
-    Ok(builder.finish())
-}
-
-// {"a":[],"a\n":{"b":true,"c":"x"}}
-fn mixed(alloc: Global) -> Result<Doc, Fail> {
-    let mut builder = DocBuilder::new(alloc);
-    builder.open_object()?;
-    builder.key("a")?;
-    builder.open_array()?;
-    builder.close();
-    builder.key("a\n")?;
-    builder.open_object()?;
-    builder.key("b")?;
-    builder.truth(true)?;
-    builder.key("c")?;
-    builder.text("x")?;
-    builder.close();
-    builder.close();
-    Ok(builder.finish())
-}
-
-fn wide(alloc: Global, spelling: &str) -> Result<Doc, Fail> {
-    match Decimal::parse(spelling.as_bytes()) {
-        Parsed::Wide => {
-            let mut builder = DocBuilder::new(alloc);
-            builder.wide(spelling)?;
-            Ok(builder.finish())
-        }
-        _ => Err("not wide")?,
-    }
 }
 
 // The text of an item goes behind what is there, and takes so many steps.
@@ -76,72 +36,84 @@ fn prints(
 
 #[test]
 fn prints_nodes(rt: HostRuntime) -> Result<(), Fail> {
-    let doc = nested(rt.alloc())?;
-    prints(&rt, rt.alloc(), Item::Node(doc.root()), "[1,[2]]", 3)?;
-    let doc = mixed(rt.alloc())?;
-    prints(
-        &rt,
-        rt.alloc(),
-        Item::Node(doc.root()),
-        "{\"a\":[],\"a\\n\":{\"b\":true,\"c\":\"x\"}}",
-        4,
-    )?;
-    let doc = wide(rt.alloc(), "-1E400")?;
-    prints(&rt, rt.alloc(), Item::Node(doc.root()), "-1E400", 0)
+    for (text, count) in [
+        ("[1,[2]]", 3),
+        ("{\"a\":[],\"a\\n\":{\"b\":true,\"c\":\"x\"}}", 4),
+        ("-1E400", 0),
+    ] {
+        let doc = read(rt.alloc(), text.as_bytes())?;
+        prints(&rt, rt.alloc(), Item::Node(doc.root()), text, count)?;
+    }
+    Ok(())
 }
 
 #[test]
 fn prints_made_items(rt: HostRuntime) -> Result<(), Fail> {
-    let doc = nested(rt.alloc())?;
-    let mut steps = Steps::new(Tally::new());
-    let first = doc.root().children().next(&mut steps).ok_or("no element")?;
-    let table = [
-        (Item::Num(Exact::new(decimal(-150, 2)?)), "-1.5", 0),
-        (Item::Text("a\"b"), "\"a\\\"b\"", 0),
-        (Item::Short(ShortText::new("\\")), "\"\\\\\"", 0),
-        (Item::Bool(false), "false", 0),
-        (Item::Null, "null", 0),
-        (
-            Item::Pair(Pair {
-                name: "a",
-                value: PairValue::Node(first.node),
-                id: 0,
-            }),
-            "{\"name\":\"a\",\"value\":1,\"id\":0}",
-            0,
-        ),
-        (
-            Item::Pair(Pair {
-                name: "\t",
-                value: PairValue::Node(doc.root()),
-                id: 33554431,
-            }),
-            "{\"name\":\"\\t\",\"value\":[1,[2]],\"id\":33554431}",
-            3,
-        ),
-        (
-            Item::Pair(Pair {
-                name: "",
-                value: PairValue::Text("id"),
-                id: -1,
-            }),
-            "{\"name\":\"\",\"value\":\"id\",\"id\":-1}",
-            0,
-        ),
-        (
-            Item::Pair(Pair {
-                name: "n",
-                value: PairValue::Num(Exact::new(decimal(7, 0)?)),
-                id: i64::MIN,
-            }),
-            "{\"name\":\"n\",\"value\":7,\"id\":-9223372036854775808}",
-            0,
-        ),
-    ];
-    for (item, text, count) in table {
-        prints(&rt, rt.alloc(), item, text, count)?;
+    for (item, text) in [
+        (Item::Num(Exact::new(decimal(-150, 2)?)), "-1.5"),
+        (Item::Text("a\"b"), "\"a\\\"b\""),
+        (Item::Short(ShortText::new("\\")), "\"\\\\\""),
+        (Item::Bool(false), "false"),
+        (Item::Null, "null"),
+    ] {
+        prints(&rt, rt.alloc(), item, text, 0)?;
     }
     Ok(())
+}
+
+// A pair is printed as an object, with the steps that its value takes.
+fn prints_pair(
+    rt: &impl Abort,
+    alloc: Global,
+    (name, value, id): (&str, PairValue<'_>, i64),
+    text: &str,
+    count: u64,
+) -> Result<(), Fail> {
+    prints(rt, alloc, Item::Pair(Pair { name, value, id }), text, count)
+}
+
+#[test]
+fn prints_pairs(rt: HostRuntime) -> Result<(), Fail> {
+    let seven = PairValue::Num(Exact::new(decimal(7, 0)?));
+    prints_pair(
+        &rt,
+        rt.alloc(),
+        ("n", seven, i64::MIN),
+        "{\"name\":\"n\",\"value\":7,\"id\":-9223372036854775808}",
+        0,
+    )?;
+    prints_pair(
+        &rt,
+        rt.alloc(),
+        ("", PairValue::Text("id"), -1),
+        "{\"name\":\"\",\"value\":\"id\",\"id\":-1}",
+        0,
+    )
+}
+
+fn prints_pairs_of_nodes(rt: &impl Abort, alloc: Global, doc: &Doc) -> Result<(), Fail> {
+    let mut steps = Steps::new(Tally::new());
+    let first = doc.root().children().next(&mut steps).ok_or("no element")?;
+    prints_pair(
+        rt,
+        alloc,
+        ("a", PairValue::Node(first.node), 0),
+        "{\"name\":\"a\",\"value\":1,\"id\":0}",
+        0,
+    )?;
+    prints_pair(
+        rt,
+        alloc,
+        ("\t", PairValue::Node(doc.root()), 33_554_431),
+        "{\"name\":\"\\t\",\"value\":[1,[2]],\"id\":33554431}",
+        3,
+    )
+}
+
+#[test]
+fn prints_pairs_with_nodes(rt: HostRuntime) -> Result<(), Fail> {
+    let doc = read(rt.alloc(), b"[1,[2]]")?;
+    prints_pairs_of_nodes(&rt, rt.alloc(), &doc)
 }
 
 #[test]

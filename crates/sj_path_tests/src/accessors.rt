@@ -1,13 +1,10 @@
 // What walks give of small documents.
-ghost use Rattle.std.specs.Prelude.{◌≡◌, ◌^◌, ◌<◌, OnOk};
-ghost use Rattle.sj_json.specs.Tree.{number as number_tree, exact};
-ghost use Rattle.sj_json.specs.Building.{TakesValue, with_value};
-ghost use Rattle.sj_doc.specs.Builders.{node_total};
-
-use sj_base::{Memory, Steps, Tally};
-use sj_doc::{Doc, DocBuilder, Kind, Num};
+use super::cases::expect;
+use sj_base::{Steps, Tally};
+use sj_doc::{Kind, Num};
 use sj_grammar::Mode;
 use sj_item::{Item, Pair, PairValue, Pull, kind};
+use sj_read::read;
 use sj_step::{Reach, Walk, last_index, whole_number};
 use std::alloc::{AllocError, Global};
 use std::process::Abort;
@@ -24,74 +21,38 @@ fn whole_text(alloc: Global, item: Item<'_>) -> Result<String, AllocError> {
     }
 }
 
+// Appends an answer of a walk, and says whether it is an item.
+fn push_answer(alloc: Global, answer: Pull<'_>, trail: &mut String) -> Result<bool, AllocError> {
+    match answer {
+        Pull::Item(item) => {
+            trail.push_str(whole_text(alloc, item)?.as_str())?;
+            trail.push_str(" ")?;
+            Ok(true)
+        }
+        Pull::End => {
+            trail.push_str("End")?;
+            Ok(false)
+        }
+        Pull::Fault(state) => {
+            trail.push_str(state.code())?;
+            Ok(false)
+        }
+    }
+}
+
 // The items and the end of a walk, and how many steps it took.
 fn trail(alloc: Global, walk: &mut Walk<'_>) -> Result<String, AllocError> {
     let mut steps = Steps::new(Tally::new());
     let mut trail = String::new(alloc);
     for _ in 0..8 {
-        match walk.next(&mut steps) {
-            Pull::Item(item) => {
-                trail.push_str(whole_text(alloc, item)?.as_str())?;
-                trail.push_str(" ")?;
-            }
-            Pull::End => {
-                trail.push_str("End")?;
-                break;
-            }
-            Pull::Fault(state) => {
-                trail.push_str(state.code())?;
-                break;
-            }
+        if !push_answer(alloc, walk.next(&mut steps), &mut trail)? {
+            break;
         }
     }
     let _again = walk.next(&mut steps);
-    trail.push_str(format!(in alloc; " {}", steps.ledger().count())?.as_str())?;
+    let count = format!(in alloc; " {}", steps.ledger().count())?;
+    trail.push_str(count.as_str())?;
     Ok(trail)
-}
-
-fn push_whole(builder: &mut DocBuilder, number: i64) -> Result<(), Memory>
-    requires wanted { TakesValue builder.old.0 }
-    requires room { node_total builder.old < 2 ^ 25 }
-    ensures { OnOk result (builder.new ≡ with_value (number_tree (exact (number, 0))) builder.old) }
-{
-    builder.exact(whole_number(number as i128).value())
-}
-
-// [10,20,30]
-fn tens(alloc: Global) -> Result<Doc, Memory> {
-    let mut builder = DocBuilder::new(alloc);
-    builder.open_array()?;
-    push_whole(&mut builder, 10)?;
-    push_whole(&mut builder, 20)?;
-    push_whole(&mut builder, 30)?;
-    builder.close();
-    Ok(builder.finish())
-}
-
-// {"a":1,"b":2,"a":3}
-fn repeats(alloc: Global) -> Result<Doc, Memory> {
-    let mut builder = DocBuilder::new(alloc);
-    builder.open_object()?;
-    builder.key("a")?;
-    push_whole(&mut builder, 1)?;
-    builder.key("b")?;
-    push_whole(&mut builder, 2)?;
-    builder.key("a")?;
-    push_whole(&mut builder, 3)?;
-    builder.close();
-    Ok(builder.finish())
-}
-
-// [[1],2]
-fn nested(alloc: Global) -> Result<Doc, Memory> {
-    let mut builder = DocBuilder::new(alloc);
-    builder.open_array()?;
-    builder.open_array()?;
-    push_whole(&mut builder, 1)?;
-    builder.close();
-    push_whole(&mut builder, 2)?;
-    builder.close();
-    Ok(builder.finish())
 }
 
 // Each row: what is reached, the mode, and the trail.
@@ -105,16 +66,16 @@ fn expect_trails(
 ) -> Result<(), AllocError> {
     for (reach, mode, want) in rows {
         let mut walk = Walk::start(*reach, item, *mode);
-        assert_eq!(rt; trail(alloc, &mut walk)?.as_str(), *want);
+        expect(rt, trail(alloc, &mut walk)?.as_str(), want, "first");
         walk.restart(*reach, &item, *mode);
-        assert_eq!(rt; trail(alloc, &mut walk)?.as_str(), *want);
+        expect(rt, trail(alloc, &mut walk)?.as_str(), want, "again");
     }
     Ok(())
 }
 
 #[test]
 fn walks_over_an_array(rt: HostRuntime) -> Result<(), Fail> {
-    let tens = tens(rt.alloc())?;
+    let tens = read(rt.alloc(), b"[10,20,30]")?;
     let item = Item::Node(tens.root());
     assert_eq!(rt; last_index(item, Mode::Strict), Some(2));
     expect_trails(
@@ -133,12 +94,16 @@ fn walks_over_an_array(rt: HostRuntime) -> Result<(), Fail> {
             (Reach::AllMembers, Mode::Strict, "2203C 0"),
         ],
     )?;
-    let nested = nested(rt.alloc())?;
-    let item = Item::Node(nested.root());
+    Ok(())
+}
+
+#[test]
+fn unwraps_an_array(rt: HostRuntime) -> Result<(), Fail> {
+    let nested = read(rt.alloc(), b"[[1],2]")?;
     expect_trails(
         &rt,
         rt.alloc(),
-        item,
+        Item::Node(nested.root()),
         &[
             (Reach::Unwrap, Mode::Lax, "Array 2 End 2"),
             (Reach::Unwrap, Mode::Strict, "Array End 0"),
@@ -149,12 +114,11 @@ fn walks_over_an_array(rt: HostRuntime) -> Result<(), Fail> {
 
 #[test]
 fn walks_over_an_object(rt: HostRuntime) -> Result<(), Fail> {
-    let repeats = repeats(rt.alloc())?;
-    let item = Item::Node(repeats.root());
+    let repeats = read(rt.alloc(), b"{\"a\":1,\"b\":2,\"a\":3}")?;
     expect_trails(
         &rt,
         rt.alloc(),
-        item,
+        Item::Node(repeats.root()),
         &[
             (Reach::Member("a"), Mode::Lax, "1 3 End 3"),
             (Reach::Member("a"), Mode::Strict, "1 3 End 3"),

@@ -3,75 +3,15 @@ ghost use Rattle.std.specs.Prelude.{◌<◌, IfOk};
 ghost use Rattle.sj_value.specs.Types.{IsCastType};
 ghost use Rattle.sj_value.specs.Values.{IsPrintable};
 
+use super::cases::{expect, made, sides};
 use sj_base::Bytes;
-use sj_decimal::{Decimal, Parsed};
-use sj_doc::{Doc, DocBuilder, Kind, Num};
-use sj_item::{Exact, Item, Pair, PairValue, ShortText};
+use sj_doc::Doc;
+use sj_item::{Item, Pair, PairValue, ShortText};
+use sj_read::read;
 use sj_value::{CastRefusal, SqlType, SqlValue, cast, copy};
 use std::alloc::Global;
+use std::process::Abort;
 use std::test::Fail;
-
-fn container(alloc: Global, text: &str) -> Result<Doc, Fail> {
-    let mut builder = DocBuilder::new(alloc);
-    if text == "[]" {
-        builder.open_array()?;
-    } else {
-        builder.open_object()?;
-    }
-    builder.close();
-    Ok(builder.finish())
-}
-
-fn number(alloc: Global, text: &str) -> Result<Doc, Fail> {
-    let mut builder = DocBuilder::new(alloc);
-    match Decimal::parse(text.as_bytes()) {
-        Parsed::Exact(value) => {
-            builder.exact(value)?;
-            Ok(builder.finish())
-        }
-        Parsed::Wide => {
-            builder.wide(text)?;
-            Ok(builder.finish())
-        }
-        Parsed::NotNumber => Err("no number")?,
-    }
-}
-
-/// A document of one value. A string is written behind an apostrophe.
-fn document(alloc: Global, text: &str) -> Result<Doc, Fail> {
-    if text == "[]" || text == "{}" {
-        return container(alloc, text);
-    }
-    let mut builder = DocBuilder::new(alloc);
-    if text == "null" {
-        builder.null()?;
-        return Ok(builder.finish());
-    }
-    if text == "true" || text == "false" {
-        builder.truth(text == "true")?;
-        return Ok(builder.finish());
-    }
-    if let Some(string) = text.strip_prefix('\'') {
-        builder.text(string)?;
-        return Ok(builder.finish());
-    }
-    number(alloc, text)
-}
-
-/// The same value as a made item, where there is one.
-fn made(doc: &Doc) -> Item<'_> {
-    let root = doc.root();
-    match root.kind() {
-        Kind::Null => Item::Null,
-        Kind::Truth => Item::Bool(root.truth()),
-        Kind::String => Item::Text(root.text()),
-        Kind::Number => match root.number() {
-            Num::Exact(number) => Item::Num(Exact::new(number)),
-            Num::Wide(_spelling) => Item::Node(root),
-        },
-        Kind::Array | Kind::Object => Item::Node(root),
-    }
-}
 
 /// The type, where NUMERIC(p, s) has a p and an s that it can have.
 fn checked(ty: SqlType) -> Result<SqlType, Fail>
@@ -88,13 +28,13 @@ fn checked(ty: SqlType) -> Result<SqlType, Fail>
     }
 }
 
-/// A value as a word: a text between apostrophes, and a number as it is printed.
+/// A value as a word: a text between quotation marks, and a number as it is printed.
 fn shown(alloc: Global, value: &SqlValue) -> Result<String, Fail>
     requires { IsPrintable value.now }
 {
     match value {
         SqlValue::Null => Ok(String::from_str(alloc, "NULL")?),
-        SqlValue::Text(text) => Ok(format!(in alloc; "'{}'", text.as_str())?),
+        SqlValue::Text(text) => Ok(format!(in alloc; "{:?}", text.as_str())?),
         SqlValue::Num(number, places) => {
             let text = if *places > 0 {
                 number.text_places(*places)
@@ -119,6 +59,53 @@ fn answer(alloc: Global, item: Item<'_>, ty: SqlType) -> Result<String, Fail> {
     }
 }
 
+/// Documents, each with its casts to VARCHAR, VARCHAR(4), NUMERIC, NUMERIC(5, 2), INTEGER, BIGINT and BOOLEAN.
+const CASTS: &str = r#"null => NULL NULL NULL NULL NULL NULL NULL
+[] => 2203F 2203F 2203F 2203F 2203F 2203F 2203F
+{} => 2203F 2203F 2203F 2203F 2203F 2203F 2203F
+true => "true" "true" 2203G 2203G 2203G 2203G TRUE
+false => "false" 22001 2203G 2203G 2203G 2203G FALSE
+9.5 => "9.5" "9.5" 9.5 9.50 10 10 2203G
+-2.5 => "-2.5" "-2.5" -2.5 -2.50 -3 -3 2203G
+2.500 => "2.5" "2.5" 2.5 2.50 3 3 2203G
+0.125 => "0.125" 22001 0.125 0.13 0 0 2203G
+-0 => "0" "0" 0 0.00 0 0 2203G
+1e3 => "1000" "1000" 1000 22003 1000 1000 2203G
+999.994 => "999.994" 22001 999.994 999.99 1000 1000 2203G
+999.995 => "999.995" 22001 999.995 22003 1000 1000 2203G
+1E40 => "1E40" "1E40" 22003 22003 22003 22003 2203G
+1e400 => "1e400" 22001 22003 22003 22003 22003 2203G
+"" => "" "" 2203G 2203G 2203G 2203G 2203G
+"Anna" => "Anna" "Anna" 2203G 2203G 2203G 2203G 2203G
+"true" => "true" "true" 2203G 2203G 2203G 2203G TRUE
+"false" => "false" 22001 2203G 2203G 2203G 2203G FALSE
+"TRUE" => "TRUE" "TRUE" 2203G 2203G 2203G 2203G 2203G
+"null" => "null" "null" 2203G 2203G 2203G 2203G 2203G
+"9.5" => "9.5" "9.5" 9.5 9.50 10 10 2203G
+"1e1" => "1e1" "1e1" 10 10.00 10 10 2203G
+"1e400" => "1e400" 22001 22003 22003 22003 22003 2203G
+"\t1" => "\t1" "\t1" 2203G 2203G 2203G 2203G 2203G
+"01" => "01" "01" 2203G 2203G 2203G 2203G 2203G
+"1." => "1." "1." 2203G 2203G 2203G 2203G 2203G
+"+1" => "+1" "+1" 2203G 2203G 2203G 2203G 2203G
+"éééé" => "éééé" "éééé" 2203G 2203G 2203G 2203G 2203G
+"ééééé" => "ééééé" 22001 2203G 2203G 2203G 2203G 2203G"#;
+
+/// A cast of the document of a line, and of the made item of the same value.
+fn expect_cast(
+    rt: &impl Abort,
+    alloc: Global,
+    doc: &Doc,
+    ty: SqlType,
+    want: &str,
+) -> Result<(), Fail> {
+    let node = answer(alloc, Item::Node(doc.root()), ty)?;
+    expect(rt, node.as_str(), want, "a node");
+    let other = answer(alloc, made(doc), ty)?;
+    expect(rt, other.as_str(), want, "a made item");
+    Ok(())
+}
+
 #[test]
 fn casts_as_the_table_says(rt: HostRuntime) -> Result<(), Fail> {
     let types = [
@@ -130,119 +117,67 @@ fn casts_as_the_table_says(rt: HostRuntime) -> Result<(), Fail> {
         SqlType::Bigint,
         SqlType::Boolean,
     ];
-    let table = [
-        ("null", "NULL NULL NULL NULL NULL NULL NULL"),
-        ("[]", "2203F 2203F 2203F 2203F 2203F 2203F 2203F"),
-        ("{}", "2203F 2203F 2203F 2203F 2203F 2203F 2203F"),
-        ("true", "'true' 'true' 2203G 2203G 2203G 2203G TRUE"),
-        ("false", "'false' 22001 2203G 2203G 2203G 2203G FALSE"),
-        ("9.5", "'9.5' '9.5' 9.5 9.50 10 10 2203G"),
-        ("-2.5", "'-2.5' '-2.5' -2.5 -2.50 -3 -3 2203G"),
-        ("2.500", "'2.5' '2.5' 2.5 2.50 3 3 2203G"),
-        ("0.125", "'0.125' 22001 0.125 0.13 0 0 2203G"),
-        ("-0", "'0' '0' 0 0.00 0 0 2203G"),
-        ("1e3", "'1000' '1000' 1000 22003 1000 1000 2203G"),
-        ("999.994", "'999.994' 22001 999.994 999.99 1000 1000 2203G"),
-        ("999.995", "'999.995' 22001 999.995 22003 1000 1000 2203G"),
-        ("1E40", "'1E40' '1E40' 22003 22003 22003 22003 2203G"),
-        ("1e400", "'1e400' 22001 22003 22003 22003 22003 2203G"),
-        ("'", "'' '' 2203G 2203G 2203G 2203G 2203G"),
-        ("'Anna", "'Anna' 'Anna' 2203G 2203G 2203G 2203G 2203G"),
-        ("'true", "'true' 'true' 2203G 2203G 2203G 2203G TRUE"),
-        ("'false", "'false' 22001 2203G 2203G 2203G 2203G FALSE"),
-        ("'TRUE", "'TRUE' 'TRUE' 2203G 2203G 2203G 2203G 2203G"),
-        ("'null", "'null' 'null' 2203G 2203G 2203G 2203G 2203G"),
-        ("'9.5", "'9.5' '9.5' 9.5 9.50 10 10 2203G"),
-        ("'1e1", "'1e1' '1e1' 10 10.00 10 10 2203G"),
-        ("'1e400", "'1e400' 22001 22003 22003 22003 22003 2203G"),
-        ("'\t1", "'\t1' '\t1' 2203G 2203G 2203G 2203G 2203G"),
-        ("'01", "'01' '01' 2203G 2203G 2203G 2203G 2203G"),
-        ("'1.", "'1.' '1.' 2203G 2203G 2203G 2203G 2203G"),
-        ("'+1", "'+1' '+1' 2203G 2203G 2203G 2203G 2203G"),
-        (
-            "'\u{e9}\u{e9}\u{e9}\u{e9}",
-            "'\u{e9}\u{e9}\u{e9}\u{e9}' '\u{e9}\u{e9}\u{e9}\u{e9}' 2203G 2203G 2203G 2203G 2203G",
-        ),
-        (
-            "'\u{e9}\u{e9}\u{e9}\u{e9}\u{e9}",
-            "'\u{e9}\u{e9}\u{e9}\u{e9}\u{e9}' 22001 2203G 2203G 2203G 2203G 2203G",
-        ),
-    ];
-    for (text, wants) in table {
-        let doc = document(rt.alloc(), text)?;
+    for line in CASTS.lines() {
+        let (text, wants) = sides(line)?;
+        let doc = read(rt.alloc(), text.as_bytes())?;
         for (ty, want) in types.iter().zip(wants.split(' ')) {
-            let node = answer(rt.alloc(), Item::Node(doc.root()), *ty)?;
-            assert_eq!(rt; node.as_str(), want, "{text} as {ty:?}");
-            let other = answer(rt.alloc(), made(&doc), *ty)?;
-            assert_eq!(rt; other.as_str(), want, "{text} made as {ty:?}");
+            expect_cast(&rt, rt.alloc(), &doc, *ty, want)?;
         }
+    }
+    Ok(())
+}
+
+/// The casts of lines of documents to a type.
+fn expect_casts(rt: &impl Abort, alloc: Global, ty: SqlType, lines: &str) -> Result<(), Fail> {
+    for line in lines.lines() {
+        let (text, want) = sides(line)?;
+        let doc = read(alloc, text.as_bytes())?;
+        expect_cast(rt, alloc, &doc, ty, want)?;
     }
     Ok(())
 }
 
 #[test]
 fn keeps_to_the_ends_of_types(rt: HostRuntime) -> Result<(), Fail> {
-    let table = [
-        ("2147483647", SqlType::Integer, "2147483647"),
-        ("2147483647.4", SqlType::Integer, "2147483647"),
-        ("2147483647.5", SqlType::Integer, "22003"),
-        ("2147483648", SqlType::Integer, "22003"),
-        ("-2147483648", SqlType::Integer, "-2147483648"),
-        ("-2147483648.4", SqlType::Integer, "-2147483648"),
-        ("-2147483648.5", SqlType::Integer, "22003"),
-        ("-2147483649", SqlType::Integer, "22003"),
+    for (ty, lines) in [
         (
-            "9223372036854775807",
-            SqlType::Bigint,
-            "9223372036854775807",
+            SqlType::Integer,
+            "2147483647 => 2147483647
+2147483647.4 => 2147483647
+2147483647.5 => 22003
+2147483648 => 22003
+-2147483648 => -2147483648
+-2147483648.4 => -2147483648
+-2147483648.5 => 22003
+-2147483649 => 22003",
         ),
-        ("9223372036854775808", SqlType::Bigint, "22003"),
         (
-            "-9223372036854775808",
             SqlType::Bigint,
-            "-9223372036854775808",
+            "9223372036854775807 => 9223372036854775807
+9223372036854775808 => 22003
+-9223372036854775808 => -9223372036854775808
+-9223372036854775809 => 22003
+12345678901234567890123456789012345678 => 22003",
         ),
-        ("-9223372036854775809", SqlType::Bigint, "22003"),
+        (SqlType::NumericFixed(10, 2), "9.5 => 9.50"),
+        (SqlType::NumericFixed(1, 0), "9.5 => 22003\n9.4 => 9"),
         (
-            "12345678901234567890123456789012345678",
-            SqlType::Bigint,
-            "22003",
+            SqlType::NumericFixed(2, 2),
+            "-0.005 => -0.01\n0.995 => 22003",
         ),
-        ("9.5", SqlType::NumericFixed(10, 2), "9.50"),
-        ("9.5", SqlType::NumericFixed(1, 0), "22003"),
-        ("9.4", SqlType::NumericFixed(1, 0), "9"),
-        ("-0.005", SqlType::NumericFixed(2, 2), "-0.01"),
-        ("0.995", SqlType::NumericFixed(2, 2), "22003"),
         (
-            "99999999999999999999999999999999999999",
             SqlType::NumericFixed(38, 0),
-            "99999999999999999999999999999999999999",
+            "99999999999999999999999999999999999999 => 99999999999999999999999999999999999999",
         ),
         (
-            "0.1",
             SqlType::NumericFixed(38, 38),
-            "0.10000000000000000000000000000000000000",
+            "0.1 => 0.10000000000000000000000000000000000000\n1 => 22003",
         ),
-        ("1", SqlType::NumericFixed(38, 38), "22003"),
-        ("' 1", SqlType::Numeric, "2203G"),
-        ("'1 ", SqlType::Numeric, "2203G"),
-        ("'", SqlType::VarcharMax(0), "''"),
-        ("'a", SqlType::VarcharMax(0), "22001"),
-        (
-            "'\u{1f600}\u{1f600}",
-            SqlType::VarcharMax(2),
-            "'\u{1f600}\u{1f600}'",
-        ),
-        (
-            "'\u{1f600}\u{1f600}\u{1f600}",
-            SqlType::VarcharMax(2),
-            "22001",
-        ),
-    ];
-    for (text, ty, want) in table {
-        let doc = document(rt.alloc(), text)?;
-        let node = answer(rt.alloc(), Item::Node(doc.root()), ty)?;
-        assert_eq!(rt; node.as_str(), want, "{text} as {ty:?}");
+        (SqlType::Numeric, "\" 1\" => 2203G\n\"1 \" => 2203G"),
+        (SqlType::VarcharMax(0), "\"\" => \"\"\n\"a\" => 22001"),
+        (SqlType::VarcharMax(2), "\"😀😀\" => \"😀😀\"\n\"😀😀😀\" => 22001"),
+    ] {
+        expect_casts(&rt, rt.alloc(), ty, lines)?;
     }
     Ok(())
 }
@@ -251,14 +186,14 @@ fn keeps_to_the_ends_of_types(rt: HostRuntime) -> Result<(), Fail> {
 fn casts_made_values(rt: HostRuntime) -> Result<(), Fail> {
     let short = Item::Short(ShortText::new("2015"));
     let as_number = answer(rt.alloc(), short, SqlType::Integer)?;
-    assert_eq!(rt; as_number.as_str(), "2015");
+    expect(&rt, as_number.as_str(), "2015", "INTEGER");
     let pair = Item::Pair(Pair {
         name: "a",
         value: PairValue::Text("b"),
         id: 0,
     });
     let refused = answer(rt.alloc(), pair, SqlType::Varchar)?;
-    assert_eq!(rt; refused.as_str(), "2203F");
+    expect(&rt, refused.as_str(), "2203F", "a pair");
     Ok(())
 }
 
@@ -270,24 +205,33 @@ fn shown_copy(alloc: Global, value: &SqlValue) -> Result<String, Fail>
     shown(alloc, &copied)
 }
 
+/// What a copy of a cast shows.
+fn copy_of_cast(alloc: Global, doc: &Doc, ty: SqlType) -> Result<String, Fail> {
+    let value = cast(alloc, Item::Node(doc.root()), checked(ty)?)?;
+    shown_copy(alloc, &value)
+}
+
 #[test]
 fn copies_values(rt: HostRuntime) -> Result<(), Fail> {
-    let table = [
+    for (text, ty, want) in [
         ("null", SqlType::Varchar, "NULL"),
-        ("'a", SqlType::Varchar, "'a'"),
+        ("\"a\"", SqlType::Varchar, "\"a\""),
         ("9.5", SqlType::NumericFixed(10, 2), "9.50"),
         ("9.5", SqlType::Numeric, "9.5"),
         ("true", SqlType::Boolean, "TRUE"),
-    ];
-    for (text, ty, want) in table {
-        let doc = document(rt.alloc(), text)?;
-        let value = cast(rt.alloc(), Item::Node(doc.root()), checked(ty)?)?;
-        let copied = shown_copy(rt.alloc(), &value)?;
-        assert_eq!(rt; copied.as_str(), want);
+    ] {
+        let doc = read(rt.alloc(), text.as_bytes())?;
+        let copied = copy_of_cast(rt.alloc(), &doc, ty)?;
+        expect(&rt, copied.as_str(), want, text);
     }
+    Ok(())
+}
+
+#[test]
+fn copies_json(rt: HostRuntime) -> Result<(), Fail> {
     let mut bytes = Bytes::new(rt.alloc());
     bytes.push(b"[1]")?;
     let copied = shown_copy(rt.alloc(), &SqlValue::Json(bytes))?;
-    assert_eq!(rt; copied.as_str(), "3 bytes");
+    expect(&rt, copied.as_str(), "3 bytes", "a copy");
     Ok(())
 }

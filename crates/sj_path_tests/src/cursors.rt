@@ -1,14 +1,15 @@
 // What whole paths give of small documents, and how many steps a cursor takes.
 mod paths;
 
+use super::cases::{expect, expect_count};
 use paths::PATHS;
 use sj_base::{Bytes, Steps, Tally, Text};
 use sj_cursor::Cursor;
 use sj_decimal::Decimal;
-use sj_doc::Doc;
+use sj_doc::{Doc, NodeRef};
 use sj_grammar::Literal;
 use sj_item::{Item, Pull};
-use sj_path::{Vars, nodes, parse_path};
+use sj_path::{Path, Vars, nodes, parse_path};
 use sj_read::read;
 use sj_text::item_text;
 use std::alloc::{AllocError, Global};
@@ -49,7 +50,8 @@ fn push_answer(answer: Pull<'_>, out: &mut Bytes) -> Result<(), Fail> {
     Ok(())
 }
 
-// The answers of a cursor up to its end, but at most so many, and the steps that they took. An end comes again without a step.
+// The answers of a cursor up to its end, but at most so many, and the steps that they took. An end comes again without
+// a step.
 fn trail(
     rt: &impl Abort,
     alloc: Global,
@@ -65,8 +67,13 @@ fn trail(
         assert!(rt; cursor.held() <= may_hold);
         if !matches!(answer, Pull::Item(_)) {
             let count = steps.ledger().count();
-            assert_eq!(rt; word(cursor.next(&mut steps)), word(answer));
-            assert_eq!(rt; steps.ledger().count(), count);
+            expect(
+                rt,
+                word(cursor.next(&mut steps)),
+                word(answer),
+                "the end again",
+            );
+            expect_count(rt, steps.ledger().count(), count);
             break;
         }
     }
@@ -74,7 +81,38 @@ fn trail(
     Ok(String::from_utf8(out.into_vec())?)
 }
 
-// A path's answers on a document, from a new cursor and from one that has gone through the document before.
+fn expect_answers(
+    rt: &impl Abort,
+    alloc: Global,
+    cursor: &mut Cursor<'_>,
+    may_hold: u64,
+    most: usize,
+    want: &str,
+) -> Result<(), Fail> {
+    let found = trail(rt, alloc, cursor, may_hold, most)?;
+    expect(rt, found.as_str(), want, "");
+    Ok(())
+}
+
+// From a new cursor, and from one that has gone through the document before.
+fn expect_answers_twice(
+    rt: &impl Abort,
+    alloc: Global,
+    tree: &Path,
+    vars: &Vars,
+    doc: &Doc,
+    most: usize,
+    want: &str,
+) -> Result<(), Fail> {
+    let root = Item::Node(doc.root());
+    let may_hold = nodes(tree).saturating_mul(3);
+    let mut cursor = Cursor::new(alloc, tree, vars, root)?;
+    expect_answers(rt, alloc, &mut cursor, may_hold, most, want)?;
+    cursor.rewind(root);
+    expect_answers(rt, alloc, &mut cursor, may_hold, most, want)
+}
+
+// A path's answers on a document.
 fn expect_trail(
     rt: &impl Abort,
     alloc: Global,
@@ -84,39 +122,51 @@ fn expect_trail(
     most: usize,
     want: &str,
 ) -> Result<(), Fail> {
-    let root = Item::Node(doc.root());
     let tree = parse_path(alloc, path)?;
-    let may_hold = nodes(&tree).saturating_mul(3);
-    let mut cursor = Cursor::new(alloc, &tree, vars, root)?;
-    let found = trail(rt, alloc, &mut cursor, may_hold, most)?;
-    assert_eq!(rt; found.as_str(), want, "{path}");
-    cursor.rewind(root);
-    let again = trail(rt, alloc, &mut cursor, may_hold, most)?;
-    assert_eq!(rt; again.as_str(), want, "{path} again");
-    Ok(())
+    expect_answers_twice(rt, alloc, &tree, vars, doc, most, want)
+}
+
+fn expect_in_mode(
+    rt: &impl Abort,
+    alloc: Global,
+    (mode, path): (&str, &str),
+    vars: &Vars,
+    doc: &Doc,
+    want: &str,
+) -> Result<(), Fail> {
+    let path = format!(in alloc; "{mode} {path}")?;
+    expect_trail(rt, alloc, path.as_str(), vars, doc, 20, want)
+}
+
+fn expect_in_modes(
+    rt: &impl Abort,
+    alloc: Global,
+    path: &str,
+    vars: &Vars,
+    doc: &Doc,
+    answers: &str,
+) -> Result<(), Fail> {
+    let (lax, strict) = answers.split_once(" ; ").unwrap_or((answers, answers));
+    expect_in_mode(rt, alloc, ("lax", path), vars, doc, lax)?;
+    expect_in_mode(rt, alloc, ("strict", path), vars, doc, strict)
 }
 
 #[test]
 fn gives_items_and_ends(rt: HostRuntime) -> Result<(), Fail> {
-    let alloc = rt.alloc();
-    let vars = variables(alloc)?;
-    let mut doc = read(alloc, b"null")?;
+    let vars = variables(rt.alloc())?;
+    let mut doc = read(rt.alloc(), b"null")?;
     let mut paths: usize = 0;
     for line in PATHS.lines() {
         match line.split_once(" => ") {
             Some((path, answers)) => {
-                let (lax, strict) = answers.split_once(" ; ").unwrap_or((answers, answers));
-                for (mode, want) in [("lax", lax), ("strict", strict)] {
-                    let path = format!(in alloc; "{mode} {path}")?;
-                    expect_trail(&rt, alloc, path.as_str(), &vars, &doc, 20, want)?;
-                }
+                expect_in_modes(&rt, rt.alloc(), path, &vars, &doc, answers)?;
                 paths = paths.wrapping_add(1);
             }
             None if line.is_empty() => {}
-            None => doc = read(alloc, line.as_bytes())?,
+            None => doc = read(rt.alloc(), line.as_bytes())?,
         }
     }
-    assert_eq!(rt; paths, 232);
+    assert_eq!(rt; paths, 375);
     Ok(())
 }
 
@@ -162,6 +212,13 @@ fn asks_no_further_than_it_must(rt: HostRuntime) -> Result<(), Fail> {
     ] {
         expect_trail(&rt, alloc, path, &vars, &ones, 1, want)?;
     }
+    Ok(())
+}
+
+#[test]
+fn meets_no_fault_behind_the_first_item(rt: HostRuntime) -> Result<(), Fail> {
+    let alloc = rt.alloc();
+    let vars = Vars::new(alloc);
     for (text, path, want) in [
         ("[1,\"x\"]", "lax $[*].abs()", "1 1"),
         (
@@ -201,7 +258,25 @@ fn goes_into_deep_paths(rt: HostRuntime) -> Result<(), Fail> {
     Ok(())
 }
 
-// A path's answers on the second element of an array, from a cursor that has given some answers on the first one.
+// A path's answers on one node, from a cursor that has given some answers on another one.
+fn expect_answers_on_second(
+    rt: &impl Abort,
+    alloc: Global,
+    tree: &Path,
+    vars: &Vars,
+    (first, second): (NodeRef<'_>, NodeRef<'_>),
+    pulls: usize,
+    want: &str,
+) -> Result<(), Fail> {
+    let may_hold = nodes(tree).saturating_mul(3);
+    let mut cursor = Cursor::new(alloc, tree, vars, Item::Node(first))?;
+    assert!(rt; cursor.mode() == tree.mode);
+    trail(rt, alloc, &mut cursor, may_hold, pulls)?;
+    cursor.rewind(Item::Node(second));
+    expect_answers(rt, alloc, &mut cursor, may_hold, 20, want)
+}
+
+// The same of a path on the first element and the second one of an array.
 fn expect_other_trail(
     rt: &impl Abort,
     alloc: Global,
@@ -216,14 +291,8 @@ fn expect_other_trail(
     let first = elements.next(&mut steps).ok_or("no first element")?;
     let second = elements.next(&mut steps).ok_or("no second element")?;
     let tree = parse_path(alloc, path)?;
-    let may_hold = nodes(&tree).saturating_mul(3);
-    let mut cursor = Cursor::new(alloc, &tree, vars, Item::Node(first.node))?;
-    assert!(rt; cursor.mode() == tree.mode);
-    trail(rt, alloc, &mut cursor, may_hold, pulls)?;
-    cursor.rewind(Item::Node(second.node));
-    let found = trail(rt, alloc, &mut cursor, may_hold, 20)?;
-    assert_eq!(rt; found.as_str(), want, "{path}");
-    Ok(())
+    let both = (first.node, second.node);
+    expect_answers_on_second(rt, alloc, &tree, vars, both, pulls, want)
 }
 
 #[test]
@@ -251,9 +320,5 @@ fn begins_again_on_another_root(rt: HostRuntime) -> Result<(), Fail> {
         let doc = read(alloc, text.as_bytes())?;
         expect_other_trail(&rt, alloc, path, &vars, &doc, pulls, want)?;
     }
-    assert_eq!(rt;
-        nodes(&parse_path(alloc, "lax $.a.b")?).saturating_mul(3),
-        15
-    );
     Ok(())
 }

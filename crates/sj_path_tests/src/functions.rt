@@ -2,6 +2,7 @@
 ghost use Rattle.std.specs.Prelude.{IfOk};
 ghost use Rattle.sj_value.specs.Clauses.{GivesPrintable, IsValueSpec};
 
+use super::cases::expect;
 use sj_base::{State, Steps, Tally};
 use sj_cursor::Cursor;
 use sj_decimal::Decimal;
@@ -15,6 +16,7 @@ use sj_value::{
     Wrapper,
 };
 use std::alloc::Global;
+use std::process::Abort;
 use std::test::Fail;
 
 /// ERROR, NULL or DEFAULT 0.
@@ -38,13 +40,6 @@ fn document(alloc: Global, line: &str) -> Result<Option<Doc>, Fail> {
         Ok(doc) => Ok(Some(doc)),
         Err(ReadRefusal::NotJson) => Ok(None),
         Err(ReadRefusal::Memory) => Err("memory")?,
-    }
-}
-
-fn path(alloc: Global, text: &str) -> Result<Path, Fail> {
-    match parse_path(alloc, text) {
-        Ok(path) => Ok(path),
-        Err(_refusal) => Err("no path")?,
     }
 }
 
@@ -91,6 +86,12 @@ fn shown(alloc: Global, outcome: &Outcome) -> Result<String, Fail> {
     })
 }
 
+// The outcome and the steps that it took.
+fn shown_with(alloc: Global, outcome: &Outcome, steps: u64) -> Result<String, Fail> {
+    let shown = shown(alloc, outcome)?;
+    Ok(format!(in alloc; "{} {steps}", shown.as_str())?)
+}
+
 fn context(doc: &Option<Doc>) -> Context<'_> {
     match doc {
         Some(doc) => Context::Item(Item::Node(doc.root())),
@@ -113,10 +114,7 @@ fn outcome<'d>(
         }
         Function::Query(spec) => json_query(alloc, cursor, context, &spec, steps),
     };
-    match outcome {
-        Ok(outcome) => Ok(outcome),
-        Err(_) => Err("memory")?,
-    }
+    Ok(outcome?)
 }
 
 // The outcome and the steps of a call over a cursor that has begun elsewhere.
@@ -128,22 +126,31 @@ fn answer_on<'d>(
     function: Function,
 ) -> Result<String, Fail> {
     let mut steps = Steps::new(Tally::new());
-    let mut cursor = match Cursor::new(alloc, path, vars, Item::Null) {
-        Ok(cursor) => cursor,
-        Err(_) => Err("memory")?,
-    };
+    let mut cursor = Cursor::new(alloc, path, vars, Item::Null)?;
     let _begun = cursor.next(&mut steps);
     let outcome = outcome(alloc, &mut cursor, context, function, &mut steps)?;
-    let shown = shown(alloc, &outcome)?;
-    Ok(format!(in alloc; "{} {}", shown.as_str(), steps.ledger().count())?)
+    shown_with(alloc, &outcome, steps.ledger().count())
 }
 
 // On the root of the line, or where the line is no JSON on that error.
 fn answer(alloc: Global, line: &str, text: &str, function: Function) -> Result<String, Fail> {
     let doc = document(alloc, line)?;
-    let path = path(alloc, text)?;
+    let path = parse_path(alloc, text)?;
     let vars = Vars::new(alloc);
     answer_on(alloc, &path, &vars, context(&doc), function)
+}
+
+fn expect_answer(
+    rt: &impl Abort,
+    alloc: Global,
+    line: &str,
+    path: &str,
+    function: Function,
+    want: &str,
+) -> Result<(), Fail> {
+    let answer = answer(alloc, line, path, function)?;
+    expect(rt, answer.as_str(), want, path);
+    Ok(())
 }
 
 #[test]
@@ -182,8 +189,14 @@ fn tells_whether_a_path_gives_an_item(rt: HostRuntime) -> Result<(), Fail> {
         (r#"{"a":"#, "strict $.a", Error, "raised 22032 0"),
     ];
     for (line, path, on_error, want) in cases {
-        let answer = answer(rt.alloc(), line, path, Function::Exists(on_error))?;
-        assert_eq!(rt; answer.as_str(), want, "{path} on {line}");
+        expect_answer(
+            &rt,
+            rt.alloc(),
+            line,
+            path,
+            Function::Exists(on_error),
+            want,
+        )?;
     }
     Ok(())
 }
@@ -277,8 +290,7 @@ fn gives_the_value_of_the_only_item(rt: HostRuntime) -> Result<(), Fail> {
     ];
     for (line, path, ty, on_empty, on_error, want) in cases {
         let function = Function::Value(ty, on_empty, on_error);
-        let answer = answer(rt.alloc(), line, path, function)?;
-        assert_eq!(rt; answer.as_str(), want, "{path} on {line}");
+        expect_answer(&rt, rt.alloc(), line, path, function, want)?;
     }
     Ok(())
 }
@@ -423,8 +435,7 @@ fn gives_items_as_json(rt: HostRuntime) -> Result<(), Fail> {
             on_empty,
             on_error,
         });
-        let answer = answer(rt.alloc(), line, path, function)?;
-        assert_eq!(rt; answer.as_str(), want, "{path} on {line}");
+        expect_answer(&rt, rt.alloc(), line, path, function, want)?;
     }
     Ok(())
 }
@@ -447,9 +458,21 @@ fn omits_the_quotes_of_a_single_string(rt: HostRuntime) -> Result<(), Fail> {
             on_empty: QueryAction::Null,
             on_error: QueryAction::Error,
         });
-        let answer = answer(rt.alloc(), quoted, path, function)?;
-        assert_eq!(rt; answer.as_str(), want, "{path} on {quoted}");
+        expect_answer(&rt, rt.alloc(), quoted, path, function, want)?;
     }
+    Ok(())
+}
+
+fn expect_json(
+    rt: &impl Abort,
+    alloc: Global,
+    (line, doc): (&str, &Option<Doc>),
+    kind: JsonKind,
+    unique: bool,
+    want: &str,
+) -> Result<(), Fail> {
+    let yes = is_json(alloc, doc.as_ref(), kind, unique)?;
+    expect(rt, if yes { "yes" } else { "no" }, want, line);
     Ok(())
 }
 
@@ -478,12 +501,10 @@ fn tells_what_is_json(rt: HostRuntime) -> Result<(), Fail> {
     for (line, wants, unique_wants) in table {
         let doc = document(rt.alloc(), line)?;
         for (kind, want) in kinds.iter().zip(wants.split(' ')) {
-            let yes = is_json(rt.alloc(), doc.as_ref(), *kind, false).map_err(|_| "memory")?;
-            assert_eq!(rt; yes, want == "yes", "{line} as {kind:?}");
+            expect_json(&rt, rt.alloc(), (line, &doc), *kind, false, want)?;
         }
         for (kind, want) in kinds.iter().zip(unique_wants.split(' ')) {
-            let yes = is_json(rt.alloc(), doc.as_ref(), *kind, true).map_err(|_| "memory")?;
-            assert_eq!(rt; yes, want == "yes", "{line} as {kind:?} with unique keys");
+            expect_json(&rt, rt.alloc(), (line, &doc), *kind, true, want)?;
         }
     }
     Ok(())

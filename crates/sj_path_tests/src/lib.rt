@@ -8,6 +8,8 @@
 #[cfg(test)]
 mod accessors;
 #[cfg(test)]
+mod cases;
+#[cfg(test)]
 mod casts;
 #[cfg(test)]
 mod cursors;

@@ -1,10 +1,12 @@
 //! Examples, and hostile texts.
 
+use super::cases::{expect, expect_count};
 use sj_base::Text;
 use sj_decimal::Compare;
 use sj_grammar::{Arith, Initial, Literal, Method, Mode, PathRefusal};
 use sj_path::{Expr, Path, Pred, Step, Sub, Subs, Vars, member_path, nodes, parse_path};
 use std::alloc::{AllocError, Global};
+use std::process::Abort;
 use std::test::Fail;
 
 fn method(m: Method) -> &'static str {
@@ -15,6 +17,12 @@ fn method(m: Method) -> &'static str {
         Method::Floor => "floor",
         Method::Abs => "abs",
         Method::KeyValue => "keyvalue",
+        Method::Bigint => "bigint",
+        Method::Boolean => "boolean",
+        Method::Decimal => "decimal",
+        Method::Integer => "integer",
+        Method::Number => "number",
+        Method::Text => "string",
     }
 }
 
@@ -281,8 +289,40 @@ fn examples(rt: HostRuntime) -> Result<(), Fail> {
             "unsupported like_regex",
         ),
     ] {
-        let found = shown(rt.alloc(), parse_path(rt.alloc(), text))?;
-        assert_eq!(rt; found.as_str(), answer, "{text}");
+        expect_shown(&rt, rt.alloc(), text, answer)?;
+    }
+    Ok(())
+}
+
+#[test]
+fn methods_that_cast(rt: HostRuntime) -> Result<(), Fail> {
+    for (text, answer) in [
+        (
+            "$.bigint().boolean().decimal().integer().number().string()",
+            "$.bigint().boolean().decimal().integer().number().string()",
+        ),
+        (
+            "$.bigint.boolean.decimal.integer.number.string",
+            "$.\"bigint\".\"boolean\".\"decimal\".\"integer\".\"number\".\"string\"",
+        ),
+        (
+            "strict $.string.string ( ) + $.number()",
+            "strict ($.\"string\".string() + $.number())",
+        ),
+        ("-$[*].integer()", "(-$[*].integer())"),
+        (
+            "$ ? (@.string() starts with \"a\")",
+            "$?(@.string() starts with \"a\")",
+        ),
+        ("$.a.text()", SYNTAX),
+        ("$.string(1)", SYNTAX),
+        ("$.number(", SYNTAX),
+        ("$.decimal(5, 2)", SYNTAX),
+        ("$.Integer()", SYNTAX),
+        ("$.int()", SYNTAX),
+        ("string()", SYNTAX),
+    ] {
+        expect_shown(&rt, rt.alloc(), text, answer)?;
     }
     Ok(())
 }
@@ -303,13 +343,15 @@ fn repeated(
     Ok(text)
 }
 
+fn expect_shown(rt: &impl Abort, alloc: Global, text: &str, want: &str) -> Result<(), Fail> {
+    let found = shown(alloc, parse_path(alloc, text))?;
+    expect(rt, found.as_str(), want, text);
+    Ok(())
+}
+
 #[test]
 fn limits_and_hostile_texts(rt: HostRuntime) -> Result<(), Fail> {
-    let alloc = rt.alloc();
-    let closed = repeated(alloc, "$", ")", 64, "")?;
     for (before, part, many, after, answer) in [
-        ("", "(", 64, closed.as_str(), "$"),
-        ("", "(", 65, closed.as_str(), TOO_DEEP),
         ("$", ".a", 257, "", TOO_DEEP),
         ("$", " ", 1_000_000, "", "$"),
         ("", "(", 1_000_000, "", TOO_DEEP),
@@ -320,33 +362,63 @@ fn limits_and_hostile_texts(rt: HostRuntime) -> Result<(), Fail> {
         ("", "9", 1_000_000, "", LEX),
         ("\"", "\\n", 500_000, "", LEX),
     ] {
-        let text = repeated(alloc, before, part, many, after)?;
-        let found = shown(alloc, parse_path(alloc, text.as_str()))?;
-        assert_eq!(rt; found.as_str(), answer, "{part}");
+        let text = repeated(rt.alloc(), before, part, many, after)?;
+        expect_shown(&rt, rt.alloc(), text.as_str(), answer)?;
     }
-    let text = repeated(alloc, "$", ".a", 256, "")?;
-    let path = parse_path(alloc, text.as_str())?;
-    assert_eq!(rt; nodes(&path), 513);
     Ok(())
 }
 
 #[test]
-fn members_and_variables(rt: HostRuntime) -> Result<(), Fail> {
-    let alloc = rt.alloc();
-    assert_eq!(rt; nodes(&parse_path(alloc, "lax $.a.b")?), 5);
-    assert_eq!(rt; nodes(&parse_path(alloc, "$[0, 1 to 2] ? (@ == 1)")?), 13);
-    let member = shown(alloc, Ok(member_path(alloc, "a\"b")?))?;
-    assert_eq!(rt; member.as_str(), "$.\"a\"b\"");
-
-    let mut vars = Vars::new(alloc);
-    vars.push(Text::from_str(alloc, "x")?, Literal::Bool(true))?;
-    let path = parse_path(alloc, "$x ? (@ starts with $y)")?;
-    assert!(rt; vars.has("x") && !vars.has("y") && !vars.covers(&path));
-    assert!(rt; !vars.has("y"));
-    if !vars.has("y") {
-        vars.push(Text::from_str(alloc, "y")?, Literal::Null)?;
+fn limits_of_parentheses(rt: HostRuntime) -> Result<(), Fail> {
+    let closed = repeated(rt.alloc(), "$", ")", 64, "")?;
+    for (many, answer) in [(64, "$"), (65, TOO_DEEP)] {
+        let text = repeated(rt.alloc(), "", "(", many, closed.as_str())?;
+        expect_shown(&rt, rt.alloc(), text.as_str(), answer)?;
     }
-    assert!(rt; vars.covers(&path) && matches!(vars.get("x"), Some(Literal::Bool(true))));
+    Ok(())
+}
+
+fn expect_nodes(rt: &impl Abort, alloc: Global, text: &str, want: u64) -> Result<(), Fail> {
+    let path = parse_path(alloc, text)?;
+    expect_count(rt, nodes(&path), want);
+    Ok(())
+}
+
+#[test]
+fn counts_nodes(rt: HostRuntime) -> Result<(), Fail> {
+    let alloc = rt.alloc();
+    expect_nodes(&rt, alloc, "lax $.a.b", 5)?;
+    expect_nodes(&rt, alloc, "$[0, 1 to 2] ? (@ == 1)", 13)?;
+    let longest = repeated(alloc, "$", ".a", 256, "")?;
+    expect_nodes(&rt, alloc, longest.as_str(), 513)
+}
+
+#[test]
+fn paths_of_members(rt: HostRuntime) -> Result<(), Fail> {
+    let member = shown(rt.alloc(), Ok(member_path(rt.alloc(), "a\"b")?))?;
+    expect(&rt, member.as_str(), "$.\"a\"b\"", "a member");
+    Ok(())
+}
+
+fn push_variable(alloc: Global, vars: &mut Vars, name: &str, value: Literal) -> Result<(), Fail> {
+    if vars.has(name) {
+        return Err("passed twice")?;
+    }
+    Ok(vars.push(Text::from_str(alloc, name)?, value)?)
+}
+
+fn passes_variables(rt: &impl Abort, alloc: Global, path: &Path) -> Result<(), Fail> {
+    let mut vars = Vars::new(alloc);
+    push_variable(alloc, &mut vars, "x", Literal::Bool(true))?;
+    assert!(rt; vars.has("x") && !vars.has("y") && !vars.covers(path));
+    push_variable(alloc, &mut vars, "y", Literal::Null)?;
+    assert!(rt; vars.covers(path) && matches!(vars.get("x"), Some(Literal::Bool(true))));
     assert!(rt; vars.get("z").is_none());
     Ok(())
+}
+
+#[test]
+fn variables(rt: HostRuntime) -> Result<(), Fail> {
+    let path = parse_path(rt.alloc(), "$x ? (@ starts with $y)")?;
+    passes_variables(&rt, rt.alloc(), &path)
 }

@@ -2,6 +2,7 @@
 ghost use Rattle.std.specs.Prelude.{◌≡◌, length, IfOk};
 ghost use Rattle.sj_value.specs.Plans.{plan_tree, path_rows, outer_join, inner_join, union_of, cross_of, IsPlanOver};
 
+use super::cases::{expect, sides};
 use sj_base::{Steps, Tally};
 use sj_doc::{Doc, Kind, NodeRef, Num};
 use sj_item::Item;
@@ -34,21 +35,17 @@ enum Shape {
     Chain,
 }
 
-/// The texts of the paths 0, 1 and 2, of which the last ones may be empty, and how they are joined.
-#[derive(Clone, Copy)]
-struct Texts {
-    row: &'static str,
-    first: &'static str,
-    second: &'static str,
-    shape: Shape,
-}
-
-fn table(row: &'static str, first: &'static str, second: &'static str, shape: Shape) -> Texts {
-    Texts {
-        row,
-        first,
-        second,
-        shape,
+fn shape_of(word: &str) -> Result<Shape, Fail> {
+    match word {
+        "single" => Ok(Shape::Single),
+        "outer" => Ok(Shape::Outer),
+        "inner" => Ok(Shape::Inner),
+        "union" => Ok(Shape::Union),
+        "turned" => Ok(Shape::TurnedUnion),
+        "cross" => Ok(Shape::Cross),
+        "inner-cross" => Ok(Shape::InnerCross),
+        "chain" => Ok(Shape::Chain),
+        _ => Err("no such shape")?,
     }
 }
 
@@ -97,30 +94,13 @@ fn plan(alloc: Global, shape: Shape, count: usize) -> Result<Plan, Fail>
     }
 }
 
-fn document(alloc: Global, line: &str) -> Result<Doc, Fail> {
-    match read(alloc, line.as_bytes()) {
-        Ok(doc) => Ok(doc),
-        Err(_refusal) => Err("no document")?,
-    }
-}
-
 // The paths of a table, in the order of their numbers.
-fn read_paths(alloc: Global, table: Texts) -> Result<Vec<Path>, Fail> {
+fn read_paths(alloc: Global, texts: &str) -> Result<Vec<Path>, Fail> {
     let mut paths = Vec::new(alloc);
-    push_path(alloc, &mut paths, table.row)?;
-    push_path(alloc, &mut paths, table.first)?;
-    push_path(alloc, &mut paths, table.second)?;
+    for text in texts.split(" ; ") {
+        paths.push(parse_path(alloc, text)?)?;
+    }
     Ok(paths)
-}
-
-fn push_path(alloc: Global, paths: &mut Vec<Path>, text: &str) -> Result<(), Fail> {
-    if text.is_empty() {
-        return Ok(());
-    }
-    match parse_path(alloc, text) {
-        Ok(path) => Ok(paths.push(path)?),
-        Err(_refusal) => Err("no path")?,
-    }
 }
 
 // A number or a string as its text, and any other node as its number in the document.
@@ -160,7 +140,28 @@ fn push_row(text: &mut String, cursor: &TableCursor<'_>, count: u32) -> Result<(
     Ok(())
 }
 
-// All rows that are left, and the end, which is asked for twice.
+// The end, which is asked for again: it comes without a step, and no path has an entry.
+fn push_end(
+    text: &mut String,
+    cursor: &mut TableCursor<'_>,
+    end: RowPull,
+    steps: &mut Steps<Tally>,
+) -> Result<(), Fail> {
+    let spent = steps.ledger().count();
+    if cursor.next_row(steps) != end || steps.ledger().count() != spent {
+        return Err("another end")?;
+    }
+    if cursor.at(0).is_some() {
+        return Err("a row behind the end")?;
+    }
+    match end {
+        RowPull::Raised(state) => text.push_str(state.code())?,
+        _ => text.push_str("end")?,
+    }
+    Ok(())
+}
+
+// All rows that are left, and the end.
 fn push_rows(
     text: &mut String,
     cursor: &mut TableCursor<'_>,
@@ -170,192 +171,170 @@ fn push_rows(
     for _ in 0..100 {
         match cursor.next_row(steps) {
             RowPull::Row => push_row(text, cursor, count)?,
-            end => {
-                let spent = steps.ledger().count();
-                if cursor.next_row(steps) != end || steps.ledger().count() != spent {
-                    return Err("another end")?;
-                }
-                if cursor.at(0).is_some() {
-                    return Err("a row behind the end")?;
-                }
-                match end {
-                    RowPull::Raised(state) => text.push_str(state.code())?,
-                    _ => text.push_str("end")?,
-                }
-                return Ok(());
-            }
+            end => return push_end(text, cursor, end, steps),
         }
     }
     Err("too many rows")?
 }
 
-// The rows of a plan on a document from a new cursor, and then those on a second one after a rewind in the midst of the first, with the
-// steps of the first and the last part.
+// The rows of a new cursor, of which no path has an entry before, and how many steps they took.
+fn first_rows(text: &mut String, cursor: &mut TableCursor<'_>, count: u32) -> Result<u64, Fail> {
+    for path in 0..count {
+        if cursor.at(path).is_some() {
+            return Err("an entry before the first row")?;
+        }
+    }
+    let mut steps = Steps::new(Tally::new());
+    push_rows(text, cursor, count, &mut steps)?;
+    Ok(steps.ledger().count())
+}
+
+// The rows on the second document after a rewind in the midst of the rows on the first one.
+fn second_rows<'d>(
+    text: &mut String,
+    cursor: &mut TableCursor<'d>,
+    count: u32,
+    docs: (&'d Doc, &'d Doc),
+) -> Result<(), Fail> {
+    let mut steps = Steps::new(Tally::new());
+    cursor.rewind(Item::Node(docs.0.root()));
+    let _row = cursor.next_row(&mut steps);
+    cursor.rewind(Item::Node(docs.1.root()));
+    push_rows(text, cursor, count, &mut steps)
+}
+
+// Appends the rows on the first document to one text and those on the second one to another, and says how many steps
+// the first ones took.
 fn rows_on<'d>(
     alloc: Global,
     plan: &'d Plan,
     paths: &'d [Path],
     on_error: TableAction,
     docs: (&'d Doc, &'d Doc),
-) -> Result<(String, String, u64), Fail>
+    first: &mut String,
+    second: &mut String,
+) -> Result<u64, Fail>
     requires { IsPlanOver (length paths.now) (plan_tree plan.now) }
 {
+    let Ok(count) = u32::try_from(paths.len()) else {
+        return Err("too many paths")?;
+    };
     let vars = Vars::new(alloc);
-    let count = match u32::try_from(paths.len()) {
-        Ok(count) => count,
-        Err(_) => return Err("too many paths")?,
-    };
     let root = Item::Node(docs.0.root());
-    let mut cursor = match TableCursor::new(alloc, plan, paths, &vars, on_error, root) {
-        Ok(cursor) => cursor,
-        Err(_memory) => return Err("memory")?,
-    };
-    let mut first = String::new(alloc);
-    let mut begun = Steps::new(Tally::new());
-    push_row(&mut first, &cursor, count)?;
-    push_rows(&mut first, &mut cursor, count, &mut begun)?;
-    cursor.rewind(root);
-    let mut other = Steps::new(Tally::new());
-    let _row = cursor.next_row(&mut other);
-    cursor.rewind(Item::Node(docs.1.root()));
-    let mut second = String::new(alloc);
-    push_rows(&mut second, &mut cursor, count, &mut other)?;
-    Ok((first, second, begun.ledger().count()))
+    let mut cursor = TableCursor::new(alloc, plan, paths, &vars, on_error, root)?;
+    let steps = first_rows(first, &mut cursor, count)?;
+    second_rows(second, &mut cursor, count, docs)?;
+    Ok(steps)
 }
 
-// The rows on a line, and the steps that giving them took.
-fn rows(
+// The rows, and the most steps that they may take.
+fn expect_rows_on<'d>(
     rt: &impl Abort,
     alloc: Global,
-    line: &str,
-    table: Texts,
+    plan: &'d Plan,
+    paths: &'d [Path],
     on_error: TableAction,
-) -> Result<(String, u64), Fail> {
-    let paths = read_paths(alloc, table)?;
-    let plan = plan(alloc, table.shape, paths.len())?;
-    let doc = document(alloc, line)?;
-    let again = document(alloc, line)?;
-    let (first, second, steps) = rows_on(alloc, &plan, &paths, on_error, (&doc, &again))?;
-    let mut expected = String::new(alloc);
-    for _path in &paths {
-        expected.push_str("- ")?;
-    }
-    expected.push_str("/ ")?;
-    expected.push_str(second.as_str())?;
-    assert_eq!(rt;
-        first.as_str(),
-        expected.as_str(),
-        "after a rewind on {line}"
-    );
-    Ok((second, steps))
+    docs: (&'d Doc, &'d Doc),
+    wanted: (&str, u64),
+) -> Result<(), Fail>
+    requires { IsPlanOver (length paths.now) (plan_tree plan.now) }
+{
+    let mut first = String::new(alloc);
+    let mut second = String::new(alloc);
+    let steps = rows_on(alloc, plan, paths, on_error, docs, &mut first, &mut second)?;
+    expect(rt, first.as_str(), wanted.0, "new rows");
+    expect(rt, second.as_str(), wanted.0, "after a rewind");
+    assert!(rt; steps <= wanted.1);
+    Ok(())
 }
 
+// The rows of a table on a document and on another with the same text.
 fn expect_rows(
     rt: &impl Abort,
     alloc: Global,
-    line: &str,
-    table: Texts,
-    on_error: TableAction,
-    want: &str,
-    bound: u64,
+    (shape, on_error, texts): (Shape, TableAction, &str),
+    docs: (&Doc, &Doc),
+    wanted: (&str, u64),
 ) -> Result<(), Fail> {
-    let (rows, steps) = rows(rt, alloc, line, table, on_error)?;
-    assert_eq!(rt; rows.as_str(), want, "on {line}");
-    assert!(rt; steps <= bound, "{steps} steps on {line}");
-    Ok(())
+    let paths = read_paths(alloc, texts)?;
+    let plan = plan(alloc, shape, paths.len())?;
+    expect_rows_on(rt, alloc, &plan, &paths, on_error, docs, wanted)
 }
 
-#[test]
-fn gives_rows_of_plans(rt: HostRuntime) -> Result<(), Fail> {
-    use TableAction::{Empty, Error};
-    let parents = r#"{"p":[{"n":1,"x":[5,6],"y":[]},{"n":2,"x":[],"y":[]}]}"#;
-    let sides = r#"{"x":[1,2],"y":["a","b"]}"#;
-    let faulty = r#"{"g":[{"e":[1]},{"e":["x"]},{"e":[2]}]}"#;
-    let order = r#"{"order":1001,"lines":[{"sku":"A-1"},{"sku":"B-7"}]}"#;
-    let deep = r#"{"g":[{"e":[{"f":[7]},{"f":[]}]},{"e":[]}]}"#;
-    let nested = table("lax $.p[*]", "lax $.x[*]", "lax $.y[*]", Shape::Union);
-    let crossed = table("lax $.p[*]", "lax $.x[*]", "lax $.y[*]", Shape::InnerCross);
-    let inner = table("lax $.p[*]", "lax $.x[*]", "", Shape::Inner);
-    let lines = table("lax $.lines[*]", "", "", Shape::Single);
-    let skus = table("lax $.lines[*].sku", "", "", Shape::Single);
-    let cross = table("lax $", "lax $.x[*]", "lax $.y[*]", Shape::Cross);
-    let turned = table("lax $", "lax $.x[*]", "lax $.y[*]", Shape::TurnedUnion);
-    let numbers = table("lax $.g[*]", "lax $.e[*].abs()", "", Shape::Outer);
-    let strict = table("strict $.g.e", "", "", Shape::Single);
-    let picked = table("lax $.g[0, 2]", "lax $.e[*]", "", Shape::Inner);
-    let levels = table("lax $.g[*]", "lax $.e[*]", "lax $.f[*]", Shape::Chain);
-    let absent = table("lax $.z", "", "", Shape::Single);
-    let unions = "1=#2 1=5 - / 1=#2 2=6 - / 2=#8 - - / end";
-    let pairs = "1=#0 1=1 1=a / 1=#0 1=1 2=b / 1=#0 2=2 1=a / 1=#0 2=2 2=b / end";
-    let turns = "1=#0 - 1=a / 1=#0 - 2=b / 1=#0 1=1 - / 1=#0 2=2 - / end";
-    let chains = "1=#2 1=#4 1=7 / 1=#2 2=#7 - / 2=#9 - - / end";
-    let cases = [
-        (parents, nested, Empty, unions, 34),
-        (parents, crossed, Empty, "end", 34),
-        (parents, inner, Empty, "1=#2 1=5 / 1=#2 2=6 / end", 22),
-        (order, lines, Empty, "1=#3 / 2=#5 / end", 8),
-        (order, skus, Empty, "1=A-1 / 2=B-7 / end", 12),
-        (sides, cross, Empty, pairs, 24),
-        (sides, turned, Empty, turns, 16),
-        (
-            faulty,
-            numbers,
-            Empty,
-            "1=#2 1=1 / 2=#5 - / 3=#8 1=2 / end",
-            18,
-        ),
-        (faulty, numbers, Error, "1=#2 1=1 / 22036", 14),
-        (faulty, strict, Empty, "end", 1),
-        (faulty, strict, Error, "2203C", 1),
-        (faulty, picked, Empty, "1=#2 1=1 / 2=#8 1=2 / end", 18),
-        (deep, levels, Empty, chains, 20),
-        (sides, absent, Empty, "end", 4),
-    ];
-    for (line, table, on_error, want, bound) in cases {
-        expect_rows(&rt, rt.alloc(), line, table, on_error, want, bound)?;
+// A line has a shape, what an error gives and paths, and behind the arrow the rows and the most steps that they may
+// take.
+fn expect_line(rt: &impl Abort, alloc: Global, line: &str, docs: (&Doc, &Doc)) -> Result<(), Fail> {
+    let (table, wanted) = sides(line)?;
+    let (words, texts) = table.split_once(" ; ").ok_or("no path")?;
+    let (shape, on_error) = words.split_once(' ').ok_or("no action")?;
+    let (rows, bound) = wanted.rsplit_once(' ').ok_or("no bound")?;
+    let on_error = match on_error {
+        "empty" => TableAction::Empty,
+        "error" => TableAction::Error,
+        _ => return Err("no such action")?,
+    };
+    let table = (shape_of(shape)?, on_error, texts);
+    expect_rows(rt, alloc, table, docs, (rows, bound.parse()?))
+}
+
+// Tries the lines behind a document.
+fn expect_lines(rt: &impl Abort, alloc: Global, text: &str, lines: &str) -> Result<(), Fail> {
+    let doc = read(alloc, text.as_bytes())?;
+    let again = read(alloc, text.as_bytes())?;
+    for line in lines.lines() {
+        expect_line(rt, alloc, line, (&doc, &again))?;
     }
     Ok(())
 }
 
+// Groups of a document and tables over it.
+const TABLES: &str = r#"{"p":[{"n":1,"x":[5,6],"y":[]},{"n":2,"x":[],"y":[]}]}
+union empty ; lax $.p[*] ; lax $.x[*] ; lax $.y[*] => 1=#2 1=5 - / 1=#2 2=6 - / 2=#8 - - / end 34
+inner-cross empty ; lax $.p[*] ; lax $.x[*] ; lax $.y[*] => end 34
+inner empty ; lax $.p[*] ; lax $.x[*] => 1=#2 1=5 / 1=#2 2=6 / end 22
+
+{"order":1001,"lines":[{"sku":"A-1"},{"sku":"B-7"}]}
+single empty ; lax $.lines[*] => 1=#3 / 2=#5 / end 8
+single empty ; lax $.lines[*].sku => 1=A-1 / 2=B-7 / end 12
+
+{"x":[1,2],"y":["a","b"]}
+cross empty ; lax $ ; lax $.x[*] ; lax $.y[*] => 1=#0 1=1 1=a / 1=#0 1=1 2=b / 1=#0 2=2 1=a / 1=#0 2=2 2=b / end 24
+turned empty ; lax $ ; lax $.x[*] ; lax $.y[*] => 1=#0 - 1=a / 1=#0 - 2=b / 1=#0 1=1 - / 1=#0 2=2 - / end 16
+single empty ; lax $.z => end 4
+
+{"g":[{"e":[1]},{"e":["x"]},{"e":[2]}]}
+outer empty ; lax $.g[*] ; lax $.e[*].abs() => 1=#2 1=1 / 2=#5 - / 3=#8 1=2 / end 18
+outer error ; lax $.g[*] ; lax $.e[*].abs() => 1=#2 1=1 / 22036 14
+single empty ; strict $.g.e => end 1
+single error ; strict $.g.e => 2203C 1
+inner empty ; lax $.g[0, 2] ; lax $.e[*] => 1=#2 1=1 / 2=#8 1=2 / end 18
+
+{"g":[{"e":[{"f":[7]},{"f":[]}]},{"e":[]}]}
+chain empty ; lax $.g[*] ; lax $.e[*] ; lax $.f[*] => 1=#2 1=#4 1=7 / 1=#2 2=#7 - / 2=#9 - - / end 20"#;
+
 // The bounds are those of one run of each path whose form rules out a fault.
+const RUN_ONCE: &str = r#"{"p":[{"n":1,"x":[5,6],"y":[]},{"n":2,"x":[],"y":[]}]}
+outer error ; lax $.p[*] ; lax $.x[*] => 1=#2 1=5 / 1=#2 2=6 / 2=#8 - / end 11
+inner error ; lax $.p[*] ; lax $.x[*] => 1=#2 1=5 / 1=#2 2=6 / end 11
+union error ; lax $.p[*] ; lax $.x[*] ? (@ > 5) ; lax $.y[*] => 1=#2 1=6 - / 2=#8 - - / end 17
+cross error ; lax $.p[*] ; lax $.x[*] ; lax $.y[*] => 1=#2 - - / 2=#8 - - / end 17
+
+{"x":[1,2],"y":["a","b"]}
+cross error ; lax $ ; lax $.x[0, last] ; lax $.y[1 to 5] => 1=#0 1=1 1=b / 1=#0 2=2 1=b / end 13
+
+{"g":[{"e":[{"f":1},{"h":2}]},{"e":[{"f":3}]}]}
+single empty ; strict $.g[*].e[*].f => end 7
+single error ; strict $.g[*].e[*].f => 2203A 7
+outer empty ; lax $.g[*] ; strict $.e[*].f => 1=#2 - / 2=#8 1=3 / end 14
+outer error ; lax $.g[*] ; strict $.e[*].f => 2203A 7"#;
+
 #[test]
-fn runs_paths_that_have_no_fault_once(rt: HostRuntime) -> Result<(), Fail> {
-    use TableAction::{Empty, Error};
-    let parents = r#"{"p":[{"n":1,"x":[5,6],"y":[]},{"n":2,"x":[],"y":[]}]}"#;
-    let sides = r#"{"x":[1,2],"y":["a","b"]}"#;
-    let partly = r#"{"g":[{"e":[{"f":1},{"h":2}]},{"e":[{"f":3}]}]}"#;
-    let outer = table("lax $.p[*]", "lax $.x[*]", "", Shape::Outer);
-    let inner = table("lax $.p[*]", "lax $.x[*]", "", Shape::Inner);
-    let tested = table(
-        "lax $.p[*]",
-        "lax $.x[*] ? (@ > 5)",
-        "lax $.y[*]",
-        Shape::Union,
-    );
-    let crossed = table("lax $.p[*]", "lax $.x[*]", "lax $.y[*]", Shape::Cross);
-    let indexed = table("lax $", "lax $.x[0, last]", "lax $.y[1 to 5]", Shape::Cross);
-    let row = table("strict $.g[*].e[*].f", "", "", Shape::Single);
-    let nested = table("lax $.g[*]", "strict $.e[*].f", "", Shape::Outer);
-    let pairs = "1=#0 1=1 1=b / 1=#0 2=2 1=b / end";
-    let cases = [
-        (
-            parents,
-            outer,
-            Error,
-            "1=#2 1=5 / 1=#2 2=6 / 2=#8 - / end",
-            11,
-        ),
-        (parents, inner, Error, "1=#2 1=5 / 1=#2 2=6 / end", 11),
-        (parents, tested, Error, "1=#2 1=6 - / 2=#8 - - / end", 17),
-        (parents, crossed, Error, "1=#2 - - / 2=#8 - - / end", 17),
-        (sides, indexed, Error, pairs, 13),
-        (partly, row, Empty, "end", 7),
-        (partly, row, Error, "2203A", 7),
-        (partly, nested, Empty, "1=#2 - / 2=#8 1=3 / end", 14),
-        (partly, nested, Error, "2203A", 7),
-    ];
-    for (line, table, on_error, want, bound) in cases {
-        expect_rows(&rt, rt.alloc(), line, table, on_error, want, bound)?;
+fn gives_rows_of_plans(rt: HostRuntime) -> Result<(), Fail> {
+    for groups in [TABLES, RUN_ONCE] {
+        for group in groups.split("\n\n") {
+            let (text, lines) = group.split_once('\n').ok_or("a document alone")?;
+            expect_lines(&rt, rt.alloc(), text, lines)?;
+        }
     }
     Ok(())
 }

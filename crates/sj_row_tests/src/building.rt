@@ -1,10 +1,12 @@
 // Constructors and aggregates on examples, refusals in the middle among them.
 
+use super::cases::{expect, expect_bytes};
 use sj_base::{Bytes, Text};
 use sj_build::{ArrayAgg, BuildRefusal, Field, ObjectAgg, json_array, json_object};
 use sj_item::Item;
 use sj_value::{CastRefusal, Nulls, SqlType, SqlValue, cast};
 use std::alloc::Global;
+use std::process::Abort;
 use std::test::Fail;
 
 /// A number that is to print two decimals.
@@ -16,7 +18,8 @@ fn price(alloc: Global, text: &str) -> Result<SqlValue, Fail> {
     }
 }
 
-/// A word as a value: NULL, a truth value, a text behind an apostrophe, a JSON text behind a colon, or a number that is to print two decimals.
+/// A word as a value: NULL, a truth value, a text behind an apostrophe, a JSON text behind a colon, or a number that is
+/// to print two decimals.
 fn value(alloc: Global, word: &str) -> Result<SqlValue, Fail> {
     if let Some(text) = word.strip_prefix('\'') {
         return Ok(SqlValue::Text(Text::from_str(alloc, text)?));
@@ -116,6 +119,21 @@ fn answer_of(object: &Result<SqlValue, BuildRefusal>) -> Result<&[u8], Fail> {
     }
 }
 
+/// By the constructor and by the aggregate.
+fn expect_array(
+    rt: &impl Abort,
+    alloc: Global,
+    values: &[SqlValue],
+    nulls: Nulls,
+    want: &str,
+) -> Result<(), Fail> {
+    let array = json_array(alloc, values, nulls)?;
+    expect_bytes(rt, shown(&array), want.as_bytes(), "at once");
+    let array = gathered(alloc, values, nulls)?;
+    expect_bytes(rt, shown(&array), want.as_bytes(), "one by one");
+    Ok(())
+}
+
 #[test]
 fn makes_arrays(rt: HostRuntime) -> Result<(), Fail> {
     let table = [
@@ -139,12 +157,24 @@ fn makes_arrays(rt: HostRuntime) -> Result<(), Fail> {
     for (words, kept, absent) in table {
         let values = values(rt.alloc(), words)?;
         for (nulls, want) in [(Nulls::Null, kept), (Nulls::Absent, absent)] {
-            let array = json_array(rt.alloc(), &values, nulls)?;
-            assert_eq!(rt; shown(&array), want.as_bytes(), "{words}");
-            let array = gathered(rt.alloc(), &values, nulls)?;
-            assert_eq!(rt; shown(&array), want.as_bytes(), "{words}, added one by one");
+            expect_array(&rt, rt.alloc(), &values, nulls, want)?;
         }
     }
+    Ok(())
+}
+
+/// By the constructor and by the aggregate.
+fn expect_object(
+    rt: &impl Abort,
+    alloc: Global,
+    fields: &[Field],
+    (nulls, unique): (Nulls, bool),
+    want: &str,
+) -> Result<(), Fail> {
+    let object = json_object(alloc, fields, nulls, unique);
+    expect_bytes(rt, answer_of(&object)?, want.as_bytes(), "at once");
+    let object = collected(alloc, fields, nulls, unique);
+    expect_bytes(rt, answer_of(&object)?, want.as_bytes(), "one by one");
     Ok(())
 }
 
@@ -204,14 +234,7 @@ fn makes_objects_and_refuses_the_first_wrong_member(rt: HostRuntime) -> Result<(
         let fields = fields(rt.alloc(), words)?;
         for (unique, [kept, absent]) in [(false, plain), (true, with_unique)] {
             for (nulls, want) in [(Nulls::Null, kept), (Nulls::Absent, absent)] {
-                let object = json_object(rt.alloc(), &fields, nulls, unique);
-                assert_eq!(rt; answer_of(&object)?, want.as_bytes(), "{words}");
-                let object = collected(rt.alloc(), &fields, nulls, unique);
-                assert_eq!(rt;
-                    answer_of(&object)?,
-                    want.as_bytes(),
-                    "{words}, added one by one"
-                );
+                expect_object(&rt, rt.alloc(), &fields, (nulls, unique), want)?;
             }
         }
     }
@@ -221,21 +244,34 @@ fn makes_objects_and_refuses_the_first_wrong_member(rt: HostRuntime) -> Result<(
 #[test]
 fn nothing_is_an_empty_list_and_null_over_no_rows(rt: HostRuntime) -> Result<(), Fail> {
     for nulls in [Nulls::Null, Nulls::Absent] {
-        assert_eq!(rt;
-            shown(&json_array(rt.alloc(), &[], nulls)?),
-            b"[]".as_slice()
-        );
-        assert_eq!(rt;
-            shown(&ArrayAgg::new(rt.alloc(), nulls).finish()),
-            b"NULL".as_slice()
-        );
+        let array = json_array(rt.alloc(), &[], nulls)?;
+        expect_bytes(&rt, shown(&array), b"[]", "no values");
+        let array = ArrayAgg::new(rt.alloc(), nulls).finish();
+        expect_bytes(&rt, shown(&array), b"NULL", "no rows");
         for unique in [false, true] {
             let object = json_object(rt.alloc(), &[], nulls, unique);
-            assert_eq!(rt; answer_of(&object)?, b"{}".as_slice());
+            expect_bytes(&rt, answer_of(&object)?, b"{}", "no members");
             let object = ObjectAgg::new(rt.alloc(), nulls, unique).finish();
-            assert_eq!(rt; shown(&object), b"NULL".as_slice());
+            expect_bytes(&rt, shown(&object), b"NULL", "no rows");
         }
     }
+    Ok(())
+}
+
+/// Adds a member, and compares the state in which it is refused; of one that is added that is an empty text.
+fn expect_added(
+    rt: &impl Abort,
+    alloc: Global,
+    object: &mut ObjectAgg,
+    word: &str,
+    want: &str,
+) -> Result<(), Fail> {
+    let refused = match object.add(&field(alloc, word)?) {
+        Ok(()) => "",
+        Err(BuildRefusal::State(state)) => state.code(),
+        Err(BuildRefusal::Memory) => return Err("memory")?,
+    };
+    expect(rt, refused, want, word);
     Ok(())
 }
 
@@ -243,32 +279,32 @@ fn nothing_is_an_empty_list_and_null_over_no_rows(rt: HostRuntime) -> Result<(),
 fn a_refused_member_changes_nothing(rt: HostRuntime) -> Result<(), Fail> {
     let mut object = ObjectAgg::new(rt.alloc(), Nulls::Absent, true);
     for (word, want) in [
-        ("NULL=1", Some("22004")),
-        ("a=NULL", None),
-        ("a=1", None),
-        ("a=2", Some("22030")),
-        ("a=NULL", None),
-        ("NULL=NULL", Some("22004")),
-        ("b=2", None),
-        ("b=3", Some("22030")),
-        ("a=:[]", Some("22030")),
-        ("c='x", None),
+        ("NULL=1", "22004"),
+        ("a=NULL", ""),
+        ("a=1", ""),
+        ("a=2", "22030"),
+        ("a=NULL", ""),
+        ("NULL=NULL", "22004"),
+        ("b=2", ""),
+        ("b=3", "22030"),
+        ("a=:[]", "22030"),
+        ("c='x", ""),
     ] {
-        let refused = match object.add(&field(rt.alloc(), word)?) {
-            Ok(()) => None,
-            Err(BuildRefusal::State(state)) => Some(state.code()),
-            Err(BuildRefusal::Memory) => Err("memory")?,
-        };
-        assert_eq!(rt; refused, want, "{word}");
+        expect_added(&rt, rt.alloc(), &mut object, word, want)?;
     }
-    assert_eq!(rt;
+    expect_bytes(
+        &rt,
         shown(&object.finish()),
-        b"{\"a\":1,\"b\":2,\"c\":\"x\"}".as_slice()
+        b"{\"a\":1,\"b\":2,\"c\":\"x\"}",
+        "what was added",
     );
+    Ok(())
+}
 
-    // where the first is refused nothing was added
+#[test]
+fn nothing_is_added_where_the_first_member_is_refused(rt: HostRuntime) -> Result<(), Fail> {
     let mut object = ObjectAgg::new(rt.alloc(), Nulls::Null, false);
-    let _ = object.add(&field(rt.alloc(), "NULL=1")?);
-    assert_eq!(rt; shown(&object.finish()), b"NULL".as_slice());
+    expect_added(&rt, rt.alloc(), &mut object, "NULL=1", "22004")?;
+    expect_bytes(&rt, shown(&object.finish()), b"NULL", "nothing");
     Ok(())
 }

@@ -7,6 +7,8 @@
 #[cfg(test)]
 mod building;
 #[cfg(test)]
+mod cases;
+#[cfg(test)]
 mod outside;
 #[cfg(test)]
 mod rows;

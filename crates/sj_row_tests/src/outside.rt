@@ -1,4 +1,5 @@
-// Each call with ample memory, its answer compared; the objects in memory by tables of failing calls and cuts; the adapters over fakes and a file.
+// Each call with ample memory, its answer compared; the objects in memory by tables of failing calls and cuts; the
+// adapters over fakes and a file.
 use sj_base::{
     Bytes, CountSink, Failed, FileShelf, Ledger, MemShelf, MemSink, MemSource, Memory, QuietShelf,
     QuietSource, Shelf, Sink, Source, State, StderrSink, StdinSource, StdoutSink, Steps, Tally,
@@ -85,7 +86,8 @@ fn a_source_fails_and_is_cut_at_the_listed_calls(rt: HostRuntime) -> Result<(), 
     let cuts = [3, 0, 9, 1].to_vec(rt.alloc())?;
     let fails = [1, 5].to_vec(rt.alloc())?;
     let mut source = MemSource::new(bytes, cuts, fails);
-    // the first call is cut to 3, a cut of 0 is none, a cut above the room changes nothing, and the last bytes are fewer than the room
+    // the first call is cut to 3, a cut of 0 is none, a cut above the room changes nothing, and the last bytes are
+    // fewer than the room
     let wants = [
         Ok(b"abc".as_slice()),
         Err(Failed),

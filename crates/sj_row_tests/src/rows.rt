@@ -167,7 +167,8 @@ fn price(alloc: Global, text: &str) -> Result<SqlValue, Fail>
     }
 }
 
-/// A word as a value: NULL, a truth value, a text behind an apostrophe, a JSON text behind a colon, or a number with two decimals.
+/// A word as a value: NULL, a truth value, a text behind an apostrophe, a JSON text behind a colon, or a number with
+/// two decimals.
 fn value(alloc: Global, word: &str) -> Result<SqlValue, Fail>
     ensures { IfOk result IsPrintable }
 {

@@ -3,6 +3,7 @@ ghost use Rattle.std.specs.Prelude.{IfOk};
 ghost use Rattle.sj_bind.specs.Sound.{IsSound};
 ghost use Rattle.sj_bind.specs.View.{bound_of};
 
+use super::cases::expect;
 use sj_base::{Steps, Tally};
 use sj_bind::{BindRefusal, Bound, bind};
 use sj_doc::Doc;
@@ -100,35 +101,74 @@ fn push_value(alloc: Global, value: &SqlValue, out: &mut String) -> Result<(), F
 /// More rows than any test has.
 const MOST_ROWS: u32 = 1_000;
 
-/// The rows that are left, each with its values between bars, and the end behind them. An end comes again, with no row and without a
-/// step.
+fn push_row(alloc: Global, row: &[SqlValue], out: &mut String) -> Result<(), Fail> {
+    for value in row {
+        out.push_str("|")?;
+        push_value(alloc, value, out)?;
+    }
+    Ok(out.push_str("|")?)
+}
+
+fn push_end(
+    rt: &impl Abort,
+    rows: &mut RowsOf<'_>,
+    end: Turn,
+    steps: &mut Steps<Tally>,
+    out: &mut String,
+) -> Result<(), Fail> {
+    let count = steps.ledger().count();
+    assert!(rt; rows.take_row().is_empty());
+    assert!(rt; rows.next(steps)? == end);
+    assert!(rt; rows.take_row().is_empty());
+    assert!(rt; steps.ledger().count() == count);
+    if let Turn::Raised(state) = end {
+        out.push_str(state.code())?;
+    }
+    Ok(())
+}
+
+/// The rows that are left, each with its values between bars, and the end behind them. An end comes again, with no row
+/// and without a step.
 fn shown(rt: &impl Abort, alloc: Global, rows: &mut RowsOf<'_>) -> Result<String, Fail> {
     let mut out = String::new(alloc);
     let mut steps = Steps::new(Tally::new());
     for _ in 0..MOST_ROWS {
         match rows.next(&mut steps)? {
-            Turn::Row => {
-                let row = rows.take_row();
-                for value in row.as_slice() {
-                    out.push_str("|")?;
-                    push_value(alloc, value, &mut out)?;
-                }
-                out.push_str("|")?;
-            }
+            Turn::Row => push_row(alloc, rows.take_row().as_slice(), &mut out)?,
             end => {
-                let count = steps.ledger().count();
-                assert!(rt; rows.take_row().is_empty());
-                assert!(rt; rows.next(&mut steps)? == end);
-                assert!(rt; rows.take_row().is_empty());
-                assert_eq!(rt; steps.ledger().count(), count);
-                if let Turn::Raised(state) = end {
-                    out.push_str(state.code())?;
-                }
+                push_end(rt, rows, end, &mut steps, &mut out)?;
                 return Ok(out);
             }
         }
     }
     Err(Fail::from("too many rows"))
+}
+
+fn expect_shown(
+    rt: &impl Abort,
+    alloc: Global,
+    rows: &mut RowsOf<'_>,
+    want: &str,
+    about: &str,
+) -> Result<(), Fail> {
+    let found = shown(rt, alloc, rows)?;
+    expect(rt, found.as_str(), want, about);
+    Ok(())
+}
+
+fn expect_rows_of<'d>(
+    rt: &impl Abort,
+    alloc: Global,
+    bound: &'d Bound,
+    line: LineDoc<'d>,
+    want: &str,
+) -> Result<(), Fail>
+    requires { IsSound (bound_of bound.now) }
+{
+    let mut rows = rows_of(alloc, bound, line)?;
+    expect_shown(rt, alloc, &mut rows, want, "new rows")?;
+    rows.rewind(line);
+    expect_shown(rt, alloc, &mut rows, want, "again")
 }
 
 /// The rows of a statement for a line, from new ones and again from the same.
@@ -142,13 +182,7 @@ fn expect_rows(
     let doc = document(alloc, text)?;
     let line = line_of(alloc, &doc, keys)?;
     let bound = bound(alloc, statement)?;
-    let mut rows = rows_of(alloc, &bound, line)?;
-    let found = shown(rt, alloc, &mut rows)?;
-    assert_eq!(rt; found.as_str(), want, "{statement}");
-    rows.rewind(line);
-    let again = shown(rt, alloc, &mut rows)?;
-    assert_eq!(rt; again.as_str(), want, "{statement} again");
-    Ok(())
+    expect_rows_of(rt, alloc, &bound, line, want)
 }
 
 /// Lines, each with statements and their rows behind it.
@@ -240,6 +274,35 @@ SELECT * FROM JSON_TABLE(doc,'lax $.g[*]' COLUMNS (i FOR ORDINALITY, NESTED PATH
 SELECT JSON_ARRAYAGG(v) FROM JSON_TABLE(doc,'lax $.g[*]' COLUMNS (i FOR ORDINALITY, NESTED PATH 'lax $.e[*].abs()' COLUMNS (v INTEGER PATH 'lax $')) ERROR ON ERROR); => 22036
 SELECT i, v FROM JSON_TABLE(doc,'lax $.g[*]' COLUMNS (i FOR ORDINALITY, v INTEGER PATH 'lax $.e[0]' ERROR ON ERROR)); => |1:0|1:0|2203G
 
+{"g":[{"a":null},{"b":1}]}
+SELECT * FROM JSON_TABLE(doc,'lax $.g[*]' COLUMNS (o FOR ORDINALITY, h BOOLEAN EXISTS PATH 'lax $.a', a BOOLEAN EXISTS)); => |1:0|TRUE|TRUE||2:0|FALSE|FALSE|
+SELECT * FROM JSON_TABLE(doc,'lax $.g[*]' COLUMNS (o FOR ORDINALITY, h BOOLEAN EXISTS PATH 'strict $.a' ERROR ON ERROR)); => |1:0|TRUE|2203A
+SELECT * FROM JSON_TABLE(doc,'lax $.g[*]' COLUMNS (n BOOLEAN EXISTS PATH 'strict $.a', f BOOLEAN EXISTS PATH 'strict $.a' FALSE ON ERROR, t BOOLEAN EXISTS PATH 'strict $.a' TRUE ON ERROR, u BOOLEAN EXISTS PATH 'strict $.a' UNKNOWN ON ERROR) ERROR ON ERROR); => |TRUE|TRUE|TRUE|TRUE||FALSE|FALSE|TRUE|NULL|
+SELECT exists, 'k' FROM JSON_TABLE(doc,'lax $.g[*]' COLUMNS (exists BOOLEAN EXISTS PATH '$.b')); => |FALSE|'k'||TRUE|'k'|
+SELECT JSON_ARRAYAGG(a), JSON_OBJECTAGG('k' : a) FROM JSON_TABLE(doc,'lax $.g[*]' COLUMNS (a BOOLEAN EXISTS)); => |[true,false]|{"k":true,"k":false}|
+SELECT JSON_ARRAY(a), JSON_OBJECT('k' : a) FROM JSON_TABLE(doc,'lax $.g[*]' COLUMNS (a BOOLEAN EXISTS)); => |[true]|{"k":true}||[false]|{"k":false}|
+SELECT a FROM JSON_TABLE(doc,'lax $.g[*] ? (exists(@.c))' COLUMNS (a BOOLEAN EXISTS ERROR ON ERROR)); =>
+
+{"p":[{"n":1,"x":[5]},{"n":2,"x":[]},{"n":3,"x":[7,8]}]}
+SELECT * FROM JSON_TABLE(doc,'lax $.p[*]' COLUMNS (n INTEGER, NESTED 'lax $.x[*]' COLUMNS (e BOOLEAN EXISTS PATH 'lax $ ? (@ > 5)'))); => |1:0|FALSE||2:0|NULL||3:0|TRUE||3:0|TRUE|
+SELECT * FROM JSON_TABLE(doc,'lax $.p[*]' COLUMNS (n INTEGER, NESTED 'lax $.x[*]' COLUMNS (e BOOLEAN EXISTS PATH 'strict $.y' ERROR ON ERROR))); => 2203C
+SELECT e FROM JSON_TABLE(doc,'lax $.p[*] ? (@.n == 2)' COLUMNS (NESTED 'lax $.x[*]' COLUMNS (e BOOLEAN EXISTS PATH 'strict $.y' ERROR ON ERROR))); => |NULL|
+
+{"a":
+SELECT e FROM JSON_TABLE(doc,'lax $' COLUMNS (e BOOLEAN EXISTS)); =>
+SELECT e FROM JSON_TABLE(doc,'lax $' COLUMNS (e BOOLEAN EXISTS) ERROR ON ERROR); => 22032
+
+{"a":"12.5","b":2.5,"c":true,"d":null,"e":"x","f":[1,2],"w":1e400,"h":3000000000}
+SELECT JSON_VALUE(doc,'$.a.number() + 1' ERROR ON ERROR), JSON_VALUE(doc,'$.b.integer()' ERROR ON ERROR), JSON_VALUE(doc,'$.b.string().type()' ERROR ON ERROR) ; => |'13.5'|'3'|'string'|
+SELECT JSON_VALUE(doc,'$.c.string()' ERROR ON ERROR), JSON_VALUE(doc,'$.w.string()' ERROR ON ERROR), JSON_VALUE(doc,'$.h.bigint()' ERROR ON ERROR); => |'true'|'1e400'|'3000000000'|
+SELECT JSON_VALUE(doc,'$.d.string()' ERROR ON ERROR); => 2203G
+SELECT JSON_VALUE(doc,'$.e.number()' ERROR ON ERROR); => 2203G
+SELECT JSON_VALUE(doc,'$.b.boolean()' ERROR ON ERROR); => 2203G
+SELECT JSON_VALUE(doc,'$.w.number()' ERROR ON ERROR); => 22003
+SELECT JSON_VALUE(doc,'$.h.integer()' ERROR ON ERROR); => 22003
+SELECT JSON_VALUE(doc,'strict $.f.number()' ERROR ON ERROR); => 2203F
+SELECT JSON_QUERY(doc,'lax $.f.string()' WITH WRAPPER); => |["1","2"]|
+
 {"a":
 SELECT a FROM JSON_TABLE(doc,'lax $' COLUMNS (a VARCHAR)); =>
 SELECT a FROM JSON_TABLE(doc,'lax $' COLUMNS (a VARCHAR) ERROR ON ERROR); => 22032
@@ -273,7 +336,7 @@ fn gives_the_row_of_a_statement(rt: HostRuntime) -> Result<(), Fail> {
 
 #[test]
 fn gives_the_rows_of_a_table(rt: HostRuntime) -> Result<(), Fail> {
-    assert_eq!(rt; try_groups(&rt, rt.alloc(), TABLE_ROWS)?, 25);
+    assert_eq!(rt; try_groups(&rt, rt.alloc(), TABLE_ROWS)?, 46);
     Ok(())
 }
 
@@ -328,12 +391,29 @@ fn goes_from_line_to_line(rt: HostRuntime) -> Result<(), Fail> {
     ] {
         rows.rewind(line_of(alloc, doc, Keys::Any)?);
         assert!(rt; rows.take_row().is_empty());
-        let found = shown(&rt, alloc, &mut rows)?;
-        assert_eq!(rt; found.as_str(), want);
+        expect_shown(&rt, alloc, &mut rows, want, "on another line")?;
         rows.rewind(line_of(alloc, doc, Keys::Any)?);
         let mut steps = Steps::new(Tally::new());
         rows.next(&mut steps)?;
     }
+    Ok(())
+}
+
+fn long_statement(alloc: Global, front: &str, more: &str, count: u32) -> Result<String, Fail> {
+    let mut statement = String::from_str(alloc, front)?;
+    for _ in 0..count {
+        statement.push_str(more)?;
+    }
+    statement.push_str(");")?;
+    Ok(statement)
+}
+
+fn expect_length(rt: &impl Abort, alloc: Global, bound: &Bound, length: usize) -> Result<(), Fail>
+    requires { IsSound (bound_of bound.now) }
+{
+    let mut rows = rows_of(alloc, bound, LineDoc::NotJson)?;
+    let found = shown(rt, alloc, &mut rows)?;
+    assert!(rt; found.len() == length);
     Ok(())
 }
 
@@ -344,15 +424,9 @@ fn takes_long_lists(rt: HostRuntime) -> Result<(), Fail> {
         ("SELECT JSON_ARRAY(1", ",1", 100_000, 200_005),
         ("SELECT JSON_OBJECT('a':1", ",'a':1", 50_000, 300_009),
     ] {
-        let mut statement = String::from_str(alloc, front)?;
-        for _ in 0..count {
-            statement.push_str(more)?;
-        }
-        statement.push_str(");")?;
+        let statement = long_statement(alloc, front, more, count)?;
         let bound = bound(alloc, statement.as_str())?;
-        let mut rows = rows_of(alloc, &bound, LineDoc::NotJson)?;
-        let found = shown(&rt, alloc, &mut rows)?;
-        assert_eq!(rt; found.len(), length);
+        expect_length(&rt, alloc, &bound, length)?;
     }
     Ok(())
 }

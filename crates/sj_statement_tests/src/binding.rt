@@ -1,12 +1,16 @@
-//! The rules that a statement keeps, and the plan of its table over the numbers of its paths, from statements that are read from texts.
+//! The rules that a statement keeps, and the plan of its table over the numbers of its paths, from statements that are
+//! read from texts.
 mod statements;
 mod tables;
 
-use sj_bind::{BindRefusal, Bound, bind};
+use super::cases::expect;
+use sj_bind::{BindRefusal, Bound, BoundColumn, BoundTable, bind};
+use sj_path::nodes;
 use sj_sql::parse_file;
 use sj_value::Plan;
 use statements::{FEWER_BROKEN, STATEMENTS};
 use std::alloc::{AllocError, Global};
+use std::process::Abort;
 use std::test::Fail;
 use tables::TABLES;
 
@@ -37,6 +41,12 @@ fn answer_of(alloc: Global, file: &str) -> Result<String, Fail> {
         Ok(_) => Ok(String::from_str(alloc, "accepted")?),
         Err(refusal) => Ok(refusal),
     }
+}
+
+fn expect_answer(rt: &impl Abort, alloc: Global, file: &str, want: &str) -> Result<(), Fail> {
+    let found = answer_of(alloc, file)?;
+    expect(rt, found.as_str(), want, file);
+    Ok(())
 }
 
 /// A plan with numbers as a text.
@@ -83,12 +93,42 @@ fn the_first_rule_that_a_text_breaks_is_named(rt: HostRuntime) -> Result<(), Fai
                 return Err(Fail::from("an answer alone"));
             };
             for line in lines.lines() {
-                let found = answer_of(rt.alloc(), line)?;
-                assert_eq!(rt; found.as_str(), want, "{line}");
+                expect_answer(&rt, rt.alloc(), line, want)?;
             }
         }
     }
     Ok(())
+}
+
+/// The columns of a table that tell whether a path has an item, each with the number of its path, the nodes of its own
+/// path and what an error gives.
+fn existences(alloc: Global, table: &BoundTable) -> Result<String, AllocError> {
+    let mut all = String::new(alloc);
+    for column in table.columns.as_slice() {
+        if let BoundColumn::Exists(path, own, on_error) = column {
+            let shown = format!(in alloc; "{path} {} {on_error:?}; ", nodes(own))?;
+            all.push_str(shown.as_str())?;
+        }
+    }
+    Ok(all)
+}
+
+const EXISTENCES: &str =
+    "SELECT * FROM JSON_TABLE(doc, '$' COLUMNS (a BOOLEAN EXISTS, n INT, NESTED '$' COLUMNS (b BOOLEAN EXISTS PATH '$.b.c' ERROR ON ERROR)));";
+
+#[test]
+fn columns_that_tell_of_an_item(rt: HostRuntime) -> Result<(), Fail> {
+    match bound(rt.alloc(), EXISTENCES)? {
+        Ok(bound) => match &bound.table {
+            Some(table) => {
+                let found = existences(rt.alloc(), table)?;
+                expect(&rt, found.as_str(), "0 3 False; 1 5 Error; ", EXISTENCES);
+                Ok(())
+            }
+            None => Err(Fail::from("no table")),
+        },
+        Err(_) => Err(Fail::from("refused")),
+    }
 }
 
 #[test]
@@ -98,7 +138,7 @@ fn tables_have_the_plan_of_their_text(rt: HostRuntime) -> Result<(), Fail> {
             return Err(Fail::from("an answer alone"));
         };
         let found = plan_of(rt.alloc(), file)?;
-        assert_eq!(rt; found.as_str(), want, "{file}");
+        expect(&rt, found.as_str(), want, file);
     }
     Ok(())
 }
@@ -138,32 +178,22 @@ fn said(letter: char) -> &'static str {
 }
 
 // Two values, and the rule that is named: each rule alone, and each beside one that comes later.
-const PAIRS: [(char, char, char); 16] = [
-    ('.', '.', '.'),
-    ('Q', 'D', '.'),
-    ('K', '.', '.'),
-    ('v', '.', 'v'),
-    ('.', 'u', 'u'),
-    ('.', 'q', 'q'),
-    ('.', 'd', 'd'),
-    ('.', 'k', 'k'),
-    ('u', 'v', 'v'),
-    ('q', 'u', 'u'),
-    ('d', 'q', 'q'),
-    ('k', 'd', 'd'),
-    ('q', 'v', 'v'),
-    ('d', 'u', 'u'),
-    ('k', 'q', 'q'),
-    ('k', 'v', 'v'),
-];
+const PAIRS: &str = "... QD. K.. v.v .uu .qq .dd .kk uvv quu dqq kdd qvv duu kqq kvv";
+
+fn letters(word: &str) -> Result<(char, char, char), Fail> {
+    let mut letters = word.chars();
+    let first = letters.next().ok_or("no value")?;
+    let second = letters.next().ok_or("one value")?;
+    Ok((first, second, letters.next().ok_or("no rule")?))
+}
 
 #[test]
 fn the_first_rule_that_two_values_break_is_named(rt: HostRuntime) -> Result<(), Fail> {
     let alloc = rt.alloc();
-    for (first, second, want) in PAIRS {
+    for word in PAIRS.split(' ') {
+        let (first, second, want) = letters(word)?;
         let file = format!(in alloc; "SELECT {}, {};", breaking(first), breaking(second))?;
-        let found = answer_of(alloc, file.as_str())?;
-        assert_eq!(rt; found.as_str(), said(want), "{first} and {second}");
+        expect_answer(&rt, alloc, file.as_str(), said(want))?;
     }
     Ok(())
 }
@@ -204,6 +234,8 @@ fn limits_of_statements(rt: HostRuntime) -> Result<(), Fail> {
         ("SELECT JSON_ARRAY(1", items, 2000, ");", "accepted"),
         (one, columns, 999, "));", "accepted"),
         (one, columns, 1000, "));", many),
+        (one, (", c", " BOOLEAN EXISTS"), 999, "));", "accepted"),
+        (one, (", c", " BOOLEAN EXISTS"), 1000, "));", many),
         (nested, columns, 998, ")));", "accepted"),
         (nested, columns, 999, ")));", many),
         (one, paths, 63, "));", "accepted"),
@@ -219,8 +251,7 @@ fn limits_of_statements(rt: HostRuntime) -> Result<(), Fail> {
     ];
     for (front, parts, count, end, want) in table {
         let file = numbered(rt.alloc(), front, parts, count, end)?;
-        let found = answer_of(rt.alloc(), file.as_str())?;
-        assert_eq!(rt; found.as_str(), want, "{front} and {count} more");
+        expect_answer(&rt, rt.alloc(), file.as_str(), want)?;
     }
     Ok(())
 }

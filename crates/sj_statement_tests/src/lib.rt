@@ -7,6 +7,8 @@
 #[cfg(test)]
 mod binding;
 #[cfg(test)]
+mod cases;
+#[cfg(test)]
 mod statements;
 #[cfg(test)]
 mod tokens;

@@ -3,10 +3,12 @@ mod same;
 mod spellings;
 mod trees;
 
+use super::cases::expect;
 use rules::{ACCEPTED, FREE, MALFORMED, REFUSED, RESERVED};
 use sj_path::Literal;
 use sj_sql::{SMembers, SValue, SValues, Seq, Statement, parse_file};
 use std::alloc::Global;
+use std::process::Abort;
 use std::test::Fail;
 
 /// So many linked cells, one behind another.
@@ -47,7 +49,8 @@ fn sequences(rt: HostRuntime) -> Result<(), Fail> {
     Ok(())
 }
 
-/// What a file is read as, briefly: how many statements are taken, and then maybe the number of the next and why it is refused.
+/// What a file is read as, briefly: how many statements are taken, and then maybe the number of the next and why it is
+/// refused.
 fn answer_of(alloc: Global, file: &[u8]) -> Result<String, Fail> {
     if file.len() > 1_048_576 {
         return Err(Fail::from("too long"));
@@ -59,6 +62,25 @@ fn answer_of(alloc: Global, file: &[u8]) -> Result<String, Fail> {
         None => format!(in alloc; "{taken}")?,
     };
     Ok(told)
+}
+
+fn expect_answer(rt: &impl Abort, alloc: Global, file: &[u8], want: &str) -> Result<(), Fail> {
+    let found = answer_of(alloc, file)?;
+    expect(
+        rt,
+        found.as_str(),
+        want,
+        str::from_utf8(file).unwrap_or("no text"),
+    );
+    Ok(())
+}
+
+/// Whether a word is a name as it is. In quotation marks each word is one.
+fn expect_named(rt: &impl Abort, alloc: Global, word: &str, want: &str) -> Result<(), Fail> {
+    let plain = format!(in alloc; "SELECT 1 AS {word};")?;
+    expect_answer(rt, alloc, plain.as_bytes(), want)?;
+    let quoted = format!(in alloc; "SELECT 1 AS \"{word}\";")?;
+    expect_answer(rt, alloc, quoted.as_bytes(), "1")
 }
 
 #[test]
@@ -111,7 +133,7 @@ fn files(rt: HostRuntime) -> Result<(), Fail> {
         (b"SELECT '\xC3';", "0, then 1: lexical error"),
     ];
     for (file, want) in table {
-        assert_eq!(rt; answer_of(rt.alloc(), file)?.as_str(), want, "at {want}");
+        expect_answer(&rt, rt.alloc(), file, want)?;
     }
     Ok(())
 }
@@ -121,8 +143,7 @@ fn statements_by_rule(rt: HostRuntime) -> Result<(), Fail> {
     for (lines, want) in [(ACCEPTED, "1"), (MALFORMED, "0, then 1: syntax error")] {
         for line in lines.lines() {
             if line.strip_prefix("# ").is_none() {
-                let found = answer_of(rt.alloc(), line.as_bytes())?;
-                assert_eq!(rt; found.as_str(), want, "{line}");
+                expect_answer(&rt, rt.alloc(), line.as_bytes(), want)?;
             }
         }
     }
@@ -133,12 +154,7 @@ fn statements_by_rule(rt: HostRuntime) -> Result<(), Fail> {
 fn reserved_words_are_names_in_quotation_marks(rt: HostRuntime) -> Result<(), Fail> {
     for (words, want) in [(RESERVED, "0, then 1: syntax error"), (FREE, "1")] {
         for word in words.split_whitespace() {
-            let plain = format!(in rt.alloc(); "SELECT 1 AS {word};")?;
-            let found = answer_of(rt.alloc(), plain.as_bytes())?;
-            assert_eq!(rt; found.as_str(), want, "{word}");
-            let quoted = format!(in rt.alloc(); "SELECT 1 AS \"{word}\";")?;
-            let found = answer_of(rt.alloc(), quoted.as_bytes())?;
-            assert_eq!(rt; found.as_str(), "1", "{word}");
+            expect_named(&rt, rt.alloc(), word, want)?;
         }
     }
     Ok(())
@@ -152,8 +168,7 @@ fn one_statement_is_refused_for_the_first_reason(rt: HostRuntime) -> Result<(), 
         };
         let want = format!(in rt.alloc(); "0, then 1: {kind}")?;
         for line in lines.lines() {
-            let found = answer_of(rt.alloc(), line.as_bytes())?;
-            assert_eq!(rt; found.as_str(), want.as_str(), "{line}");
+            expect_answer(&rt, rt.alloc(), line.as_bytes(), want.as_str())?;
         }
     }
     Ok(())
@@ -182,8 +197,7 @@ fn numbers(rt: HostRuntime) -> Result<(), Fail> {
     ];
     for (number, want) in table {
         let file = format!(in rt.alloc(); "SELECT {number};")?;
-        let found = answer_of(rt.alloc(), file.as_bytes())?;
-        assert_eq!(rt; found.as_str(), want, "at {number}");
+        expect_answer(&rt, rt.alloc(), file.as_bytes(), want)?;
     }
     Ok(())
 }
@@ -266,8 +280,7 @@ fn limits_and_long_files(rt: HostRuntime) -> Result<(), Fail> {
     ];
     for (front, parts, count, behind, want) in cases {
         let file = repeated(rt.alloc(), front, parts, count, behind)?;
-        let found = answer_of(rt.alloc(), file.as_bytes())?;
-        assert_eq!(rt; found.as_str(), want, "at {front} with {count}");
+        expect_answer(&rt, rt.alloc(), file.as_bytes(), want)?;
     }
     Ok(())
 }

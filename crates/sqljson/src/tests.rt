@@ -9,6 +9,7 @@ use sj_base::{MemShelf, MemSink, MemSource, Steps, Tally, Text};
 use sj_path::Name;
 use sj_sql::FileKind;
 use std::alloc::Global;
+use std::process::Abort;
 use std::test::Fail;
 
 /// What a run gave: how it ended, what it wrote, how often it read, and the steps that it took.
@@ -22,7 +23,7 @@ struct Outcome {
 }
 
 /// What a run is given. The file is `f`, and calls fail as the lists say.
-#[derive(Drop)]
+#[derive(Clone, Copy)]
 struct Setup<'a> {
     words: &'a [&'a str],
     file: &'a [u8],
@@ -48,41 +49,95 @@ fn plain<'a>(file: &'a [u8], input: &'a [u8], cut: usize) -> Setup<'a> {
     }
 }
 
-fn run_on(alloc: Global, setup: &Setup<'_>) -> Result<Outcome, Fail> {
-    let mut words = Vec::new(alloc);
-    for word in setup.words {
-        words.push(String::from_str(alloc, word)?)?;
+fn words_of(alloc: Global, words: &[&str]) -> Result<Vec<String>, Fail> {
+    let mut all = Vec::new(alloc);
+    for word in words {
+        all.push(String::from_str(alloc, word)?)?;
     }
-    let name = Text::from_str(alloc, "f").map_err(|_| "memory")?;
-    let mut shelf = MemShelf::new(
-        name,
-        setup.file.to_vec(alloc)?,
-        setup.shelf_fails.to_vec(alloc)?,
-    );
+    Ok(all)
+}
+
+fn shelf_of(alloc: Global, setup: &Setup<'_>) -> Result<MemShelf, Fail> {
+    let name = Text::from_str(alloc, "f")?;
+    let bytes = setup.file.to_vec(alloc)?;
+    Ok(MemShelf::new(name, bytes, setup.shelf_fails.to_vec(alloc)?))
+}
+
+fn source_of(alloc: Global, setup: &Setup<'_>) -> Result<MemSource, Fail> {
     let calls = if setup.cut == 0 { 0 } else { setup.input.len() };
+    let bytes = setup.input.to_vec(alloc)?;
     let cuts = vec![in alloc; setup.cut; calls]?;
-    let mut input = MemSource::new(
-        setup.input.to_vec(alloc)?,
-        cuts,
-        setup.input_fails.to_vec(alloc)?,
-    );
-    let mut out = MemSink::new(alloc, setup.room, Vec::new(alloc)).map_err(|_| "memory")?;
-    let mut notes = MemSink::new(alloc, setup.note_room, Vec::new(alloc)).map_err(|_| "memory")?;
-    let mut steps = Steps::new(Tally::new());
-    let status = run(
-        alloc, &words, &mut shelf, &mut input, &mut out, &mut notes, &mut steps,
-    );
+    Ok(MemSource::new(bytes, cuts, setup.input_fails.to_vec(alloc)?))
+}
+
+// It promises nothing, so that what `run` promises is no part of any other proof.
+fn ended(
+    alloc: Global,
+    words: &[String],
+    shelf: &mut MemShelf,
+    input: &mut MemSource,
+    (out, notes): (&mut MemSink, &mut MemSink),
+    steps: &mut Steps<Tally>,
+) -> Status {
+    run(alloc, words, shelf, input, out, notes, steps)
+}
+
+fn outcome_of(
+    alloc: Global,
+    status: Status,
+    (out, notes): (&MemSink, &MemSink),
+    reads: u64,
+    steps: u64,
+) -> Result<Outcome, Fail> {
+    let out = out.bytes().to_vec(alloc)?;
     Ok(Outcome {
         status,
-        out: out.bytes().to_vec(alloc)?,
+        out,
         notes: notes.bytes().to_vec(alloc)?,
-        reads: input.calls(),
-        steps: steps.ledger().count(),
+        reads,
+        steps,
     })
+}
+
+fn run_between(
+    alloc: Global,
+    setup: &Setup<'_>,
+    words: &[String],
+    shelf: &mut MemShelf,
+    input: &mut MemSource,
+) -> Result<Outcome, Fail> {
+    let mut out = MemSink::new(alloc, setup.room, Vec::new(alloc))?;
+    let mut notes = MemSink::new(alloc, setup.note_room, Vec::new(alloc))?;
+    let mut steps = Steps::new(Tally::new());
+    let status = ended(
+        alloc,
+        words,
+        shelf,
+        input,
+        (&mut out, &mut notes),
+        &mut steps,
+    );
+    let reads = input.calls();
+    outcome_of(alloc, status, (&out, &notes), reads, steps.ledger().count())
+}
+
+fn run_on(alloc: Global, setup: &Setup<'_>) -> Result<Outcome, Fail> {
+    let words = words_of(alloc, setup.words)?;
+    let mut shelf = shelf_of(alloc, setup)?;
+    let mut input = source_of(alloc, setup)?;
+    run_between(alloc, setup, &words, &mut shelf, &mut input)
 }
 
 /// A file, the input, and what is written.
 type Case = (&'static str, &'static str, &'static str);
+
+fn check_case(alloc: Global, setup: &Setup<'_>, out: &str) -> Result<(), Fail> {
+    let ran = run_on(alloc, setup)?;
+    if ran.status != Status::Done || ran.out.as_slice() != out.as_bytes() {
+        return Err(format!(in alloc; "{:?}: {:?}", ran.status, ran.out)?)?;
+    }
+    Ok(())
+}
 
 fn check_cases(alloc: Global, words: &[&str], cases: &[Case]) -> Result<(), Fail> {
     for (file, input, out) in cases {
@@ -91,13 +146,7 @@ fn check_cases(alloc: Global, words: &[&str], cases: &[Case]) -> Result<(), Fail
                 words,
                 ..plain(file.as_bytes(), input.as_bytes(), cut)
             };
-            let ran = run_on(alloc, &setup)?;
-            if ran.status != Status::Done || ran.out.as_slice() != out.as_bytes() {
-                return Err(format!(in alloc;
-                    "{file} on {input}: {:?}, {:?}",
-                    ran.status, ran.out
-                )?)?;
-            }
+            check_case(alloc, &setup, out)?;
         }
     }
     Ok(())
@@ -138,13 +187,43 @@ fn rows_in_any_cut(rt: HostRuntime) -> Result<(), Fail> {
     ];
     for (file, input, out) in cases {
         for cut in [0, 1, 3] {
-            let ran = run_on(alloc, &plain(file, input, cut))?;
-            assert_eq!(rt; ran.status, Status::Done);
-            assert_eq!(rt; ran.out.as_slice(), out, "at a cut of {cut}");
-            assert_eq!(rt; ran.notes.as_slice(), b"".as_slice());
+            expect_ending(
+                &rt,
+                alloc,
+                &plain(file, input, cut),
+                (Status::Done, out, b""),
+            )?;
         }
     }
     Ok(())
+}
+
+// The rows of a file for a line, and the most steps that they may take.
+fn expect_steps(
+    rt: &impl Abort,
+    alloc: Global,
+    (file, input): (&[u8], &[u8]),
+    out: &str,
+    most: u64,
+) -> Result<(), Fail> {
+    let ran = run_on(alloc, &plain(file, input, 0))?;
+    assert_eq!(rt; ran.out.as_slice(), out.as_bytes());
+    assert!(rt; ran.steps <= most, "{} steps", ran.steps);
+    Ok(())
+}
+
+// The same of the statement that asks for a path.
+fn expect_truth(
+    rt: &impl Abort,
+    alloc: Global,
+    path: &[u8],
+    input: &[u8],
+    truth: &str,
+    most: u64,
+) -> Result<(), Fail> {
+    let file = statement_of(alloc, path)?;
+    let row = format!(in alloc; "1\t1\tR\t{truth}\n")?;
+    expect_steps(rt, alloc, (&file, input), row.as_str(), most)
 }
 
 // Lax mode stops at the first item that decides, and strict mode goes to the end.
@@ -167,11 +246,7 @@ fn early_stops(rt: HostRuntime) -> Result<(), Fail> {
         (b"$ + 1", b"null", "FALSE", 0),
     ];
     for (path, input, truth, most) in cases {
-        let file = statement_of(alloc, path)?;
-        let ran = run_on(alloc, &plain(&file, input, 0))?;
-        let row = format!(in alloc; "1\t1\tR\t{truth}\n")?;
-        assert_eq!(rt; ran.out.as_slice(), row.as_bytes());
-        assert!(rt; ran.steps <= most, "{} steps", ran.steps);
+        expect_truth(&rt, alloc, path, input, truth, most)?;
     }
     Ok(())
 }
@@ -232,9 +307,7 @@ fn steps_of_values_and_tables(rt: HostRuntime) -> Result<(), Fail> {
         ),
     ];
     for (file, input, out, most) in cases {
-        let ran = run_on(alloc, &plain(file, input, 0))?;
-        assert_eq!(rt; ran.out.as_slice(), out.as_bytes());
-        assert!(rt; ran.steps <= most, "{} steps", ran.steps);
+        expect_steps(&rt, alloc, (file, input), out, most)?;
     }
     Ok(())
 }
@@ -248,162 +321,127 @@ fn statement_of(alloc: Global, path: &[u8]) -> Result<Vec<u8>, Fail> {
     Ok(file)
 }
 
-// How a run ends where the words, the file or the objects are at fault, with the message.
+// How a run ends, what it writes and its message, which is lost where notes fail.
+fn expect_ending(
+    rt: &impl Abort,
+    alloc: Global,
+    setup: &Setup<'_>,
+    (status, out, note): (Status, &[u8], &[u8]),
+) -> Result<(), Fail> {
+    let ran = run_on(alloc, setup)?;
+    assert_eq!(rt; ran.status, status);
+    assert_eq!(rt; ran.out.as_slice(), out);
+    assert_eq!(rt; ran.notes.as_slice(), note);
+    Ok(())
+}
+
+fn expect_endings(
+    rt: &impl Abort,
+    alloc: Global,
+    setup: &Setup<'_>,
+    status: Status,
+    (out, note): (&str, &str),
+) -> Result<(), Fail> {
+    let told = (status, out.as_bytes(), note.as_bytes());
+    expect_ending(rt, alloc, setup, told)?;
+    let untold = Setup {
+        note_room: 0,
+        ..*setup
+    };
+    expect_ending(rt, alloc, &untold, (status, out.as_bytes(), b""))
+}
+
+const THREE: &[u8] = b"{\"a\":{\"b\":null}}\n{\"a\":{\"b\":null}}\n{\"a\":{\"b\":null}}\n";
+
+const USAGE: &str = "usage: sqljson run [--unique-keys] FILE | check FILE | selfrun N FILE\n";
+
+const ABSENT: &str = "statement file cannot be read\n";
+
 #[test]
-fn endings_and_messages(rt: HostRuntime) -> Result<(), Fail> {
-    let alloc = rt.alloc();
-    let three = b"{\"a\":{\"b\":null}}\n{\"a\":{\"b\":null}}\n{\"a\":{\"b\":null}}\n".as_slice();
-    let half = b"{\"a\":{\"b\":null}}\n{\"a\":{".as_slice();
-    let usage = "usage: sqljson run [--unique-keys] FILE | check FILE | selfrun N FILE\n";
-    let absent = "statement file cannot be read\n";
-    let all = plain(AB, three, 0);
-    let cases = [
-        (Setup { words: &[], ..all }, Status::Usage, "", usage),
+fn words_and_messages(rt: HostRuntime) -> Result<(), Fail> {
+    let all = plain(AB, THREE, 0);
+    let cases: [(&[&str], Status, &str, &str); 6] = [
+        (&[], Status::Usage, "", USAGE),
+        (&["run", "-x"], Status::Usage, "", USAGE),
+        (&["selfrun", "f"], Status::Usage, "", USAGE),
+        (&["check", "f"], Status::Done, "accepted 1\n", ""),
+        (&["selfrun", "3", "g"], Status::ShelfFault, "", ABSENT),
+        (&["run", "g"], Status::ShelfFault, "", ABSENT),
+    ];
+    for (words, status, out, note) in cases {
+        let setup = Setup { words, ..all };
+        expect_endings(&rt, rt.alloc(), &setup, status, (out, note))?;
+    }
+    let setup = Setup {
+        words: &["selfrun", "3", "f"],
+        ..plain(ROOT, THREE, 0)
+    };
+    let summary = "lines 3 rows 3 errors 0 bytes 33\n";
+    expect_endings(&rt, rt.alloc(), &setup, Status::Done, (summary, ""))
+}
+
+#[test]
+fn outputs_without_room(rt: HostRuntime) -> Result<(), Fail> {
+    let cases: [(&[&str], &[u8], usize, &str); 3] = [
+        (&["check", "f"], AB, 5, "accep"),
+        (&["selfrun", "3", "f"], ROOT, 9, "lines 3 r"),
         (
-            Setup {
-                words: &["run", "-x"],
-                ..plain(AB, three, 0)
-            },
-            Status::Usage,
-            "",
-            usage,
+            &["run", "f"],
+            AB,
+            32,
+            "1\t1\tR\tTRUE\n2\t1\tR\tTRUE\n3\t1\tR\tTRUE",
         ),
+    ];
+    for (words, file, room, out) in cases {
+        let setup = Setup {
+            words,
+            room,
+            ..plain(file, THREE, 0)
+        };
+        let told = (out, "output failed\n");
+        expect_endings(&rt, rt.alloc(), &setup, Status::WriteFault, told)?;
+    }
+    Ok(())
+}
+
+#[test]
+fn refused_files(rt: HostRuntime) -> Result<(), Fail> {
+    let cases: [(&[u8], Status, &str); 3] = [
         (
-            Setup {
-                words: &["selfrun", "f"],
-                ..plain(AB, three, 0)
-            },
-            Status::Usage,
-            "",
-            usage,
-        ),
-        (
-            Setup {
-                words: &["check", "f"],
-                ..plain(AB, three, 0)
-            },
-            Status::Done,
-            "accepted 1\n",
-            "",
-        ),
-        (
-            Setup {
-                words: &["check", "f"],
-                room: 5,
-                ..plain(AB, three, 0)
-            },
-            Status::WriteFault,
-            "accep",
-            "output failed\n",
-        ),
-        (
-            Setup {
-                words: &["selfrun", "3", "f"],
-                ..plain(ROOT, three, 0)
-            },
-            Status::Done,
-            "lines 3 rows 3 errors 0 bytes 33\n",
-            "",
-        ),
-        (
-            Setup {
-                words: &["selfrun", "3", "f"],
-                room: 9,
-                ..plain(ROOT, three, 0)
-            },
-            Status::WriteFault,
-            "lines 3 r",
-            "output failed\n",
-        ),
-        (
-            Setup {
-                words: &["selfrun", "3", "g"],
-                ..plain(ROOT, three, 0)
-            },
-            Status::ShelfFault,
-            "",
-            absent,
-        ),
-        (
-            Setup {
-                words: &["run", "g"],
-                ..plain(AB, three, 0)
-            },
-            Status::ShelfFault,
-            "",
-            absent,
-        ),
-        (
-            Setup {
-                shelf_fails: &[1],
-                ..plain(AB, three, 0)
-            },
-            Status::ShelfFault,
-            "",
-            absent,
-        ),
-        (
-            plain(b"SELECT 1", three, 0),
+            b"SELECT 1",
             Status::Refused(1, FileKind::Syntax),
-            "",
             "statement 1: syntax error\n",
         ),
         (
-            plain(
-                b"SELECT JSON_EXISTS(doc, 'lax $'); SELECT JSON_EXISTS(doc, '$[');",
-                three,
-                0,
-            ),
+            b"SELECT JSON_EXISTS(doc, 'lax $'); SELECT JSON_EXISTS(doc, '$[');",
             Status::Refused(2, FileKind::PathSyntax),
-            "",
             "statement 2: path: syntax error\n",
         ),
         (
-            plain(
-                b"SELECT 1; SELECT JSON_EXISTS(doc,'$ ? (@ like_regex \"a\")');",
-                three,
-                0,
-            ),
+            b"SELECT 1; SELECT JSON_EXISTS(doc,'$ ? (@ like_regex \"a\")');",
             Status::Refused(2, FileKind::Unsupported(Name::LikeRegex)),
-            "",
             "statement 2: unsupported like_regex\n",
         ),
-        (
-            Setup {
-                input_fails: &[1],
-                ..plain(AB, half, 26)
-            },
-            Status::ReadFault,
-            "1\t1\tR\tTRUE\n",
-            "input failed\n",
-        ),
-        (
-            Setup {
-                room: 32,
-                ..plain(AB, three, 0)
-            },
-            Status::WriteFault,
-            "1\t1\tR\tTRUE\n2\t1\tR\tTRUE\n3\t1\tR\tTRUE",
-            "output failed\n",
-        ),
     ];
-    for (setup, status, out, note) in cases {
-        let ran = run_on(alloc, &setup)?;
-        assert_eq!(rt; ran.status, status);
-        assert_eq!(rt; ran.out.as_slice(), out.as_bytes());
-        assert_eq!(rt; ran.notes.as_slice(), note.as_bytes());
-        let untold = run_on(
-            alloc,
-            &Setup {
-                note_room: 0,
-                ..setup
-            },
-        )?;
-        assert_eq!(rt; untold.status, status, "where notes fail");
-        assert_eq!(rt; untold.out.as_slice(), out.as_bytes());
-        assert_eq!(rt; untold.notes.as_slice(), b"".as_slice());
+    for (file, status, note) in cases {
+        expect_endings(&rt, rt.alloc(), &plain(file, THREE, 0), status, ("", note))?;
     }
     Ok(())
+}
+
+#[test]
+fn failed_reads(rt: HostRuntime) -> Result<(), Fail> {
+    let shelf = Setup {
+        shelf_fails: &[1],
+        ..plain(AB, THREE, 0)
+    };
+    expect_endings(&rt, rt.alloc(), &shelf, Status::ShelfFault, ("", ABSENT))?;
+    let input = Setup {
+        input_fails: &[1],
+        ..plain(AB, b"{\"a\":{\"b\":null}}\n{\"a\":{", 26)
+    };
+    let told = ("1\t1\tR\tTRUE\n", "input failed\n");
+    expect_endings(&rt, rt.alloc(), &input, Status::ReadFault, told)
 }
 
 /// Checks a file, and gives the number of its statements or the message.
@@ -425,7 +463,7 @@ fn checked(alloc: Global, file: &[u8]) -> Result<Vec<u8>, Fail> {
 #[test]
 fn checked_files(rt: HostRuntime) -> Result<(), Fail> {
     let alloc = rt.alloc();
-    let cases: [(&[u8], &str); 26] = [
+    let cases: [(&[u8], &str); 28] = [
         (b"", "accepted 0\n"),
         (
             b"SELECT JSON_OBJECT('a' VALUE 1, 'b' VALUE NULL), JSON_ARRAY(1, NULL, 'x', TRUE), JSON_OBJECT(KEY 'k' VALUE JSON_ARRAY(1.50)); SELECT JSON_OBJECT('a' : 1, 'a' : 2 WITH UNIQUE KEYS); SELECT JSON_OBJECT(JSON_VALUE(doc,'$.none') VALUE 1);",
@@ -514,6 +552,14 @@ fn checked_files(rt: HostRuntime) -> Result<(), Fail> {
             "accepted 1\n",
         ),
         (
+            b"SELECT JSON_EXISTS(doc,'$.a.text()');",
+            "statement 1: path: syntax error\n",
+        ),
+        (
+            b"SELECT * FROM JSON_TABLE(doc,'$' COLUMNS (a INTEGER EXISTS));",
+            "statement 1: syntax error\n",
+        ),
+        (
             b"SELECT JSON_EXISTS(doc FORMAT JSON ENCODING UTF16, '$');",
             "statement 1: unsupported encoding\n",
         ),
@@ -538,61 +584,90 @@ fn long(alloc: Global, byte: u8, count: usize, around: &[u8]) -> Result<Vec<u8>,
     Ok(text)
 }
 
+fn expect_row(
+    rt: &impl Abort,
+    alloc: Global,
+    file: &[u8],
+    line: &[u8],
+    row: &[u8],
+) -> Result<(), Fail> {
+    let ran = run_on(alloc, &plain(file, line, 0))?;
+    assert_eq!(rt; ran.out.as_slice(), row);
+    Ok(())
+}
+
+/// Brackets that open, and as many that close.
+fn nested(alloc: Global, depth: usize) -> Result<Vec<u8>, Fail> {
+    let mut line = long(alloc, b'[', depth, b"")?;
+    for _ in 0..depth {
+        line.push(b']')?;
+    }
+    Ok(line)
+}
+
 // Arrays as deep as a line may be, and texts as long, each with what is one past it.
 #[test]
 fn json_at_its_limits(rt: HostRuntime) -> Result<(), Fail> {
-    let alloc = rt.alloc();
-    for (depth, row) in [(100_000, "1\t1\tR\tTRUE\n"), (100_001, "1\t1\tR\tFALSE\n")] {
-        let mut nested = long(alloc, b'[', depth, b"")?;
-        nested.extend_from_slice(long(alloc, b']', depth, b"")?.as_slice())?;
-        let ran = run_on(alloc, &plain(b"SELECT doc IS JSON ARRAY;", &nested, 0))?;
-        assert_eq!(rt; ran.out.as_slice(), row.as_bytes());
+    for (depth, row) in [
+        (100_000, b"1\t1\tR\tTRUE\n".as_slice()),
+        (100_001, b"1\t1\tR\tFALSE\n"),
+    ] {
+        let line = nested(rt.alloc(), depth)?;
+        expect_row(&rt, rt.alloc(), b"SELECT doc IS JSON ARRAY;", &line, row)?;
     }
     for (letters, row) in [
-        (16_777_214, "1\t1\tR\tTRUE\n"),
-        (16_777_215, "1\t1\tR\tFALSE\n"),
+        (16_777_214, b"1\t1\tR\tTRUE\n".as_slice()),
+        (16_777_215, b"1\t1\tR\tFALSE\n"),
     ] {
-        let text = long(alloc, b'a', letters, b"\"")?;
-        let ran = run_on(alloc, &plain(b"SELECT doc IS JSON SCALAR;", &text, 0))?;
-        assert_eq!(rt; ran.out.as_slice(), row.as_bytes());
+        let text = long(rt.alloc(), b'a', letters, b"\"")?;
+        expect_row(&rt, rt.alloc(), b"SELECT doc IS JSON SCALAR;", &text, row)?;
+        expect_row(&rt, rt.alloc(), ROOT, &text, row)?;
     }
     Ok(())
 }
 
-// Lines and files at their limits and one byte past them.
+// The deepest line is printed as it is.
 #[test]
-fn limits(rt: HostRuntime) -> Result<(), Fail> {
-    let alloc = rt.alloc();
-    let fits = run_on(
-        alloc,
-        &plain(ROOT, &long(alloc, b'a', 16_777_214, b"\"")?, 0),
-    )?;
-    assert_eq!(rt; fits.out.as_slice(), b"1\t1\tR\tTRUE\n".as_slice());
-    let longer = run_on(
-        alloc,
-        &plain(ROOT, &long(alloc, b'a', 16_777_215, b"\"")?, 0),
-    )?;
-    assert_eq!(rt; longer.out.as_slice(), b"1\t1\tR\tFALSE\n".as_slice());
-    let mut blanks = long(alloc, b' ', 16_777_216, b"")?;
+fn prints_a_deep_line(rt: HostRuntime) -> Result<(), Fail> {
+    let line = nested(rt.alloc(), 100_000)?;
+    let mut row = Vec::from_slice(rt.alloc(), b"1\t1\tR\tTRUE\t")?;
+    row.extend_from_slice(line.as_slice())?;
+    row.push(b'\n')?;
+    let setup = Setup {
+        room: 1_000_000,
+        ..plain(DEEP, &line, 0)
+    };
+    expect_ending(&rt, rt.alloc(), &setup, (Status::Done, &row, b""))
+}
+
+const DEEP: &[u8] = b"SELECT JSON_EXISTS(doc,'lax $[0][0]'), JSON_QUERY(doc,'lax $');";
+
+// Blank lines at the limit of a line and one byte past it.
+#[test]
+fn long_blank_lines(rt: HostRuntime) -> Result<(), Fail> {
+    let mut blanks = long(rt.alloc(), b' ', 16_777_216, b"")?;
     blanks.push(b'\n')?;
-    blanks.extend_from_slice(long(alloc, b' ', 16_777_217, b"")?.as_slice())?;
-    let second = run_on(alloc, &plain(ROOT, &blanks, 0))?;
-    assert_eq!(rt; second.out.as_slice(), b"2\t1\tR\tFALSE\n".as_slice());
-    let blank_file = run_on(
-        alloc,
-        &plain(&long(alloc, b' ', 1_048_576, b"")?, b"null", 0),
-    )?;
-    assert_eq!(rt; blank_file.status, Status::Done);
-    assert_eq!(rt; blank_file.out.as_slice(), b"".as_slice());
-    let long_file = run_on(
-        alloc,
-        &plain(&long(alloc, b' ', 1_048_577, b"")?, b"null", 0),
-    )?;
-    assert_eq!(rt; long_file.status, Status::FileTooLong);
-    assert_eq!(rt; long_file.status.number(), 8);
-    assert_eq!(rt;
-        long_file.notes.as_slice(),
-        b"statement file too long\n".as_slice()
-    );
+    for _ in 0..16_777_217 {
+        blanks.push(b' ')?;
+    }
+    expect_row(&rt, rt.alloc(), ROOT, &blanks, b"2\t1\tR\tFALSE\n")
+}
+
+// Files at the limit and one byte past it.
+#[test]
+fn long_files(rt: HostRuntime) -> Result<(), Fail> {
+    assert_eq!(rt; Status::FileTooLong.number(), 8);
+    for (length, status, note) in [
+        (1_048_576, Status::Done, b"".as_slice()),
+        (1_048_577, Status::FileTooLong, b"statement file too long\n"),
+    ] {
+        let file = long(rt.alloc(), b' ', length, b"")?;
+        expect_ending(
+            &rt,
+            rt.alloc(),
+            &plain(&file, b"null", 0),
+            (status, b"", note),
+        )?;
+    }
     Ok(())
 }

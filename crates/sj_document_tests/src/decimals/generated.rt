@@ -97,32 +97,46 @@ impl Source {
     /// A number as it may be written, with or without a fraction and an exponent.
     fn spelling(&mut self) -> Result<ArrayString<160>, Fail> {
         let mut text = ArrayString::new();
+        self.push_whole(&mut text)?;
+        self.push_fraction(&mut text)?;
+        self.push_exponent(&mut text)?;
+        Ok(text)
+    }
+
+    fn push_whole(&mut self, text: &mut ArrayString<160>) -> Result<(), Fail> {
         if self.below(2) == 0 {
             text.try_push('-')?;
         }
         if self.below(4) == 0 {
             text.try_push('0')?;
-        } else {
-            text.try_push(digit(1 + self.below(9)))?;
-            let count = self.below(40);
-            self.push_digits(&mut text, count)?;
+            return Ok(());
         }
-        if self.below(2) == 0 {
-            text.try_push('.')?;
-            let count = 1 + self.below(42);
-            self.push_digits(&mut text, count)?;
+        text.try_push(digit(1 + self.below(9)))?;
+        let count = self.below(40);
+        self.push_digits(text, count)
+    }
+
+    fn push_fraction(&mut self, text: &mut ArrayString<160>) -> Result<(), Fail> {
+        if self.below(2) != 0 {
+            return Ok(());
         }
-        if self.below(4) != 0 {
-            text.try_push(if self.below(2) == 0 { 'e' } else { 'E' })?;
-            match self.below(3) {
-                0 => text.try_push('-')?,
-                1 => text.try_push('+')?,
-                _ => {}
-            }
-            let count = 1 + self.below(2);
-            self.push_digits(&mut text, count)?;
+        text.try_push('.')?;
+        let count = 1 + self.below(42);
+        self.push_digits(text, count)
+    }
+
+    fn push_exponent(&mut self, text: &mut ArrayString<160>) -> Result<(), Fail> {
+        if self.below(4) == 0 {
+            return Ok(());
         }
-        Ok(text)
+        text.try_push(if self.below(2) == 0 { 'e' } else { 'E' })?;
+        match self.below(3) {
+            0 => text.try_push('-')?,
+            1 => text.try_push('+')?,
+            _ => {}
+        }
+        let count = 1 + self.below(2);
+        self.push_digits(text, count)
     }
 
     /// Digits of which many are zeros.

@@ -1,9 +1,10 @@
-// Paths over small documents. Behind a document stand its paths, each with what it gives: the items, the end, and how many steps it
-// takes to get there. Where the modes differ, strict mode stands behind the semicolon. $n is 5, $p is "An", $t is true.
+// Paths over small documents. Behind a document stand its paths, each with what it gives: the items, the end, and how
+// many steps it takes to get there. Where the modes differ, strict mode stands behind the semicolon. $n is 5, $p is
+// "An", $t is true.
 //
-// The answers were worked out by hand. A member accessor takes a step for each member of its object, `[*]`, unwrapping and
-// `keyvalue()` one for each child, and a subscript one for each element up to the last that it reaches; what stands on the right
-// of a comparison is gone through once for each item on the left, and once where there is none.
+// The answers were worked out by hand. A member accessor takes a step for each member of its object, `[*]`, unwrapping
+// and `keyvalue()` one for each child, and a subscript one for each element up to the last that it reaches; what stands
+// on the right of a comparison is gone through once for each item on the left, and once where there is none.
 
 pub(super) const PATHS: &str = r##"
 {"a":[{"b":1},[{"b":2}],{"c":3}]}
@@ -267,4 +268,169 @@ pub(super) const PATHS: &str = r##"
   $.*[*] => 1 2 2 3 End 6
   $.*.size() => 2 2 End 2
   $.* ? (@.size() == 2) => End 6 ; [1,2] [2,3] End 2
+null
+  $.bigint() => 2203G 0
+  $.boolean() => 2203G 0
+  $.decimal() => 2203G 0
+  $.integer() => 2203G 0
+  $.number() => 2203G 0
+  $.string() => 2203G 0
+true
+  $.bigint() => 2203G 0
+  $.boolean() => true End 0
+  $.decimal() => 2203G 0
+  $.integer() => 2203G 0
+  $.number() => 2203G 0
+  $.string() => "true" End 0
+false
+  $.bigint() => 2203G 0
+  $.boolean() => false End 0
+  $.decimal() => 2203G 0
+  $.integer() => 2203G 0
+  $.number() => 2203G 0
+  $.string() => "false" End 0
+2.5
+  $.bigint() => 3 End 0
+  $.boolean() => 2203G 0
+  $.decimal() => 2.5 End 0
+  $.integer() => 3 End 0
+  $.number() => 2.5 End 0
+  $.string() => "2.5" End 0
+  $.string().type() => "string" End 0
+  $.number().type() => "number" End 0
+  $.integer().string() => "3" End 0
+  $.string().number() => 2.5 End 0
+  $.integer().bigint().decimal().number().string().size() => 1 End 0
+  -$.integer() => -3 End 0
+  -$.string() => 22036 0
+  $.string() + 1 => 22036 0
+  $.integer() + $.number() => 5.5 End 0
+  1 + $.boolean() => 2203G 0
+  $ ? (@.integer() == 3) => 2.5 End 0
+  $ ? (@.string() == "2.5") => 2.5 End 0
+  $ ? (@.string() starts with "2") => 2.5 End 0
+  $ ? (@.boolean() == true) => End 0
+  $ ? ((@.boolean() == true) is unknown) => 2.5 End 0
+  $ ? (exists(@.boolean())) => End 0
+  $ ? ((exists(@.boolean())) is unknown) => 2.5 End 0
+  $ ? (exists(@.integer())) => 2.5 End 0
+-2.5
+  $.bigint() => -3 End 0
+  $.boolean() => 2203G 0
+  $.decimal() => -2.5 End 0
+  $.integer() => -3 End 0
+  $.number() => -2.5 End 0
+  $.string() => "-2.5" End 0
+3000000000
+  $.bigint() => 3000000000 End 0
+  $.boolean() => 2203G 0
+  $.decimal() => 3000000000 End 0
+  $.integer() => 22003 0
+  $.number() => 3000000000 End 0
+  $.string() => "3000000000" End 0
+9223372036854775808
+  $.bigint() => 22003 0
+  $.boolean() => 2203G 0
+  $.decimal() => 9223372036854775808 End 0
+  $.integer() => 22003 0
+  $.number() => 9223372036854775808 End 0
+  $.string() => "9223372036854775808" End 0
+1e400
+  $.bigint() => 22003 0
+  $.boolean() => 2203G 0
+  $.decimal() => 22003 0
+  $.integer() => 22003 0
+  $.number() => 22003 0
+  $.string() => "1e400" End 0
+"12.5"
+  $.bigint() => 13 End 0
+  $.boolean() => 2203G 0
+  $.decimal() => 12.5 End 0
+  $.integer() => 13 End 0
+  $.number() => 12.5 End 0
+  $.string() => "12.5" End 0
+  $.number() + 1 => 13.5 End 0
+  $ + 1 => 22036 0
+  $ ? (@.number() > 12) => "12.5" End 0
+  $ ? (@ > 12) => End 0
+"1e400"
+  $.bigint() => 22003 0
+  $.boolean() => 2203G 0
+  $.decimal() => 22003 0
+  $.integer() => 22003 0
+  $.number() => 22003 0
+  $.string() => "1e400" End 0
+"true"
+  $.bigint() => 2203G 0
+  $.boolean() => true End 0
+  $.decimal() => 2203G 0
+  $.integer() => 2203G 0
+  $.number() => 2203G 0
+  $.string() => "true" End 0
+  $.boolean().type() => "boolean" End 0
+  $.boolean().string() => "true" End 0
+  $ ? (@.boolean() == true) => "true" End 0
+"x"
+  $.bigint() => 2203G 0
+  $.boolean() => 2203G 0
+  $.decimal() => 2203G 0
+  $.integer() => 2203G 0
+  $.number() => 2203G 0
+  $.string() => "x" End 0
+2147483647.5
+  $.integer() => 22003 0
+  $.bigint() => 2147483648 End 0
+-2147483648.4
+  $.integer() => -2147483648 End 0
+"TRUE"
+  $.boolean() => 2203G 0
+" 1"
+  $.number() => 2203G 0
+[1,2]
+  $.bigint() => 1 2 End 2 ; 2203F 0
+  $.boolean() => 2203G 1 ; 2203F 0
+  $.decimal() => 1 2 End 2 ; 2203F 0
+  $.integer() => 1 2 End 2 ; 2203F 0
+  $.number() => 1 2 End 2 ; 2203F 0
+  $.string() => "1" "2" End 2 ; 2203F 0
+  $[*].string() => "1" "2" End 2
+  $.string().type() => "string" "string" End 2 ; 2203F 0
+  $[*] ? (@.string() == "2") => 2 End 2
+  $[$[0].integer()] => 2 End 3
+[[1]]
+  $.number() => 2203F 1 ; 2203F 0
+  $[*][*].number() => 1 End 2
+[]
+  $.bigint() => End 0 ; 2203F 0
+  $.boolean() => End 0 ; 2203F 0
+  $.decimal() => End 0 ; 2203F 0
+  $.integer() => End 0 ; 2203F 0
+  $.number() => End 0 ; 2203F 0
+  $.string() => End 0 ; 2203F 0
+{}
+  $.bigint() => 2203F 0
+  $.boolean() => 2203F 0
+  $.decimal() => 2203F 0
+  $.integer() => 2203F 0
+  $.number() => 2203F 0
+  $.string() => 2203F 0
+{"string":1,"number":"2"}
+  $.string => 1 End 2
+  $.number => "2" End 2
+  $.string.string() => "1" End 2
+  $.number.number() => 2 End 2
+  $.keyvalue().string() => 2203F 1
+  $.keyvalue().id.string() => "0" "0" End 2
+  $.keyvalue().name.string() => "string" "number" End 2
+{"n":5}
+  $n.string() => "5" End 0
+  $p.number() => 2203G 0
+  $t.string() => "true" End 0
+  $none.string() => 2203G 0
+  "12".integer() => 12 End 0
+  null.string() => 2203G 0
+  true.boolean() => true End 0
+  (1.50).string() => "1.5" End 0
+  $.size().string() => "1" End 0
+  $.n.bigint() + $n => 10 End 1
 "##;

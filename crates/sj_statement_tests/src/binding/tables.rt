@@ -1,7 +1,10 @@
-// Statements over a table, each behind the plan that its table has over the numbers of its paths, or the first rule that it breaks. Where a
-// statement breaks several rules, the ones behind it break the later ones alone.
+// Statements over a table, each behind the plan that its table has over the numbers of its paths, or the first rule
+// that it breaks. Where a statement breaks several rules, the ones behind it break the later ones alone.
 
-pub(super) const TABLES: &str = r##"0 = SELECT * FROM JSON_TABLE(doc, '$' AS a COLUMNS (a INT));
+pub(super) const TABLES: &str =
+    r##"(0 OUTER 1) = SELECT * FROM JSON_TABLE(doc, '$' COLUMNS (a BOOLEAN EXISTS, NESTED '$' COLUMNS (b BOOLEAN EXISTS)));
+column named twice = SELECT * FROM JSON_TABLE(doc, '$' COLUMNS (a BOOLEAN EXISTS, NESTED '$' COLUMNS (a BOOLEAN EXISTS)));
+0 = SELECT * FROM JSON_TABLE(doc, '$' AS a COLUMNS (a INT));
 column named twice = SELECT * FROM JSON_TABLE(doc, '$' AS a COLUMNS (a INT, a INT));
 0 = SELECT * FROM JSON_TABLE(doc, '$' COLUMNS (a INT, A INT));
 column named twice = SELECT * FROM JSON_TABLE(doc, '$' COLUMNS (NESTED '$' AS n COLUMNS (a INT), a INT));

@@ -45,6 +45,10 @@ SELECT * FROM JSON_TABLE(doc, '$' COLUMNS (a INT)) AS "from";
 Select * From Json_Table(doc, '$' Columns (o For Ordinality, a Int, b VarChar Path '$.b' Null On Empty Default 'x' On Error, c BigInt Error On Empty));
 Select * From Json_Table(doc, '$' Columns (a VarChar Format Json, b VarChar Format Json Encoding Utf8 Path '$.b' With Wrapper Omit Quotes Empty Array On Empty Error On Error));
 Select * From Json_Table(doc, '$' Columns (Nested Path '$.a' As n Columns (a Int, Nested '$.b' Columns (b Int)), Nested '$.c' As m Columns (c For Ordinality)));
+Select * From Json_Table(doc, '$' Columns (a Boolean Exists, b Boolean Exists Path '$.b', c Boolean Exists True On Error, d Boolean Exists False On Error));
+Select * From Json_Table(doc, '$' Columns (e Boolean Exists Path '$.e' Unknown On Error, f Boolean Exists Path 'strict $.f' Error On Error, g Boolean));
+SELECT * FROM JSON_TABLE(doc, '$' COLUMNS (exists BOOLEAN EXISTS, NESTED '$' AS exists COLUMNS (path BOOLEAN EXISTS PATH '$', "exists2" BOOLEAN EXISTS)));
+SELECT exists FROM JSON_TABLE(doc, '$' COLUMNS (exists INT));
 SELECT * FROM JSON_TABLE(doc, '$' COLUMNS (value INT, path VARCHAR PATH '$', date FOR ORDINALITY, key1 VARCHAR FORMAT JSON, "key" INT, "a ""b""" INT));
 # plan
 SELECT * FROM JSON_TABLE(doc, '$' COLUMNS (a INT) Plan (r));
@@ -230,6 +234,28 @@ SELECT * FROM JSON_TABLE(doc, '$' COLUMNS (a VARCHAR(5) FORMAT JSON));
 SELECT * FROM JSON_TABLE(doc, '$' COLUMNS (a FORMAT JSON));
 SELECT * FROM JSON_TABLE(doc, '$' COLUMNS (a VARCHAR FORMAT JSON DEFAULT '1' ON EMPTY));
 SELECT * FROM JSON_TABLE(doc, '$' COLUMNS (a VARCHAR ENCODING UTF8));
+SELECT * FROM JSON_TABLE(doc, '$' COLUMNS (a EXISTS));
+SELECT * FROM JSON_TABLE(doc, '$' COLUMNS (a INT EXISTS));
+SELECT * FROM JSON_TABLE(doc, '$' COLUMNS (a VARCHAR EXISTS));
+SELECT * FROM JSON_TABLE(doc, '$' COLUMNS (a NUMERIC(5) EXISTS));
+SELECT * FROM JSON_TABLE(doc, '$' COLUMNS (a REAL EXISTS));
+SELECT * FROM JSON_TABLE(doc, '$' COLUMNS (a DATE EXISTS PATH '$'));
+SELECT * FROM JSON_TABLE(doc, '$' COLUMNS (a "BOOLEAN" EXISTS));
+SELECT * FROM JSON_TABLE(doc, '$' COLUMNS (a BOOLEAN "EXISTS"));
+SELECT * FROM JSON_TABLE(doc, '$' COLUMNS (a BOOLEAN EXISTS '$'));
+SELECT * FROM JSON_TABLE(doc, '$' COLUMNS (a BOOLEAN EXISTS PATH));
+SELECT * FROM JSON_TABLE(doc, '$' COLUMNS (a BOOLEAN EXISTS PATH "$"));
+SELECT * FROM JSON_TABLE(doc, '$' COLUMNS (a BOOLEAN PATH '$' EXISTS));
+SELECT * FROM JSON_TABLE(doc, '$' COLUMNS (a BOOLEAN EXISTS NULL ON ERROR));
+SELECT * FROM JSON_TABLE(doc, '$' COLUMNS (a BOOLEAN EXISTS DEFAULT TRUE ON ERROR));
+SELECT * FROM JSON_TABLE(doc, '$' COLUMNS (a BOOLEAN EXISTS TRUE ON EMPTY));
+SELECT * FROM JSON_TABLE(doc, '$' COLUMNS (a BOOLEAN EXISTS TRUE));
+SELECT * FROM JSON_TABLE(doc, '$' COLUMNS (a BOOLEAN EXISTS TRUE ON ERROR FALSE ON ERROR));
+SELECT * FROM JSON_TABLE(doc, '$' COLUMNS (a BOOLEAN EXISTS TRUE ON ERROR PATH '$'));
+SELECT * FROM JSON_TABLE(doc, '$' COLUMNS (a BOOLEAN EXISTS FORMAT JSON));
+SELECT * FROM JSON_TABLE(doc, '$' COLUMNS (a BOOLEAN EXISTS WITH WRAPPER));
+SELECT * FROM JSON_TABLE(doc, '$' COLUMNS (a BOOLEAN EXISTS EXISTS));
+SELECT * FROM JSON_TABLE(doc, '$' COLUMNS (a BOOLEAN TRUE ON ERROR));
 SELECT * FROM JSON_TABLE(doc, '$' COLUMNS (NESTED '$'));
 SELECT * FROM JSON_TABLE(doc, '$' COLUMNS (NESTED '$' COLUMNS ()));
 SELECT * FROM JSON_TABLE(doc, '$' COLUMNS (NESTED COLUMNS (a INT)));
@@ -257,7 +283,8 @@ SELECT * FROM JSON_TABLE(doc, '$' COLUMNS (a INT) PLAN DEFAULT (OUTER UNION));
 SELECT * FROM JSON_TABLE(doc, '$' COLUMNS (a INT) PLAN DEFAULT (OUTER, UNION, INNER));
 "##;
 
-/// Groups of refused statements, each under its kind. Most have a fault of a later kind too, before that one or behind it.
+/// Groups of refused statements, each under its kind. Most have a fault of a later kind too, before that one or behind
+/// it.
 pub(super) const REFUSED: &str = r##"lexical error
 SELECT SELECT #;
 
@@ -276,6 +303,7 @@ path: syntax error
 SELECT JSON_VALUE(doc, '$' RETURNING DATE), JSON_VALUE(doc, '$.');
 SELECT JSON_VALUE(doc, '$.'), JSON_VALUE(doc, '#');
 SELECT a FROM JSON_TABLE(doc, '$' COLUMNS (a DATE PATH '$.', NESTED '#' COLUMNS (b INT)));
+SELECT * FROM JSON_TABLE(doc, '$' COLUMNS (a BOOLEAN EXISTS PATH '$.', b DATE));
 
 path: misplaced @ or last
 SELECT JSON_EXISTS(doc, '$.double()'), JSON_EXISTS(doc, 'last'), JSON_EXISTS(doc, '#');
@@ -286,6 +314,7 @@ SELECT JSON_EXISTS(doc, '$ ? (@ like_regex "a")');
 
 unsupported double
 SELECT JSON_VALUE(doc, '$.double()' RETURNING DATE);
+SELECT * FROM JSON_TABLE(doc, '$' COLUMNS (a BOOLEAN EXISTS PATH '$.double()'));
 
 unsupported datetime
 SELECT * FROM JSON_TABLE(doc, '$.datetime()' COLUMNS (NESTED '$.double()' COLUMNS (a DATE)));
@@ -315,4 +344,4 @@ pub(super) const FREE: &str =
     r##"Passing Returning On Error Empty Default Unknown Absent With Without Conditional Unconditional
 Wrapper Keep Omit Quotes Format Json Encoding Utf8 Utf16 Utf32 Is Not Value Array Object Scalar String Unique Keys
 Varchar Numeric Decimal Integer Int Bigint Boolean Float Real Double Precision Date Time Timestamp
-Columns For Ordinality Path Plan Outer Inner Union Cross doc key1"##;
+Columns For Ordinality Exists Path Plan Outer Inner Union Cross doc key1"##;

@@ -254,6 +254,10 @@ fn same_column(a: &Column, b: &Column) -> bool {
         Column::Ordinality(a) => matches!(b, Column::Ordinality(b) if same_text(a, b)),
         Column::Regular(a) => matches!(b, Column::Regular(b) if same_regular(a, b)),
         Column::Formatted(a) => matches!(b, Column::Formatted(b) if same_formatted(a, b)),
+        Column::Exists(name, a, on_error) => {
+            matches!(b, Column::Exists(n, b, e)
+                if same_text(name, n) && same_path(a, b) && on_error == e)
+        }
         Column::Nested(path, name, a) => {
             matches!(b, Column::Nested(p, n, b)
                 if same_path(path, p) && same_name(name, n) && same_columns(a, b))

@@ -1,7 +1,24 @@
-// Groups of statements. A line with `=` in front has the tree of the statement at the head of its group, and one with `!` has
-// another.
+// Groups of statements. A line with `=` in front has the tree of the statement at the head of its group, and one with
+// `!` has another.
 
-pub(super) const SPELLINGS: &str = r##"SELECT 1;
+pub(super) const SPELLINGS: &str =
+    r##"SELECT * FROM JSON_TABLE(doc, '$' COLUMNS (a BOOLEAN EXISTS));
+= select * from json_table(doc, '$' columns (a boolean exists path '$.a'));
+= SELECT * FROM JSON_TABLE(doc, '$' COLUMNS ("a" BOOLEAN EXISTS PATH 'lax $."a"' FALSE ON ERROR));
+= SELECT * FROM JSON_TABLE(doc, '$' COLUMNS (a BOOLEAN EXISTS FALSE ON ERROR));
+! SELECT * FROM JSON_TABLE(doc, '$' COLUMNS (a BOOLEAN));
+! SELECT * FROM JSON_TABLE(doc, '$' COLUMNS (a BOOLEAN PATH '$.a'));
+! SELECT * FROM JSON_TABLE(doc, '$' COLUMNS (A BOOLEAN EXISTS));
+! SELECT * FROM JSON_TABLE(doc, '$' COLUMNS (A BOOLEAN EXISTS PATH '$.a'));
+! SELECT * FROM JSON_TABLE(doc, '$' COLUMNS (a BOOLEAN EXISTS PATH '$.b'));
+! SELECT * FROM JSON_TABLE(doc, '$' COLUMNS (a BOOLEAN EXISTS PATH 'strict $.a'));
+! SELECT * FROM JSON_TABLE(doc, '$' COLUMNS (a BOOLEAN EXISTS TRUE ON ERROR));
+! SELECT * FROM JSON_TABLE(doc, '$' COLUMNS (a BOOLEAN EXISTS UNKNOWN ON ERROR));
+! SELECT * FROM JSON_TABLE(doc, '$' COLUMNS (a BOOLEAN EXISTS ERROR ON ERROR));
+! SELECT * FROM JSON_TABLE(doc, '$' COLUMNS (a BOOLEAN EXISTS, b BOOLEAN EXISTS));
+! SELECT * FROM JSON_TABLE(doc, '$' COLUMNS (a FOR ORDINALITY));
+
+SELECT 1;
 = select 1 ;
 = SeLeCt  1;
 = SELECT +1;
@@ -309,18 +326,3 @@ SELECT a, 1, JSON_OBJECT('k' VALUE JSON_ARRAY(a)) FROM JSON_TABLE(doc, '$' COLUM
 ! SELECT a, 1, JSON_OBJECT('k' VALUE JSON_ARRAY(a NULL ON NULL)) FROM JSON_TABLE(doc, '$' COLUMNS (a INT));
 ! SELECT a, 1, JSON_OBJECT('k' VALUE JSON_ARRAY(a) WITH UNIQUE KEYS) FROM JSON_TABLE(doc, '$' COLUMNS (a INT));
 "##;
-
-// Pairs with one tree, with white space and comments between the tokens.
-pub(super) const COMMENTED: [(&str, &str); 5] = [
-    ("SELECT 1;", "\tSELECT\r\n1\n\n;\r"),
-    ("SELECT 2;", "SELECT --1\n2;"),
-    (
-        "SELECT 1, 2;",
-        "--a\nSELECT--'\n1--\r\n,--;\n2-- \"\n;--end",
-    ),
-    ("SELECT '--', 1;", "SELECT '--' -- '--'\n, 1;\n--"),
-    (
-        "SELECT * FROM JSON_TABLE(doc, '$' COLUMNS (a INT));",
-        "SELECT--\n*--\nFROM--\nJSON_TABLE--\n(--\ndoc--\n,--\n'$'--\nCOLUMNS--\n(--\na--\nINT--\n)--\n)--\n;--",
-    ),
-];

@@ -1,7 +1,8 @@
 //! Statements that mean the same have one tree, however they are spelt.
 
+use super::super::cases::expect;
 use super::same::same_statement;
-use super::spellings::{COMMENTED, SPELLINGS};
+use super::spellings::SPELLINGS;
 use sj_sql::{Statement, parse_file};
 use std::alloc::Global;
 use std::test::Fail;
@@ -18,15 +19,17 @@ fn statement_of(alloc: Global, file: &str) -> Result<Option<Statement>, Fail> {
     Ok(script.statements.take_first())
 }
 
-/// Whether two files of one statement have one tree. There is no answer where one of them is refused.
-fn is_same(alloc: Global, first: &str, second: &str) -> Result<Option<bool>, Fail> {
+/// `=` where two files of one statement have one tree, and `!` where they do not. There is no other answer where one of
+/// them is refused.
+fn is_same(alloc: Global, first: &str, second: &str) -> Result<&'static str, Fail> {
     let Some(first) = statement_of(alloc, first)? else {
-        return Ok(None);
+        return Ok("refused");
     };
-    let Some(second) = statement_of(alloc, second)? else {
-        return Ok(None);
-    };
-    Ok(Some(same_statement(&first, &second)))
+    match statement_of(alloc, second)? {
+        Some(second) if same_statement(&first, &second) => Ok("="),
+        Some(_) => Ok("!"),
+        None => Ok("refused"),
+    }
 }
 
 #[test]
@@ -40,20 +43,29 @@ fn spellings_of_one_tree(rt: HostRuntime) -> Result<(), Fail> {
                 return Err(Fail::from("a line without a mark"));
             };
             let found = is_same(rt.alloc(), head, other)?;
-            assert_eq!(rt; found, Some(mark == "="), "{line}");
+            expect(&rt, found, mark, line);
         }
     }
     Ok(())
 }
 
+// With white space and comments between the tokens.
 #[test]
 fn comments_leave_no_trace(rt: HostRuntime) -> Result<(), Fail> {
-    for (plain, commented) in COMMENTED {
-        assert_eq!(rt;
-            is_same(rt.alloc(), plain, commented)?,
-            Some(true),
-            "{plain}"
-        );
+    for (plain, commented) in [
+        ("SELECT 1;", "\tSELECT\r\n1\n\n;\r"),
+        ("SELECT 2;", "SELECT --1\n2;"),
+        (
+            "SELECT 1, 2;",
+            "--a\nSELECT--'\n1--\r\n,--;\n2-- \"\n;--end",
+        ),
+        ("SELECT '--', 1;", "SELECT '--' -- '--'\n, 1;\n--"),
+        (
+            "SELECT * FROM JSON_TABLE(doc, '$' COLUMNS (a INT));",
+            "SELECT--\n*--\nFROM--\nJSON_TABLE--\n(--\ndoc--\n,--\n'$'--\nCOLUMNS--\n(--\na--\nINT--\n)--\n)--\n;--",
+        ),
+    ] {
+        expect(&rt, is_same(rt.alloc(), plain, commented)?, "=", plain);
     }
     Ok(())
 }
