@@ -1,12 +1,13 @@
 -- THE CAST OF AN ITEM TO A TYPE: a type reads one column of the table of casts (`Scalars` of sj_item), and says what
 -- becomes of the number, the truth value or the text that stands there.
-use Rattle.std.specs.Prelude.{◌≡◌, ℕ, ◌-◌, ◌^◌, nat_le, List, length, if◌then◌else◌, ℤ, pos, neg_ℤ, Result, Ok, Err}
+use Rattle.std.specs.Prelude.{◌≡◌, ℕ, nat_le, List, length, if◌then◌else◌, ℤ, Result, Ok, Err}
 use Rattle.std.specs.Str.{chars}
 use Rattle.sj_base.specs.declared.state.State.{State as SqlState}
 use Rattle.sj_base.specs.declared.state.State.TheVariants.{S22001, S22003}
 use Rattle.sj_decimal.specs.declared.arithmetic.NumFault.{NumFault}
 use Rattle.sj_decimal.specs.Rounding.{rounded_within}
 use Rattle.sj_json.specs.Tree.{Tree, null}
+use Rattle.sj_item.specs.Bounds.{integer_low, integer_high, bigint_low, bigint_high}
 use Rattle.sj_item.specs.Items.{ItemValue, item_tree}
 use Rattle.sj_item.specs.Scalars.{number_cast, whole_cast, truth_cast, text_cast}
 use Rattle.sj_value.specs.declared.types.SqlType.{SqlType}
@@ -44,8 +45,8 @@ scalar_cast t Varchar = given (λ s. Ok (Text s)) (text_cast t)
 scalar_cast t (VarcharMax n) = given (text_within n) (text_cast t)
 scalar_cast t Numeric = given (λ d. Ok (Num d 0)) (number_cast t)
 scalar_cast t (NumericFixed p s) = given (λ d. fixed s (rounded_within p s d)) (number_cast t)
-scalar_cast t Integer = given (λ d. Ok (Num d 0)) (whole_cast (neg_ℤ (pos (2 ^ 31))) (pos (2 ^ 31 - 1)) t)
-scalar_cast t Bigint = given (λ d. Ok (Num d 0)) (whole_cast (neg_ℤ (pos (2 ^ 63))) (pos (2 ^ 63 - 1)) t)
+scalar_cast t Integer = given (λ d. Ok (Num d 0)) (whole_cast integer_low integer_high t)
+scalar_cast t Bigint = given (λ d. Ok (Num d 0)) (whole_cast bigint_low bigint_high t)
 scalar_cast t Boolean = given (λ b. Ok (Bool b)) (truth_cast t)
 
 -- a JSON null is NULL for every type

@@ -15,7 +15,10 @@ use crate::value::SqlValue;
 use sj_base::{State, Text};
 use sj_decimal::Decimal;
 use sj_doc::Kind;
-use sj_item::{Item, kind, to_number, to_text, to_truth, to_whole};
+use sj_item::{
+    BIGINT_HIGH, BIGINT_LOW, INTEGER_HIGH, INTEGER_LOW, Item, kind, to_number, to_text, to_truth,
+    to_whole,
+};
 use std::alloc::Global;
 
 /// An item as a value of a type, by this project's own table of casts, which is not the CAST of ISO/IEC 9075-2.
@@ -57,8 +60,8 @@ fn cast_scalar(alloc: Global, item: Item<'_>, ty: SqlType) -> Result<SqlValue, C
         SqlType::VarcharMax(n) => limited_text(alloc, item, n),
         SqlType::Numeric => plain_number(to_number(item)),
         SqlType::NumericFixed(p, s) => fixed_number(to_number(item), p, s),
-        SqlType::Integer => plain_number(to_whole(item, -(1 << 31), (1 << 31) - 1)),
-        SqlType::Bigint => plain_number(to_whole(item, -(1 << 63), (1 << 63) - 1)),
+        SqlType::Integer => plain_number(to_whole(item, INTEGER_LOW, INTEGER_HIGH)),
+        SqlType::Bigint => plain_number(to_whole(item, BIGINT_LOW, BIGINT_HIGH)),
         SqlType::Boolean => truth_value(to_truth(item)),
     }
 }
