@@ -1,6 +1,6 @@
 // The cells of a path, made whole: the only place that takes memory.
 ghost use Rattle.std.specs.Prelude.{◌≡◌, IfOk};
-ghost use Rattle.sj_grammar.specs.Tree.{Access, Binary as binary_of};
+ghost use Rattle.sj_grammar.specs.Tree.{Access, Binary as binary_of, Compares as comparing};
 ghost use Rattle.sj_path.specs.Tree.{expr_of, step_of, sub_of, subs_of, pred_of};
 ghost use Rattle.sj_cursor.specs.Cells.{source_expr, act_on};
 ghost use Rattle.sj_cursor.specs.Left.{core, doing, doing_on, operand_core, part_core, parts_core, test_core};
@@ -10,7 +10,7 @@ use crate::cells::{
     MoreParts, One, Operand, Part, Parts, Range, Reached, Source, Start, Test,
 };
 use sj_base::Memory;
-use sj_path::{Expr, Pred, Step, Sub, Subs};
+use sj_path::{Arith, Compare, Expr, Pred, Step, Sub, Subs};
 use sj_step::Walk;
 use std::alloc::Global;
 
@@ -29,6 +29,26 @@ fn each<'d>(input: Operand<'d>, deed: Deed<'d>) -> Cell<'d>
     Cell::Each(Each { input, deed })
 }
 
+#[inline(never)]
+fn binary<'d>(op: Arith, left: Operand<'d>, right: Operand<'d>) -> Cell<'d>
+    ensures { core result ≡ binary_of op (operand_core left.entry) (operand_core right.entry) }
+{
+    Cell::Binary(Binary {
+        op,
+        left,
+        right,
+        reached: Reached::Unasked,
+    })
+}
+
+#[inline(never)]
+fn comparison<'d>(op: Compare, left: Operand<'d>, right: Operand<'d>) -> Test<'d>
+    ensures { test_core result ≡ comparing op (operand_core left.entry) (operand_core right.entry) }
+{
+    Test::Compare(Comparison { op, left, right })
+}
+
+#[inline(never)]
 fn acting<'d>(input: Operand<'d>, act: Act<'d>) -> Cell<'d>
     ensures { core result ≡ act_on act.entry (operand_core input.entry) }
 {
@@ -53,17 +73,20 @@ pub(crate) fn expr_cell<'d>(alloc: Global, expr: &'d Expr) -> Result<Cell<'d>, M
         }
         Expr::Plus(inner) => Ok(acting(operand(alloc, inner)?, Act::Plus)),
         Expr::Minus(inner) => Ok(acting(operand(alloc, inner)?, Act::Minus)),
-        Expr::Binary(op, left, right) => Ok(Cell::Binary(Binary {
-            op: *op,
-            left: operand(alloc, left)?,
-            right: operand(alloc, right)?,
-            reached: Reached::Unasked,
-        })),
+        Expr::Binary(op, left, right) => {
+            let left = operand(alloc, left)?;
+            let right = operand(alloc, right)?;
+            Ok(binary(*op, left, right))
+        }
     }
 }
 
 // An expression that something is done with.
+//
+// What recurs over a path is kept out of line, and so is what makes a large cell of parts that are made already: what a
+// frame holds is taken as often as a path is nested.
 #[cycle(build)]
+#[inline(never)]
 fn operand<'d>(alloc: Global, expr: &'d Expr) -> Result<Operand<'d>, Memory>
     ensures { IfOk result (λ o. operand_core o ≡ expr_of expr.now) }
 {
@@ -76,6 +99,7 @@ fn operand<'d>(alloc: Global, expr: &'d Expr) -> Result<Operand<'d>, Memory>
 
 // An accessor on an expression.
 #[cycle(build)]
+#[inline(never)]
 fn step_cell<'d>(alloc: Global, step: &'d Step, input: Operand<'d>) -> Result<Cell<'d>, Memory>
     ensures { IfOk result (λ c. core c ≡ Access (operand_core input.entry) (step_of step.now)) }
 {
@@ -132,14 +156,14 @@ fn part_cell<'d>(alloc: Global, sub: &'d Sub) -> Result<Part<'d>, Memory>
     }
 }
 
-fn both<'d>(alloc: Global, left: Test<'d>, right: Test<'d>) -> Result<Both<'d>, Memory>
-    ensures left { IfOk result (λ b. test_core b.left.value ≡ test_core left.entry) }
-    ensures right { IfOk result (λ b. test_core b.right.value ≡ test_core right.entry) }
+// A test in a place of its own.
+#[cycle(build)]
+#[inline(never)]
+fn boxed_test<'d>(alloc: Global, pred: &'d Pred) -> Result<Box<Test<'d>>, Memory>
+    ensures { IfOk result (λ b. test_core b.value ≡ pred_of pred.now) }
 {
-    Ok(Both {
-        left: Box::new(alloc, left)?,
-        right: Box::new(alloc, right)?,
-    })
+    let test = test_cell(alloc, pred)?;
+    Ok(Box::new(alloc, test)?)
 }
 
 #[cycle(build)]
@@ -147,29 +171,23 @@ fn test_cell<'d>(alloc: Global, pred: &'d Pred) -> Result<Test<'d>, Memory>
     ensures { IfOk result (λ x. test_core x ≡ pred_of pred.now) }
 {
     match pred {
-        Pred::Compare(op, left, right) => Ok(Test::Compare(Comparison {
-            op: *op,
-            left: operand(alloc, left)?,
-            right: operand(alloc, right)?,
-        })),
+        Pred::Compare(op, left, right) => {
+            let left = operand(alloc, left)?;
+            let right = operand(alloc, right)?;
+            Ok(comparison(*op, left, right))
+        }
         Pred::And(left, right) => {
-            let left = test_cell(alloc, left)?;
-            let right = test_cell(alloc, right)?;
-            Ok(Test::And(both(alloc, left, right)?))
+            let left = boxed_test(alloc, left)?;
+            let right = boxed_test(alloc, right)?;
+            Ok(Test::And(Both { left, right }))
         }
         Pred::Or(left, right) => {
-            let left = test_cell(alloc, left)?;
-            let right = test_cell(alloc, right)?;
-            Ok(Test::Or(both(alloc, left, right)?))
+            let left = boxed_test(alloc, left)?;
+            let right = boxed_test(alloc, right)?;
+            Ok(Test::Or(Both { left, right }))
         }
-        Pred::Not(inner) => {
-            let test = test_cell(alloc, inner)?;
-            Ok(Test::Not(Box::new(alloc, test)?))
-        }
-        Pred::IsUnknown(inner) => {
-            let test = test_cell(alloc, inner)?;
-            Ok(Test::IsUnknown(Box::new(alloc, test)?))
-        }
+        Pred::Not(inner) => Ok(Test::Not(boxed_test(alloc, inner)?)),
+        Pred::IsUnknown(inner) => Ok(Test::IsUnknown(boxed_test(alloc, inner)?)),
         Pred::Exists(expr) => Ok(Test::Exists(operand(alloc, expr)?)),
         Pred::StartsWith(expr, initial) => Ok(Test::StartsWith(Start {
             text: operand(alloc, expr)?,
