@@ -34,7 +34,7 @@ pub(crate) fn operations_to<'d>(
 ) -> Result<Vec<Operation<'d>>, Memory>
     ensures { IfOk result (λ operations. steps_of operations.items ≡ steps_to (value_of value.now)) }
 {
-    let mut operations = Vec::new(alloc);
+    let mut operations = Vec::with_capacity(alloc, 1)?;
     push_value(alloc, value, &mut operations)?;
     Ok(operations)
 }
@@ -43,7 +43,7 @@ pub(crate) fn operations_to<'d>(
 fn operations_in<'d>(alloc: Global, items: &'d [BoundItem]) -> Result<Vec<Operation<'d>>, Memory>
     ensures { IfOk result (λ operations. steps_of operations.items ≡ steps_to_all (values_in (items_of items.now))) }
 {
-    let mut operations = Vec::new(alloc);
+    let mut operations = Vec::with_capacity(alloc, items.len())?;
     for item in items {
         match item {
             BoundItem::Value(value) => push_value(alloc, value, &mut operations)?,
