@@ -81,7 +81,7 @@ stopped_before p a b out = record {
   left = a.page.text ++ p.text;
   split = refl;
   grew = subst (λ (o : OutputSide). Grew a.out o []) (sym out) (grew_none a.out);
-  cause = tt;
+  cause = ap (λ (o : OutputSide). o.faults) out;
 }
 
 pub printed_more : (p q : Print) (a b c : PrintState) → Printed p a b → Printed q b c → Printed (followed_by p q) a c
@@ -96,7 +96,7 @@ printed_more p q a b c x y = record {
 }
 
 cause_since : (a b c : OutputSide) (stop : Stop) → b.faults ≡ a.faults → IsCause b c stop → IsCause a c stop
-cause_since a b c Memory same why = tt
+cause_since a b c Memory same why = why ∙ same
 cause_since a b c Output same why = subst (λ (n : ℕ). Rose n c.faults) same why
 
 pub stopped_more : (p q : Print) (a b c : PrintState) (stop : Stop) → Printed p a b → Stopped q b c stop → Stopped (followed_by p q) a c stop

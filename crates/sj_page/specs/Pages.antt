@@ -60,9 +60,9 @@ pub record Printed (print : Print) (old new : PrintState) : Type 0 where
   pub errors : new.page.errors ≡ raised old.page.errors print.errors
   pub no_fault : new.out.faults ≡ old.out.faults
 
--- why it was not: a failed write has raised the count of its sink
+-- why it was not: a failed write has raised the count of its sink, and where memory ran out no write had failed
 abbrev pub IsCause : OutputSide → OutputSide → Stop → Type 0
-IsCause old new Memory = Unit {0}
+IsCause old new Memory = new.faults ≡ old.faults
 IsCause old new Output = Rose old.faults new.faults
 
 -- A FRONT OF IT WAS WRITTEN: of what the page had and then the text.

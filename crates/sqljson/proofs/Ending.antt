@@ -185,7 +185,7 @@ least_by_why K i i' o o' bytes text InputLimit why =
     subst (λ (t : List ℕ). IsPrefix t (output K bytes) × IsPrefix (whole_output K (take (length bytes - max_piece) bytes)) t) (sym why.0)
     (whole_front K bytes, front_whole K bytes (length bytes - max_piece))
 least_by_why K i i' o o' bytes text WriteFault why = (why.0.front, why.0.least)
-least_by_why K i i' o o' bytes text Memory why = (why.front, why.least)
+least_by_why K i i' o o' bytes text Memory why = (why.0.front, why.0.least)
 least_by_why K i i' o o' bytes text Usage why = absurd why
 least_by_why K i i' o o' bytes text ShelfFault why = absurd why
 least_by_why K i i' o o' bytes text FileTooLong why = absurd why
@@ -541,6 +541,20 @@ ran_done (Some f) b a status r is = by_end (subst (Ran (Some f) b a) is r)
     by_end : Ran (Some f) b a Done → (a.shelf.faults ≡ b.shelf.faults) × (a.input.faults ≡ b.input.faults) × (a.out.faults ≡ b.out.faults)
     by_end (inl idle) = absurd idle.why
     by_end (inr d) = let same = no_fault f d.statements b.input a.input b.out a.out d.does in (d.accepted.holds.no_fault, same.0, same.1)
+
+no_fault_before : (f : Form) (K : List Bound) (i i' : InputSide) (o o' : OutputSide) → Does f K i i' o o' Memory → (i'.faults ≡ i.faults) × (o'.faults ≡ o.faults)
+no_fault_before (running keys name) K i i' o o' d = (d.1.why.1, d.1.why.2)
+no_fault_before (checking name) K i i' o o' d = (ap (λ (p : InputSide). p.faults) d.0, ap (λ (p : OutputSide). p.faults) d.1)
+no_fault_before (generating number name) K i i' o o' d = (d.0.faults, ap (λ (p : OutputSide). p.faults) d.1)
+
+-- where memory ran out, no call had failed
+pub ran_memory : (f : Option Form) (b a : Moment) (status : Status) → Ran f b a status → status ≡ Memory → (a.shelf.faults ≡ b.shelf.faults) × (a.input.faults ≡ b.input.faults) × (a.out.faults ≡ b.out.faults)
+ran_memory None b a status r is = absurd (cc (r.0, is))
+ran_memory (Some f) b a status r is = by_end (subst (Ran (Some f) b a) is r)
+  where
+    by_end : Ran (Some f) b a Memory → (a.shelf.faults ≡ b.shelf.faults) × (a.input.faults ≡ b.input.faults) × (a.out.faults ≡ b.out.faults)
+    by_end (inl idle) = (idle.why, ap (λ (p : InputSide). p.faults) idle.input, ap (λ (p : OutputSide). p.faults) idle.out)
+    by_end (inr d) = let same = no_fault_before f d.statements b.input a.input b.out a.out d.does in (d.accepted.holds.no_fault, same.0, same.1)
 
 -- ---- the limit of an input
 
