@@ -6,3 +6,4 @@ pub mod Wholes
 pub mod Walking
 pub mod Runs
 pub mod Lasts
+mod Keyed
