@@ -1,6 +1,7 @@
 //! Examples, and operations that an independent program computed.
 mod generated;
 
+use crate::cases::expect;
 use arrayvec::ArrayString;
 use sj_decimal::{Compare, Decimal, NumFault, Parsed};
 use std::cmp::Ordering;
@@ -89,11 +90,11 @@ fn examples(rt: HostRuntime) -> Result<(), Fail> {
         ("rem", nines, "0", "ZeroDivide"),
         ("cmp", "1.50", "1.5", "="),
     ] {
-        assert_eq!(rt; binary(operation, left, right)?.as_str(), answer);
+        expect(&rt, binary(operation, left, right)?.as_str(), answer, left);
     }
-    assert_eq!(rt; rounded("2.5", "10,0")?.as_str(), "3");
-    assert_eq!(rt; rounded("-2.5", "10,0")?.as_str(), "-3");
-    assert_eq!(rt; rounded("9.995", "3,2")?.as_str(), "Range");
+    expect(&rt, rounded("2.5", "10,0")?.as_str(), "3", "2.5");
+    expect(&rt, rounded("-2.5", "10,0")?.as_str(), "-3", "-2.5");
+    expect(&rt, rounded("9.995", "3,2")?.as_str(), "Range", "9.995");
     Ok(())
 }
 
@@ -121,27 +122,39 @@ fn spellings(rt: HostRuntime) -> Result<(), Fail> {
         ("1e-38", "0.00000000000000000000000000000000000001"),
         ("100000e-00000000000000000000000000000003", "100"),
     ] {
-        assert_eq!(rt; read(text)?.as_str(), answer, "{text}");
+        expect(&rt, read(text)?.as_str(), answer, text);
     }
     Ok(())
 }
 
 #[test]
-fn parts_and_signs(rt: HostRuntime) -> Result<(), Fail> {
+fn parts(rt: HostRuntime) -> Result<(), Fail> {
     let number = Decimal::from_parts(-1500, 3).ok_or("inexact")?;
-    assert_eq!(rt; number.parts(), (-15, 1));
-    assert_eq!(rt; number.text().as_str(), "-1.5");
-    assert_eq!(rt; number.neg().text().as_str(), "1.5");
-    assert_eq!(rt; number.abs().text().as_str(), "1.5");
-    assert_eq!(rt; number.to_whole(), -1);
     let (coefficient, scale) = number.parts();
-    assert_eq!(rt; Decimal::from_normal(coefficient, scale), number);
-    assert_eq!(rt; Decimal::from_short(true, 1500, 3), number);
+    assert!(rt; coefficient == -15 && scale == 1);
+    assert!(rt; Decimal::from_normal(coefficient, scale) == number);
+    assert!(rt; Decimal::from_short(true, 1500, 3) == number);
     assert!(rt; Decimal::from_parts(1, 39).is_none());
+    Ok(())
+}
+
+#[test]
+fn signs(rt: HostRuntime) -> Result<(), Fail> {
+    let number = Decimal::from_parts(-1500, 3).ok_or("inexact")?;
+    expect(&rt, number.text().as_str(), "-1.5", "as it is");
+    expect(&rt, number.neg().text().as_str(), "1.5", "neg");
+    expect(&rt, number.abs().text().as_str(), "1.5", "abs");
+    assert!(rt; number.to_whole() == -1);
     assert!(rt; number < number.neg());
-    assert_ne!(rt; Compare::Lt, Compare::Ge);
+    assert!(rt; Compare::Lt != Compare::Ge);
+    Ok(())
+}
+
+#[test]
+fn is_displayed(rt: HostRuntime) -> Result<(), Fail> {
     let tenth = Decimal::from_parts(1, 1).ok_or("inexact")?;
-    assert_eq!(rt; format!(in rt.alloc(); "{tenth}")?.as_str(), "0.1");
+    let shown = format!(in rt.alloc(); "{tenth}")?;
+    expect(&rt, shown.as_str(), "0.1", "a tenth");
     Ok(())
 }
 
@@ -152,12 +165,9 @@ fn long_texts(rt: HostRuntime) -> Result<(), Fail> {
         text.push(b'0')?;
     }
     text.extend_from_slice(b"125e300002")?;
-    assert_eq!(rt;
-        Decimal::parse(text.as_slice()),
-        Parsed::Exact(number("12.5")?)
-    );
+    assert!(rt; Decimal::parse(text.as_slice()) == Parsed::Exact(number("12.5")?));
     text.push(b'9')?;
-    assert_eq!(rt; Decimal::parse(text.as_slice()), Parsed::Wide);
+    assert!(rt; Decimal::parse(text.as_slice()) == Parsed::Wide);
     Ok(())
 }
 
@@ -188,7 +198,7 @@ fn places(rt: HostRuntime) -> Result<(), Fail> {
         ("0", 2, "0.00"),
         ("0", 38, "0.00000000000000000000000000000000000000"),
     ] {
-        assert_eq!(rt; padded(number(text)?, places)?.as_str(), answer);
+        expect(&rt, padded(number(text)?, places)?.as_str(), answer, text);
     }
     Ok(())
 }

@@ -1,10 +1,12 @@
 // Which lines are read, what the document then has, and the limits.
 mod texts;
 
+use crate::cases::{expect, sides};
 use sj_base::{Steps, Tally};
 use sj_doc::{Doc, Kind, Num, Visit};
 use sj_read::{MAX_DEPTH, MAX_LENGTH, ReadRefusal, read, read_over};
 use std::alloc::{AllocError, Global};
+use std::process::Abort;
 use std::test::Fail;
 use texts::{JSON, NOT_JSON};
 
@@ -17,11 +19,17 @@ fn is_read(alloc: Global, line: &[u8]) -> Result<bool, Fail> {
     }
 }
 
+// Stops the test where the line is read and should not be, or is not read and should be.
+fn expect_read(rt: &impl Abort, alloc: Global, line: &[u8], json: bool) -> Result<(), Fail> {
+    assert_eq!(rt; is_read(alloc, line)?, json, "{line:?}");
+    Ok(())
+}
+
 #[test]
 fn reads_exactly_json(rt: HostRuntime) -> Result<(), Fail> {
     for (texts, json) in [(JSON, true), (NOT_JSON, false)] {
         for line in texts.lines() {
-            assert_eq!(rt; is_read(rt.alloc(), line.as_bytes())?, json, "{line:?}");
+            expect_read(&rt, rt.alloc(), line.as_bytes(), json)?;
         }
     }
     let bytes: [(&[u8], bool); 30] = [
@@ -66,7 +74,7 @@ fn reads_exactly_json(rt: HostRuntime) -> Result<(), Fail> {
         (b"\"a\x7fb\"", true),
     ];
     for (line, json) in bytes {
-        assert_eq!(rt; is_read(rt.alloc(), line)?, json, "{line:?}");
+        expect_read(&rt, rt.alloc(), line, json)?;
     }
     Ok(())
 }
@@ -83,14 +91,19 @@ fn refuses_a_truncated_line(rt: HostRuntime) -> Result<(), Fail> {
     ];
     for line in lines {
         for end in 0..line.len() {
-            assert!(rt;
-                !is_read(rt.alloc(), &line[..end])?,
-                "{end} bytes of {line:?}"
-            );
+            expect_read(&rt, rt.alloc(), &line[..end], false)?;
         }
-        assert!(rt; is_read(rt.alloc(), line)?, "{line:?}");
+        expect_read(&rt, rt.alloc(), line, true)?;
     }
     Ok(())
+}
+
+fn expect_text(rt: &impl Abort, doc: &Doc, want: &str) {
+    let root = doc.root();
+    assert!(rt; root.kind() == Kind::String);
+    if root.kind() == Kind::String {
+        expect(rt, root.text(), want, "a string");
+    }
 }
 
 #[test]
@@ -109,77 +122,56 @@ fn unescapes_texts(rt: HostRuntime) -> Result<(), Fail> {
     ];
     for (line, text) in cases {
         let doc = read(rt.alloc(), line)?;
-        assert_eq!(rt; doc.root().kind(), Kind::String);
-        assert_eq!(rt; doc.root().text(), text);
+        expect_text(&rt, &doc, text);
     }
     Ok(())
 }
 
-// The text of an exact number, or what a wide one was written as, and whether it is wide.
-fn number_text(alloc: Global, doc: &Doc) -> Result<(String, bool), Fail> {
+// The text of an exact number, or what a wide one was written as, and which it is.
+fn number_text(alloc: Global, doc: &Doc) -> Result<String, Fail> {
     if doc.root().kind() != Kind::Number {
         return Err("no number".into());
     }
     match doc.root().number() {
-        Num::Exact(n) => Ok((String::from_str(alloc, n.text().as_str())?, false)),
-        Num::Wide(spelling) => Ok((String::from_str(alloc, spelling)?, true)),
+        Num::Exact(n) => Ok(format!(in alloc; "{} exact", n.text().as_str())?),
+        Num::Wide(spelling) => Ok(format!(in alloc; "{spelling} wide")?),
     }
 }
 
+// Numbers, each with its text and whether it is exact.
+const NUMBERS: &str = "1 => 1 exact
+-0 => 0 exact
+1.50e1 => 15 exact
+ -12.5e-3  => -0.0125 exact
+0e999 => 0 exact
+1E37 => 10000000000000000000000000000000000000 exact
+99999999999999999999999999999999999999 => 99999999999999999999999999999999999999 exact
+-0.00000000000000000000000000000000000001 => -0.00000000000000000000000000000000000001 exact
+99999999999999999 => 99999999999999999 exact
+-100000000000000000 => -100000000000000000 exact
+999999999999999999 => 999999999999999999 exact
+1000000000000000000 => 1000000000000000000 exact
+18446744073709551616 => 18446744073709551616 exact
+-12.500 => -12.5 exact
+-0.0 => 0 exact
+10.00 => 10 exact
+0.050 => 0.05 exact
+12345678901234567.8 => 12345678901234567.8 exact
+123456789012345678.9 => 123456789012345678.9 exact
+0.1000000000000000000000000000000000000000 => 0.1 exact
+1e38 => 1e38 wide
+0.000000000000000000000000000000000000001 => 0.000000000000000000000000000000000000001 wide
+1.000000000000000000000000000000000000001 => 1.000000000000000000000000000000000000001 wide
+1e400 => 1e400 wide
+-1.0E-39\t => -1.0E-39 wide
+100000000000000000000000000000000000001 => 100000000000000000000000000000000000001 wide";
+
 #[test]
 fn reads_numbers(rt: HostRuntime) -> Result<(), Fail> {
-    let cases: [(&[u8], &str, bool); 26] = [
-        (b"1", "1", false),
-        (b"-0", "0", false),
-        (b"1.50e1", "15", false),
-        (b" -12.5e-3 ", "-0.0125", false),
-        (b"0e999", "0", false),
-        (b"1E37", "10000000000000000000000000000000000000", false),
-        (
-            b"99999999999999999999999999999999999999",
-            "99999999999999999999999999999999999999",
-            false,
-        ),
-        (
-            b"-0.00000000000000000000000000000000000001",
-            "-0.00000000000000000000000000000000000001",
-            false,
-        ),
-        (b"99999999999999999", "99999999999999999", false),
-        (b"-100000000000000000", "-100000000000000000", false),
-        (b"999999999999999999", "999999999999999999", false),
-        (b"1000000000000000000", "1000000000000000000", false),
-        (b"18446744073709551616", "18446744073709551616", false),
-        (b"-12.500", "-12.5", false),
-        (b"-0.0", "0", false),
-        (b"10.00", "10", false),
-        (b"0.050", "0.05", false),
-        (b"12345678901234567.8", "12345678901234567.8", false),
-        (b"123456789012345678.9", "123456789012345678.9", false),
-        (b"0.1000000000000000000000000000000000000000", "0.1", false),
-        (b"1e38", "1e38", true),
-        (
-            b"0.000000000000000000000000000000000000001",
-            "0.000000000000000000000000000000000000001",
-            true,
-        ),
-        (
-            b"1.000000000000000000000000000000000000001",
-            "1.000000000000000000000000000000000000001",
-            true,
-        ),
-        (b"1e400", "1e400", true),
-        (b"-1.0E-39\n", "-1.0E-39", true),
-        (
-            b"100000000000000000000000000000000000001",
-            "100000000000000000000000000000000000001",
-            true,
-        ),
-    ];
-    for (line, text, wide) in cases {
-        let (found, found_wide) = number_text(rt.alloc(), &read(rt.alloc(), line)?)?;
-        assert_eq!(rt; found.as_str(), text);
-        assert_eq!(rt; found_wide, wide);
+    for line in NUMBERS.lines() {
+        let (text, want) = sides(line)?;
+        let doc = read(rt.alloc(), text.as_bytes())?;
+        expect(&rt, number_text(rt.alloc(), &doc)?.as_str(), want, text);
     }
     Ok(())
 }
@@ -239,14 +231,14 @@ fn finds_the_end_of_a_string(rt: HostRuntime) -> Result<(), Fail> {
     line.push(b'"')?;
     for letters in 0..80 {
         line.push(b'"')?;
-        assert!(rt; is_read(rt.alloc(), &line)?, "{letters} letters");
+        expect_read(&rt, rt.alloc(), &line, true)?;
         line.extend_from_slice(b"                                        ")?;
-        assert!(rt; is_read(rt.alloc(), &line)?, "{letters} letters");
+        expect_read(&rt, rt.alloc(), &line, true)?;
         line.truncate(letters + 1);
         line.extend_from_slice(b"\x1f                                      \"")?;
-        assert!(rt; !is_read(rt.alloc(), &line)?, "{letters} letters");
+        expect_read(&rt, rt.alloc(), &line, false)?;
         line.truncate(letters + 1);
-        assert!(rt; !is_read(rt.alloc(), &line)?, "{letters} letters");
+        expect_read(&rt, rt.alloc(), &line, false)?;
         line.push(b'a')?;
     }
     Ok(())
@@ -337,7 +329,7 @@ fn reads_long_tokens(rt: HostRuntime) -> Result<(), Fail> {
     ];
     for (first, unit, last, json) in cases {
         let line = long_line(rt.alloc(), first, unit, last)?;
-        assert_eq!(rt; is_read(rt.alloc(), &line)?, json);
+        expect_read(&rt, rt.alloc(), &line, json)?;
     }
     Ok(())
 }
@@ -350,8 +342,8 @@ fn reads_no_longer_line(rt: HostRuntime) -> Result<(), Fail> {
         line.push(b'a')?;
     }
     line.push(b'"')?;
-    assert!(rt; is_read(rt.alloc(), &line)?);
+    expect_read(&rt, rt.alloc(), &line, true)?;
     line.push(b' ')?;
-    assert!(rt; !is_read(rt.alloc(), &line)?);
+    expect_read(&rt, rt.alloc(), &line, false)?;
     Ok(())
 }

@@ -1,5 +1,5 @@
-//! Thousands of operations on generated numbers. `data/digests.py` generates the same numbers, computes each answer with
-//! whole numbers and fractions of any size, and prints the digests of all texts that stand here.
+//! Thousands of operations on generated numbers. `data/digests.py` generates the same numbers, computes each answer
+//! with whole numbers and fractions of any size, and prints the digests of all texts that stand here.
 ghost use Rattle.std.specs.Prelude.{◌<◌};
 
 use super::{binary, read, rounded};
