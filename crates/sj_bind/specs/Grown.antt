@@ -23,7 +23,7 @@ abbrev mutual
   grown_in in_out siblings next before (Ordinality name) = before
   grown_in in_out siblings next before (Regular column) = before
   grown_in in_out siblings next before (Formatted column) = before
-  grown_in in_out siblings next before (Existence name path on_error) = before
+  grown_in in_out siblings next before (Existence name path _) = before
   grown_in in_out siblings next before (Nested path name columns) = one_more siblings before (path_over in_out next (grown_below in_out siblings (next + 1) None columns))
 
   pub grown_below : {P : Type 0} → InOut → Siblings → ℕ → Option PlanTree → Columns P → Option PlanTree

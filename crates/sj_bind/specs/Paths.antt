@@ -14,7 +14,7 @@ abbrev mutual
   paths_in (Ordinality name) = []
   paths_in (Regular column) = []
   paths_in (Formatted column) = []
-  paths_in (Existence name path on_error) = []
+  paths_in (Existence name path _) = []
   paths_in (Nested path name columns) = record { path = path; name = name } ∷ paths_below columns
 
   pub paths_below : {P : Type 0} → Columns P → List (TablePath P)
@@ -36,7 +36,7 @@ abbrev pub children_in : {P : Type 0} → ℕ → ColumnOf P → List (Child P)
 children_in next (Ordinality name) = []
 children_in next (Regular column) = []
 children_in next (Formatted column) = []
-children_in next (Existence name path on_error) = []
+children_in next (Existence name path _) = []
 children_in next (Nested path name columns) = record { number = next; name = name; columns = columns } ∷ []
 
 abbrev pub children : {P : Type 0} → ℕ → Columns P → List (Child P)

@@ -131,7 +131,7 @@ abbrev mutual
   default_in in_out siblings next (Ordinality name) = []
   default_in in_out siblings next (Regular column) = []
   default_in in_out siblings next (Formatted column) = []
-  default_in in_out siblings next (Existence name path on_error) = []
+  default_in in_out siblings next (Existence name path _) = []
   default_in in_out siblings next (Nested path name columns) = over in_out siblings next (default_below in_out siblings (next + 1) columns) ∷ []
 
   pub default_below : {P : Type 0} → InOut → Siblings → ℕ → Columns P → List PlanTree

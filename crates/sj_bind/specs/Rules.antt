@@ -75,7 +75,7 @@ abbrev pub column_lacks_variable : List Passed → ColumnOf Path → Bool
 column_lacks_variable passing (Ordinality name) = false
 column_lacks_variable passing (Regular c) = lacks_variable passing c.path
 column_lacks_variable passing (Formatted c) = lacks_variable passing c.path
-column_lacks_variable passing (Existence name path on_error) = lacks_variable passing path
+column_lacks_variable passing (Existence name path _) = lacks_variable passing path
 column_lacks_variable passing (Nested path name columns) = false
 
 -- the row path, a nested path or the path of a column
@@ -96,7 +96,7 @@ abbrev pub column_quotes_clash : ColumnOf Path → Bool
 column_quotes_clash (Ordinality name) = false
 column_quotes_clash (Regular c) = false
 column_quotes_clash (Formatted c) = quotes_clash c.wrapper c.quotes
-column_quotes_clash (Existence name path on_error) = false
+column_quotes_clash (Existence name path _) = false
 column_quotes_clash (Nested path name columns) = false
 
 abbrev pub quotes_with_wrapper : Statement Path → Bool
@@ -117,7 +117,7 @@ abbrev pub column_default_fails : ColumnOf Path → Bool
 column_default_fails (Ordinality name) = false
 column_default_fails (Regular c) = defaults_fail c.ty c.on_empty c.on_error
 column_default_fails (Formatted c) = false
-column_default_fails (Existence name path on_error) = false
+column_default_fails (Existence name path _) = false
 column_default_fails (Nested path name columns) = false
 
 abbrev pub default_cast : Statement Path → Bool
@@ -154,7 +154,7 @@ abbrev pub text_name : ColumnOf Path → List (List ℕ)
 text_name (Ordinality name) = []
 text_name (Regular c) = if names_text c.ty then c.name ∷ [] else []
 text_name (Formatted c) = []
-text_name (Existence name path on_error) = []
+text_name (Existence name path _) = []
 text_name (Nested path name columns) = []
 
 abbrev pub text_names : List (ColumnOf Path) → List (List ℕ)

@@ -36,7 +36,7 @@ abbrev pub IsBindableColumn : ColumnOf Path → Type 0
 IsBindableColumn (t.Ordinality name) = Unit {0}
 IsBindableColumn (t.Regular c) = IsBindableType c.ty
 IsBindableColumn (t.Formatted c) = IsRead c.encoding
-IsBindableColumn (t.Existence name path on_error) = Unit {0}
+IsBindableColumn (t.Existence name path _) = Unit {0}
 IsBindableColumn (t.Nested path name columns) = Unit {0}
 
 pub record IsBindableTable (table : Table Path) : Type 0 where
@@ -78,7 +78,7 @@ abbrev pub IsTextColumn : BoundColumn → Type 0
 IsTextColumn (Ordinality n) = ⊥
 IsTextColumn (Regular n path clauses) = is_text_type clauses.ty ≡ true
 IsTextColumn (Formatted n path clauses) = ⊥
-IsTextColumn (Existence n path on_error) = ⊥
+IsTextColumn (Existence n path _) = ⊥
 
 -- the columns of the table, and none without one
 abbrev pub columns_of : Option BoundTable → List BoundColumn
@@ -134,7 +134,7 @@ abbrev pub IsSoundColumn : Named → ℕ → BoundColumn → Type 0
 IsSoundColumn vars paths (Ordinality n) = n < paths
 IsSoundColumn vars paths (Regular n path clauses) = (n < paths) × (covers vars path ≡ true) × AreClauses clauses
 IsSoundColumn vars paths (Formatted n path clauses) = (n < paths) × (covers vars path ≡ true)
-IsSoundColumn vars paths (Existence n path on_error) = (n < paths) × (covers vars path ≡ true)
+IsSoundColumn vars paths (Existence n path _) = (n < paths) × (covers vars path ≡ true)
 
 pub record IsSoundTable (table : BoundTable) : Type 0 where
   pub covered : Each (λ path. covers table.vars path ≡ true) table.paths

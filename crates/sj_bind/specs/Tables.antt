@@ -35,7 +35,7 @@ abbrev mutual
   names_in (Ordinality name) = name ∷ []
   names_in (Regular column) = column.name ∷ []
   names_in (Formatted column) = column.name ∷ []
-  names_in (Existence name path on_error) = name ∷ []
+  names_in (Existence name path _) = name ∷ []
   names_in (Nested path name columns) = names_below columns
 
   pub names_below : {P : Type 0} → Columns P → List (List ℕ)
@@ -51,7 +51,7 @@ abbrev mutual
   path_names_in (Ordinality name) = []
   path_names_in (Regular column) = []
   path_names_in (Formatted column) = []
-  path_names_in (Existence name path on_error) = []
+  path_names_in (Existence name path _) = []
   path_names_in (Nested path name columns) = option_to_list name ++ path_names_below columns
 
   pub path_names_below : {P : Type 0} → Columns P → List (List ℕ)
@@ -91,7 +91,7 @@ abbrev mutual
   lacks_name_in (Ordinality name) = false
   lacks_name_in (Regular column) = false
   lacks_name_in (Formatted column) = false
-  lacks_name_in (Existence name path on_error) = false
+  lacks_name_in (Existence name path _) = false
   lacks_name_in (Nested path name columns) = is_none name || lacks_name_below columns
 
   pub lacks_name_below : {P : Type 0} → Columns P → Bool

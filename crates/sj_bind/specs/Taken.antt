@@ -12,7 +12,7 @@ abbrev mutual
   CanTakeIn (Ordinality name) = Unit {0}
   CanTakeIn (Regular c) = AreCastable c.ty c.on_empty c.on_error
   CanTakeIn (Formatted c) = Unit {0}
-  CanTakeIn (Existence name path on_error) = Unit {0}
+  CanTakeIn (Existence name path _) = Unit {0}
   CanTakeIn (Nested path name columns) = CanTake columns
 
   pub CanTake : Columns Path → Type 0
@@ -25,7 +25,7 @@ abbrev mutual
   taken_paths_in (Ordinality name) = []
   taken_paths_in (Regular column) = []
   taken_paths_in (Formatted column) = []
-  taken_paths_in (Existence name path on_error) = []
+  taken_paths_in (Existence name path _) = []
   taken_paths_in (Nested path name columns) = path ∷ taken_paths columns
 
   pub taken_paths : Columns Path → List Path

@@ -28,5 +28,5 @@ abbrev pub column_misses : List (List ℕ) → ColumnOf Path → Bool
 column_misses known (Ordinality name) = false
 column_misses known (Regular c) = misses known c.path
 column_misses known (Formatted c) = misses known c.path
-column_misses known (Existence name path on_error) = misses known path
+column_misses known (Existence name path _) = misses known path
 column_misses known (Nested path name columns) = false
