@@ -1,5 +1,5 @@
 -- The bounds of the types of whole numbers (ISO/IEC 9075-2, numeric types), which the item methods of their names share.
-use Rattle.std.specs.Prelude.{ℕ, ◌-◌, ◌^◌, ℤ, pos, neg_ℤ}
+use Rattle.std.specs.Prelude.{◌-◌, ◌^◌, ℤ, pos, neg_ℤ}
 
 abbrev pub integer_low : ℤ
 integer_low = neg_ℤ (pos (2 ^ 31))
