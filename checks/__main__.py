@@ -13,6 +13,7 @@ from checks.allocations import check_allocations
 from checks.command import check_command
 from checks.companions import check_companions
 from checks.damage import check_damage
+from checks.definitions import check_definitions
 from checks.edges import check_edges
 from checks.examples import check_examples
 from checks.guide import check_guide
@@ -41,6 +42,7 @@ def main():
     program = Program(given.program or BUILT)
     check_texts(tally, TOP)
     check_refusals(tally, TOP)
+    check_definitions(tally, TOP)
     if program.exists():
         check_examples(tally, program, TOP / "examples")
         check_guide(tally, program, TOP)

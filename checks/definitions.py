@@ -1,0 +1,215 @@
+"""What the contract of `run` rests on: the definitions that a reader has to believe, with their size: docs/DEFINITIONS.md.
+
+The page is made of the sources. It begins with the definitions that the contract of `run` names, and goes on with those
+that they name. Where a function has a law, it goes on with what the law says, and not with the way in which the function
+finds its value. This check says where the page differs, where there is more to believe than MOST_LINES, and where one of
+the modules is a view.
+
+usage, at the top of the repository: python3 -m checks.definitions > docs/DEFINITIONS.md
+"""
+import functools
+import re
+import sys
+from dataclasses import dataclass, field
+from pathlib import Path
+
+from checks.crates import listed as listed_crates
+
+PAGE = "docs/DEFINITIONS.md"
+MOST_LINES = 5000
+# Modules that say how the code holds, finds or reads a value, and not what a contract of `run` means.
+VIEWS = {"Building", "Cells", "Coding", "Filling", "Held", "Layouts", "Looks", "Machine", "Nodes", "Raw", "Reading", "Seen", "Sequel", "View"}
+IMPORT = re.compile(r"^[ \t]*(?:pub )?(?:ghost )?use Rattle\.(\w+)\.specs\.([\w.]+?)(?:\.\{([^}]*)\}| as (\w+))?;?$", re.M)
+# The first line of a definition, or of a block of several; and the name that a line within a block defines.
+WORDS = r"(?:(?:abbrev|unfoldable|pub|data|record) )*"
+TYPED = re.compile(rf"^\s*{WORDS}([^\s(){{}}:;,]+)(?: [({{][^:]*:[^:]*[)}}])* : ")
+RECORD = re.compile(r"^\s*(?:pub )?record\b")
+BEGINS = re.compile(rf"^(?:abbrev|unfoldable|pub|data|record|mutual|module)\b|{TYPED.pattern}")
+BESIDE = re.compile(r"^(?:use|mod|pub mod|infix[lr]?)\b")
+TOKEN = re.compile(r"[^\s(){},;]+")
+# The functions that have a law: where each is defined, and the call whose contract is the law.
+LAWS = {
+    ("sj_json/specs/Document.antt", "document"): ("sj_json/src/lib.rt", "one_document"),
+    ("sj_grammar/specs/Accepted.antt", "accepted_path"): ("sj_grammar/src/law.rt", "one_path"),
+    ("sj_json/specs/Numbers.antt", "number_of"): ("sj_value/src/law.rt", "one_number"),
+    ("sj_select/specs/Keys.antt", "has_unique_keys"): ("sj_select/src/law.rt", "unique_keys"),
+}
+INTRODUCTION = """# The definitions behind the contract of `run`
+
+A proof shows that the code does what its contract says. Whether the contract says what it should, a reader has to judge,
+and for that the definitions that it names have to be read. This page lists them with their lines, so that they can be
+counted. `checks/definitions.py` makes it of the sources, and fails where the page differs, where the sum grows past
+{most:,} lines, and where one of the modules is a view: one that says how the code holds or reads something, as the
+`Layouts` of a document or the `Machine` of the reader do. [PROOFS.md](PROOFS.md) has the definitions of each crate in
+words.
+
+The list begins with what the contract of `run` names (`crates/sqljson/src/run.rt`), and goes on with what these
+definitions name. Lines are counted with the comments above a definition, and without imports and empty lines. Types that
+are written in the code, such as the kinds of refusals, are not counted, and neither are the kit's own definitions, of
+lists and numbers.
+
+Four definitions are functions with a law. A reader has to believe what the law says, so the list goes on with that. The
+way in which such a function finds its value is [at the end](#ways-of-functions-that-have-a-law), and needs no belief.
+"""
+
+
+@dataclass
+class Module:
+    """A file of definitions: its text by the name that each part defines, and where the names that it uses are from."""
+
+    parts: dict = field(default_factory=dict)
+    named: dict = field(default_factory=dict)  # each name that is imported: the module, and its name there
+    called: dict = field(default_factory=dict)  # each module that is imported whole, by the name that it has here
+
+
+@dataclass
+class Rests:
+    """The definitions that were found, as (module, first line): its lines."""
+
+    crates: Path
+    found: dict = field(default_factory=dict)
+    told: set = field(default_factory=set)
+    ways: dict = field(default_factory=dict)
+
+    def follow(self, names, by_law=True):
+        left = list(names)
+        while left:
+            name = left.pop()
+            if name in self.told:
+                continue
+            self.told.add(name)
+            if by_law and name in LAWS:
+                left += self.cited(*LAWS[name])
+            elif part := self.module(name[0]).parts.get(name[1]):
+                start, lines = part
+                self.found[name[0], start] = len(lines)
+                left += self.used(self.module(name[0]), name[0], "\n".join(it for it in lines if not it.strip().startswith("--")))
+
+    def cited(self, file, call):
+        """The names that the contract of a public call uses."""
+        text = (self.crates / file).read_text(encoding="utf-8")
+        imports = Module()
+        self.read_imports(imports, text)
+        return self.used(imports, file, re.search(rf"^pub fn {call}\b.*?^\{{", text, re.M | re.S)[0])
+
+    def used(self, module, file, text):
+        names = []
+        for token in TOKEN.findall(text):
+            head, _, rest = token.partition(".")
+            for word in {token, head, f"◌{token}◌"}:
+                if word in module.parts:
+                    names.append((file, word))
+                elif word in module.named:
+                    names.append(module.named[word])
+            if head in module.called and rest:
+                names.append((module.called[head], rest.split(".")[0]))
+        return names
+
+    @functools.cache
+    def module(self, file):
+        it = Module()
+        text = (self.crates / file).read_text(encoding="utf-8")
+        self.read_imports(it, text)
+        for start, lines in blocks(text):
+            for name in defined(lines):
+                it.parts[name] = start, lines
+        return it
+
+    def read_imports(self, module, text):
+        for crate, path, some, alias in IMPORT.findall(text):
+            file = self.file(crate, path.split("."))
+            if file and some:
+                for it in some.split(","):
+                    there, _, here = it.strip().partition(" as ")
+                    module.named[here or there] = file, there
+            elif file:
+                module.called[alias or path.split(".")[-1]] = file
+
+    def file(self, crate, parts):
+        """The file of a module of definitions. The compiler makes those of the types of the code, which have none."""
+        name = f"{crate}/specs/{'/'.join(parts)}.antt"
+        return name if (self.crates / name).is_file() else None
+
+    def __hash__(self):
+        return id(self)
+
+
+def blocks(text):
+    """The definitions of a file with the comments above them, each with the number of its first line."""
+    found, above = [], []
+    for number, line in enumerate(text.splitlines(), 1):
+        if not line.strip():
+            above = []
+        elif line.startswith("--"):
+            above.append(line)
+        elif line[0].isspace():
+            if found and not BESIDE.match(line.strip()):
+                found[-1][1].append(line)
+        elif not BESIDE.match(line):
+            if found and not BEGINS.match(line):
+                found[-1][1].append(line)  # an equation
+            else:
+                found.append((number - len(above), [*above, line]))
+            above = []
+    return found
+
+
+def defined(lines):
+    """The names that a definition or a block of several defines, with the constructors of types. The members of a record are named by its type."""
+    names, record = set(), None
+    for line in lines:
+        indent = len(line) - len(line.lstrip())
+        if record is not None and indent > record:
+            continue
+        record = indent if RECORD.match(line) else None
+        if match := TYPED.match(line):
+            names.add(match[1])
+    return names
+
+
+def rests(top):
+    it = Rests(top / "crates")
+    it.follow(it.cited("sqljson/src/run.rt", "run"))
+    whole = Rests(top / "crates")
+    whole.follow(it.told & LAWS.keys(), by_law=False)
+    it.ways = {part: lines for part, lines in whole.found.items() if part not in it.found}
+    return it
+
+
+def page(top):
+    it = rests(top)
+    parts = [INTRODUCTION.format(most=MOST_LINES), f"Together: {summary(it.found)}.", "", table(top, it.found)]
+    parts += ["", "## Ways of functions that have a law", ""]
+    parts += [f"- `{name}`: the law is `{call}` in `crates/{file}`{';' if at < len(LAWS) else '.'}" for at, ((_, name), (file, call)) in enumerate(LAWS.items(), 1)]
+    parts += ["", f"How they find their values: {summary(it.ways)}.", "", table(top, it.ways)]
+    return "\n".join(parts) + "\n"
+
+
+def summary(found):
+    return f"{len(found):,} definitions with {sum(found.values()):,} lines in {len({file for file, _ in found})} modules"
+
+
+def table(top, found):
+    rows = ["| Crate | Modules, with the lines of what is needed of each | Lines |", "|---|---|---|"]
+    for crate in listed_crates(top):
+        mine = {}
+        for (file, _), lines in sorted(found.items()):
+            if file.startswith(f"{crate}/"):
+                module = file.split("/specs/")[1].removesuffix(".antt")
+                mine[module] = mine.get(module, 0) + lines
+        if mine:
+            rows.append(f"| {crate} | {', '.join(f'{module} {lines}' for module, lines in mine.items())} | {sum(mine.values()):,} |")
+    return "\n".join(rows)
+
+
+def check_definitions(tally, top):
+    it = rests(top)
+    lines, views = sum(it.found.values()), sorted({file for file, _ in it.found if Path(file).stem in VIEWS})
+    tally.check("views among the definitions to believe", ", ".join(views))
+    tally.check("the definitions to believe", None if lines <= MOST_LINES else f"they have {lines} lines, and {MOST_LINES} are the most")
+    differs = (top / PAGE).read_text(encoding="utf-8") != page(top)
+    tally.check(PAGE, f"it is not what the sources say: make it anew by `python3 -m checks.definitions > {PAGE}`" if differs else None)
+
+
+if __name__ == "__main__":
+    sys.stdout.write(page(Path(__file__).resolve().parent.parent))
