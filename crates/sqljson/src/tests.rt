@@ -131,14 +131,6 @@ fn run_on(alloc: Global, setup: &Setup<'_>) -> Result<Outcome, Fail> {
 /// A file, the input, and what is written.
 type Case = (&'static str, &'static str, &'static str);
 
-fn check_case(alloc: Global, setup: &Setup<'_>, out: &str) -> Result<(), Fail> {
-    let ran = run_on(alloc, setup)?;
-    if ran.status != Status::Done || ran.out.as_slice() != out.as_bytes() {
-        return Err(format!(in alloc; "{:?}: {:?}", ran.status, ran.out)?)?;
-    }
-    Ok(())
-}
-
 fn check_cases(alloc: Global, words: &[&str], cases: &[Case]) -> Result<(), Fail> {
     for (file, input, out) in cases {
         for cut in [0, 1] {
@@ -146,7 +138,13 @@ fn check_cases(alloc: Global, words: &[&str], cases: &[Case]) -> Result<(), Fail
                 words,
                 ..plain(file.as_bytes(), input.as_bytes(), cut)
             };
-            check_case(alloc, &setup, out)?;
+            let ran = run_on(alloc, &setup)?;
+            if ran.status != Status::Done || ran.out.as_slice() != out.as_bytes() {
+                return Err(format!(in alloc;
+                    "{file} on {input}: {:?}, {:?}",
+                    ran.status, ran.out
+                )?)?;
+            }
         }
     }
     Ok(())
