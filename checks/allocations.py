@@ -1,4 +1,5 @@
-"""Each allocation of a run failing in turn: the run says that memory ran out, and what it wrote is a beginning of its rows.
+"""Each allocation of a run failing in turn: the run says that memory ran out, and what it wrote is a beginning of its rows;
+or it can do without, and is as it was.
 
 The allocations that fail are those of the C library, which a small library in C stands before. It is made here, where a
 C compiler is installed; elsewhere this check is passed over.
@@ -107,6 +108,8 @@ class Run:
 
     def problem(self, ended, taken):
         rows = self.whole.output
+        if not difference(self.whole, ended):
+            return None  # it did without, as where a closed stream has no number to hold
         if not ended.output and not ended.note and ended.status == 6:
             return None  # it ran out before it could take its words
         gave_up = difference(Ended(6, ended.output, b"out of memory\n"), ended)
