@@ -198,7 +198,7 @@ def table(top, found):
                 module = file.split("/specs/")[1].removesuffix(".antt")
                 mine[module] = mine.get(module, 0) + lines
         if mine:
-            rows.append(f"| {crate} | {', '.join(f'{module} {lines}' for module, lines in mine.items())} | {sum(mine.values()):,} |")
+            rows.append(f"| {crate} | {', '.join(f'`{module}` {lines}' for module, lines in mine.items())} | {sum(mine.values()):,} |")
     return "\n".join(rows)
 
 
