@@ -1,6 +1,6 @@
 -- Powers of ten, and a test before a product.
-use Rattle.std.proofs.Common.{ℕ, ◌-◌, ◌*◌, ◌/◌, ◌^◌, ◌<◌, ◌≤◌, arith, lt_of_le_of_lt, lit<, mul-le-mul, div-lt_iff_lt-mul, le-div_iff_mul-le, le_refl}
-use Rattle.std.proofs.Math.Nat.{pow-le-pow_right, one-le-pow}
+use Rattle.std.proofs.Common.{◌≡◌, ℕ, zero, suc, List, [], ◌∷◌, slice_index_or, ap, sym, ◌∙◌, mul_assoc, mul-one, ◌-◌, ◌*◌, ◌/◌, ◌^◌, ◌<◌, ◌≤◌, arith, lt_of_le_of_lt, lit<, mul-le-mul, div-lt_iff_lt-mul, le-div_iff_mul-le, le_refl}
+use Rattle.std.proofs.Math.Nat.{pow-le-pow_right, one-le-pow, pow-succ'}
 
 pub power_pos : (k : ℕ) → 0 < 10 ^ k
 power_pos k = one-le-pow k 10 (lit< tt)
@@ -36,3 +36,17 @@ pub past_quotient : (m l p : ℕ) → 0 < p → (l - 1) / p < m → l ≤ m * p
 past_quotient m l p hp h =
     let k : l - 1 < m * p = (div-lt_iff_lt-mul {k = p} {x = l - 1} {y = m} hp).0 h in
     omega arith
+
+-- p and the next products with 10
+unfoldable pub products : ℕ → ℕ → List ℕ
+products p zero = []
+products p (suc n) = p ∷ products (p * 10) n
+
+pub product_at : (p n k : ℕ) → k < n → slice_index_or (products p n) k 0 ≡ p * 10 ^ k
+unfolding products
+product_at p zero k h = absurd (omega (arith, h))
+product_at p (suc n) zero h = sym (mul-one p)
+product_at p (suc n) (suc k) h = product_at (p * 10) n k (omega (arith, h)) ∙ mul_assoc p 10 (10 ^ k) ∙ ap (λ q. p * q) (sym (pow-succ' 10 k))
+
+pub power_at : (n k : ℕ) → k < n → slice_index_or (products 1 n) k 0 ≡ 10 ^ k
+power_at n k h = product_at 1 n k h ∙ omega arith

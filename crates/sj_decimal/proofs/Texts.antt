@@ -1,5 +1,5 @@
 -- The text of a decimal, and that it spells the decimal.
-use Rattle.std.proofs.Common.{◌≡◌, ℕ, zero, suc, ◌+◌, ◌-◌, ◌*◌, ◌/◌, ◌%◌, ◌^◌, ◌<◌, ◌≤◌, Bool, true, false, List, [], ◌∷◌, ◌++◌, length, decimal, refl, sym, ap, ap₂, ◌∙◌, arith, lit<, pow-suc, length-append, append_assoc, mod-lt, pow-add, div-le_self}
+use Rattle.std.proofs.Common.{◌≡◌, ℕ, zero, suc, ◌+◌, ◌-◌, ◌*◌, ◌/◌, ◌%◌, ◌^◌, ◌<◌, ◌≤◌, Bool, true, false, List, [], ◌∷◌, ◌++◌, length, decimal, refl, sym, ap, ap₂, ◌∙◌, arith, lit<, pow-suc, length-append, append_assoc, pow-add, div-le_self}
 use Rattle.std.specs.Fmt.{sign_text}
 use Rattle.std.proofs.lemmas.Fmt.{decimal_digit, decimal_step_wide, length-decimal-le_wide}
 use Rattle.std.proofs.lemmas.Nat.{mod-mul-add, div-mul-add, div_below}
@@ -54,16 +54,26 @@ last_digits-mod (suc k) n =
     ∙ sym (last_digits_more k n)
 
 -- what the code writes with a one before it
-pub digits_after_one : (k m p : ℕ) (text : List ℕ) → k ≤ 38 → p ≡ 10 ^ k → text ≡ decimal (p + m % p) → text ≡ 49 ∷ last_digits k m
-digits_after_one k m p text few power is =
-    let small : m % 10 ^ k < 10 ^ k = mod-lt m (power_pos k) in
-    is ∙ ap (λ (x : ℕ). decimal (x + m % x)) power
-    ∙ decimal_after_one k (m % 10 ^ k) (omega arith) small
-    ∙ ap (λ (xs : List ℕ). 49 ∷ xs) (last_digits-mod k m)
+pub digits_after_one : (k rest p : ℕ) (text : List ℕ) → k ≤ 38 → rest < 10 ^ k → p ≡ 10 ^ k → text ≡ decimal (p + rest) → text ≡ 49 ∷ last_digits k rest
+digits_after_one k rest p text few small power is =
+    is ∙ ap (λ (x : ℕ). decimal (x + rest)) power ∙ decimal_after_one k rest (omega arith) small
 
 pub decimals_text-positive : (s m : ℕ) → 0 < s → decimals_text s m ≡ 46 ∷ last_digits s m
 decimals_text-positive zero m h = absurd (omega arith)
 decimals_text-positive (suc s) m h = refl
+
+-- the decimals are those of the remainder
+pub decimals_text-mod : (s m : ℕ) → decimals_text s (m % 10 ^ s) ≡ decimals_text s m
+decimals_text-mod zero m = refl
+decimals_text-mod (suc s) m = ap (λ (xs : List ℕ). 46 ∷ xs) (last_digits-mod (suc s) m)
+
+-- the whole part and the decimals, by the quotient and the rest of the division that the code makes
+pub whole_written : (m p s whole : ℕ) (text : List ℕ) → p ≡ 10 ^ s → whole ≡ m / p → text ≡ decimal whole → text ≡ decimal (m / 10 ^ s)
+whole_written m p s whole text power quotient is = is ∙ ap decimal (quotient ∙ ap (λ (x : ℕ). m / x) power)
+
+pub decimals_written : (m p s rest : ℕ) → p ≡ 10 ^ s → rest ≡ m % p → decimals_text s rest ≡ decimals_text s m
+decimals_written m p s rest power remainder =
+    ap (decimals_text s) (remainder ∙ ap (λ (x : ℕ). m % x) power) ∙ decimals_text-mod s m
 
 pub length-decimals_text : (s m : ℕ) → length (decimals_text s m) ≤ s + 1
 length-decimals_text zero m = omega arith

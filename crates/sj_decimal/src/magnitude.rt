@@ -1,5 +1,5 @@
 //! Whole numbers without a sign.
-ghost use Rattle.std.specs.Prelude.{◌≡◌, ◌*◌, ◌^◌, ◌<◌, ◌≤◌};
+ghost use Rattle.std.specs.Prelude.{◌≡◌, ◌*◌, ◌/◌, ◌%◌, ◌^◌, ◌<◌, ◌≤◌};
 ghost use Rattle.std.specs.Option.{SomeIff};
 ghost use Rattle.sj_decimal.specs.Normal.{reduced};
 
@@ -54,6 +54,30 @@ fn reduce_long(magnitude: u128, scale: u32) -> (u128, u32)
     (long, places)
 }
 
+/// The powers of ten of 64 bits.
+const SHORT_POWERS: [u64; 20] = [
+    1,
+    10,
+    100,
+    1_000,
+    10_000,
+    100_000,
+    1_000_000,
+    10_000_000,
+    100_000_000,
+    1_000_000_000,
+    10_000_000_000,
+    100_000_000_000,
+    1_000_000_000_000,
+    10_000_000_000_000,
+    100_000_000_000_000,
+    1_000_000_000_000_000,
+    10_000_000_000_000_000,
+    100_000_000_000_000_000,
+    1_000_000_000_000_000_000,
+    10_000_000_000_000_000_000,
+];
+
 /// `10^places`.
 pub(crate) fn power_of_ten(places: u32) -> u128
     requires { places ≤ 38 }
@@ -61,7 +85,32 @@ pub(crate) fn power_of_ten(places: u32) -> u128
     ensures positive { 0 < result }
     ensures bound { result ≤ 10 ^ 38 }
 {
+    if places < 20 {
+        return short_power(places) as u128;
+    }
     10u128.pow(places)
+}
+
+/// `10^places`, which has 64 bits.
+fn short_power(places: u32) -> u64
+    requires { places < 20 }
+    ensures { result ≡ 10 ^ places }
+{
+    SHORT_POWERS[places as usize]
+}
+
+/// The quotient and the remainder. Most numbers fit 64 bits, where one division gives both without a call.
+pub(crate) fn divided(magnitude: u128, divisor: u128) -> (u128, u128)
+    requires { 0 < divisor }
+    ensures quotient { result.0 ≡ magnitude / divisor }
+    ensures rest { result.1 ≡ magnitude % divisor }
+{
+    let longest = u64::MAX as u128;
+    if magnitude > longest || divisor > longest {
+        return (magnitude / divisor, magnitude % divisor);
+    }
+    let (short, by) = (magnitude as u64, divisor as u64);
+    ((short / by) as u128, (short % by) as u128)
 }
 
 /// `magnitude * 10^places`, where that is below the limit.

@@ -8,7 +8,7 @@ ghost use Rattle.sj_decimal.specs.Magnitudes.{quotient_toward};
 
 use crate::arithmetic::NumFault;
 use crate::decimal::Decimal;
-use crate::magnitude::{power_of_ten, scaled};
+use crate::magnitude::{divided, power_of_ten, scaled};
 
 impl Decimal {
     /// The greatest whole number that is not above this one (ISO/IEC 9075-2, 6.30, numeric value function).
@@ -45,7 +45,8 @@ impl Decimal {
     pub fn to_whole(self) -> i128
         ensures { result ≡ whole_of self }
     {
-        let magnitude = (self.magnitude / power_of_ten(self.scale)) as i128;
+        let (whole, _) = divided(self.magnitude, power_of_ten(self.scale));
+        let magnitude = whole as i128;
         if self.negative { -magnitude } else { magnitude }
     }
 
@@ -81,13 +82,8 @@ fn whole_magnitude(magnitude: u128, scale: u32, away: bool) -> u128
     ensures value { result ≡ quotient_toward away magnitude (10 ^ scale) }
     ensures bound { result ≤ magnitude }
 {
-    let power = power_of_ten(scale);
-    let whole = magnitude / power;
-    if away && magnitude % power != 0 {
-        whole + 1
-    } else {
-        whole
-    }
+    let (whole, rest) = divided(magnitude, power_of_ten(scale));
+    if away && rest != 0 { whole + 1 } else { whole }
 }
 
 /// `magnitude / 10^scale * 10^places` rounded half up, where that is below the limit.
@@ -100,8 +96,7 @@ fn rounded_magnitude(magnitude: u128, scale: u32, places: u32) -> Option<u128>
         return scaled(magnitude, places - scale);
     }
     let power = power_of_ten(scale - places);
-    let whole = magnitude / power;
-    let rest = magnitude % power;
+    let (whole, rest) = divided(magnitude, power);
     Some(if rest >= power - rest {
         whole + 1
     } else {

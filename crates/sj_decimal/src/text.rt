@@ -8,7 +8,7 @@ ghost use Rattle.sj_decimal.specs.Text.{decimal_text, decimals_text, with_places
 ghost use Rattle.arrayvec.specs.ArrayString.{array_string_len};
 
 use crate::decimal::Decimal;
-use crate::magnitude::power_of_ten;
+use crate::magnitude::{divided, power_of_ten};
 use arrayvec::ArrayString;
 use itoa::Buffer;
 use std::fmt;
@@ -66,24 +66,27 @@ fn written(negative: bool, magnitude: u128, scale: u32) -> ArrayString<48>
     ensures { result.bytes ≡ sign_text negative ++ (decimal (magnitude / 10 ^ scale) ++ decimals_text scale magnitude) }
 {
     let mut text = sign(negative);
-    text.push_str(Buffer::new().format(magnitude / power_of_ten(scale)));
-    push_decimals(&mut text, magnitude, scale);
+    if scale == 0 {
+        text.push_str(Buffer::new().format(magnitude));
+        return text;
+    }
+    let (whole, rest) = divided(magnitude, power_of_ten(scale));
+    text.push_str(Buffer::new().format(whole));
+    push_decimals(&mut text, rest, scale);
     text
 }
 
-/// Appends a point and the last `scale` digits of `magnitude`, where `scale` is not 0.
-fn push_decimals(text: &mut ArrayString<48>, magnitude: u128, scale: u32)
+/// Appends a point and so many decimals, whose number is `rest`.
+fn push_decimals(text: &mut ArrayString<48>, rest: u128, scale: u32)
+    requires some { 0 < scale }
     requires scale { scale ≤ 38 }
-    requires room { array_string_len text.old + length (decimals_text scale magnitude) ≤ 48 }
-    ensures { text.new.bytes ≡ text.old.bytes ++ decimals_text scale magnitude }
+    requires rest { rest < 10 ^ scale }
+    requires room { array_string_len text.old + length (decimals_text scale rest) ≤ 48 }
+    ensures { text.new.bytes ≡ text.old.bytes ++ decimals_text scale rest }
 {
-    if scale == 0 {
-        return;
-    }
     text.push('.');
     // A one before the decimals keeps their zeros.
-    let power = power_of_ten(scale);
     let mut buffer = Buffer::new();
-    let digits = buffer.format(power + magnitude % power);
+    let digits = buffer.format(power_of_ten(scale) + rest);
     text.push_str(&digits[1..]);
 }
