@@ -2,8 +2,9 @@
 use Rattle.std.specs.Prelude.{ℕ, suc, ◌^◌, Bool, ◌&&◌, ◌==◌, nat_lt, nat_le, ℤ, pos, unsigned_abs, List, [], ◌∷◌, ◌++◌, length, Option, Some, None, if◌then◌else◌}
 use Rattle.std.specs.List.{take_while}
 use Rattle.std.specs.Str.Parse.{digits_value}
+use Rattle.std.specs.Char.{is_ascii_digit}
+use Rattle.sj_base.specs.ByteClasses.{next_is_digit}
 use Rattle.sj_decimal.specs.Normal.{normal}
-use Rattle.sj_sql_token.specs.Bytes.{is_digit, next_is_digit}
 
 -- a number is exact where it has at most 38 digits and at most 38 decimals, without zeros at their ends
 abbrev pub is_exact : ℤ × ℕ → Bool
@@ -25,7 +26,7 @@ pointed (b ∷ bs) = 46 ∷ b ∷ bs
 -- the digits behind a point, if they stand at the front
 abbrev pub fraction_of : List ℕ → List ℕ
 fraction_of [] = []
-fraction_of (b ∷ bs) = if b == 46 && next_is_digit bs then take_while is_digit bs else []
+fraction_of (b ∷ bs) = if b == 46 && next_is_digit bs then take_while is_ascii_digit bs else []
 
 -- how many bytes they have with the point
 abbrev pub fraction_len : List ℕ → ℕ

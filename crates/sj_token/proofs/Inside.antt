@@ -1,11 +1,12 @@
 -- What is read behind a quotation mark is the inside of a string, and each inside is read.
 use Rattle.std.proofs.Common.{◌≡◌, ℕ, zero, suc, ◌+◌, ◌≤◌, Bool, true, false, cond, List, [], ◌∷◌, ◌++◌, length, take, drop, Option, Some, None, refl, sym, ap, subst, ◌∙◌, arith, append_assoc, length-append, length-drop, take-add, drop_at, eqb-true, encode_utf8, ◌==◌, ◌&&◌}
-use Rattle.sj_token.specs.Bytes.{is_plain}
+use Rattle.sj_base.specs.ByteClasses.{is_plain, next_is}
+use Rattle.sj_base.specs.Options.{◌>>=◌}
 use Rattle.sj_token.specs.Words as w
 use Rattle.sj_token.specs.Words.{AllPass}
 use Rattle.sj_token.specs.Strings as s
-use Rattle.sj_token.specs.Strings.{◌>>=◌, IsEscape, IsInside, unit_of, is_high, is_low, paired, short_escape}
-use Rattle.sj_token.specs.Reading.{next_is, run, unit_at, low_at, character_at, escape_at, behind_run, behind, inside_from}
+use Rattle.sj_token.specs.Strings.{IsEscape, IsInside, unit_of, is_high, is_low, paired, short_escape}
+use Rattle.sj_token.specs.Reading.{run, unit_at, low_at, character_at, escape_at, behind_run, behind, inside_from}
 use Rattle.sj_token.proofs.Runs.{run_within, run_passes}
 use Rattle.sj_token.proofs.Cuts.{IfCut, nothing, here, then, given, chosen, some_is, bind_is, cond_on, cond_off}
 

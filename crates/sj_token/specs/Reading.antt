@@ -1,19 +1,16 @@
 -- Reading tokens from left to right, as functions. A number of bytes stands beside what was read.
 use Rattle.std.specs.Prelude.{ℕ, zero, suc, ◌+◌, Bool, false, ◌&&◌, ◌||◌, ◌==◌, ◌^◌, nat_lt, nat_le, ℤ, unsigned_abs, List, [], ◌∷◌, ◌++◌, length, take, drop, Option, Some, None, if◌then◌else◌, encode_utf8}
+use Rattle.std.specs.Char.{is_ascii_digit}
+use Rattle.sj_base.specs.ByteClasses.{is_blank, is_letter, is_word_byte, is_plain, next_is, next_is_digit}
+use Rattle.sj_base.specs.Options.{◌>>=◌}
 use Rattle.sj_decimal.specs.declared.comparing.Compare.TheVariants as c
 use Rattle.sj_token.specs.declared.token.Token.{Token}
 use Rattle.sj_token.specs.declared.token.Token.TheVariants as k
-use Rattle.sj_token.specs.Bytes.{is_blank, is_letter, is_digit, is_word_byte, is_plain}
 use Rattle.sj_token.specs.Words.{keyword_of}
-use Rattle.sj_token.specs.Strings.{◌>>=◌, short_escape, unit_of, is_high, is_low, paired}
+use Rattle.sj_token.specs.Strings.{short_escape, unit_of, is_high, is_low, paired}
 use Rattle.sj_decimal.specs.Normal.{normal}
 use Rattle.sj_decimal.specs.Number.{value_of}
 use Rattle.sj_decimal.specs.Reading.{read_parts}
-
--- the text goes on with this byte
-abbrev pub next_is : ℕ → List ℕ → Bool
-next_is b [] = false
-next_is b (d ∷ bs) = d == b
 
 abbrev pub next_is_letter : List ℕ → Bool
 next_is_letter [] = false
@@ -102,23 +99,19 @@ inside_from (suc n) bs = behind_run (inside_from n) (drop (run is_plain bs) bs) 
 
 -- ---- numbers
 
-abbrev pub next_is_digit : List ℕ → Bool
-next_is_digit [] = false
-next_is_digit (d ∷ bs) = is_digit d
-
 -- how many bytes the longest number at the front has, part by part
 abbrev pub whole_len : List ℕ → ℕ
-whole_len bs = if next_is 48 bs then 1 else run is_digit bs
+whole_len bs = if next_is 48 bs then 1 else run is_ascii_digit bs
 
 abbrev pub fraction_len : List ℕ → ℕ
 fraction_len [] = 0
-fraction_len (b ∷ bs) = if b == 46 && next_is_digit bs then run is_digit bs + 1 else 0
+fraction_len (b ∷ bs) = if b == 46 && next_is_digit bs then run is_ascii_digit bs + 1 else 0
 
 abbrev pub sign_len : List ℕ → ℕ
 sign_len bs = if next_is 43 bs || next_is 45 bs then 1 else 0
 
 abbrev pub digits_len : ℕ → List ℕ → ℕ
-digits_len before bs = if next_is_digit bs then before + run is_digit bs else 0
+digits_len before bs = if next_is_digit bs then before + run is_ascii_digit bs else 0
 
 abbrev pub exponent_len : List ℕ → ℕ
 exponent_len [] = 0
@@ -169,7 +162,7 @@ whole s = Some (Some s.0, s.1)
 unfoldable pub form_from : ℕ → List ℕ → Option (Option Token × ℕ)
 form_from b bs =
     if is_letter b then word_at (b ∷ bs)
-    else (if is_digit b then number_at (b ∷ bs)
+    else (if is_ascii_digit b then number_at (b ∷ bs)
     else (if b == 34 then string_at bs
     else (if b == 36 then dollar_at bs
     else (sign_at b bs >>= whole))))

@@ -1,11 +1,8 @@
 -- Strings of RFC 8259 without a lone surrogate, and what they stand for in UTF-8.
 use Rattle.std.specs.Prelude.{◌≡◌, ℕ, ◌+◌, ◌-◌, ◌*◌, Bool, true, false, ◌&&◌, ◌==◌, nat_le, List, [], ◌∷◌, ◌++◌, Option, Some, None, if◌then◌else◌, encode_utf8}
-use Rattle.sj_token.specs.Bytes.{is_digit, is_plain}
-
-infixl 10 ◌>>=◌
-abbrev pub ◌>>=◌ : {A B : Type 0} → Option A → (A → Option B) → Option B
-None >>= f = None
-(Some x) >>= f = f x
+use Rattle.std.specs.Char.{is_ascii_digit}
+use Rattle.sj_base.specs.ByteClasses.{is_plain}
+use Rattle.sj_base.specs.Options.{◌>>=◌}
 
 -- the character that a letter or a sign stands for behind a backslash
 abbrev pub short_escape : ℕ → Option ℕ
@@ -22,7 +19,7 @@ short_escape e =
 
 abbrev pub hex_digit : ℕ → Option ℕ
 hex_digit b =
-    if is_digit b then Some (b - 48)
+    if is_ascii_digit b then Some (b - 48)
     else (if nat_le 65 b && nat_le b 70 then Some (b - 55)
     else (if nat_le 97 b && nat_le b 102 then Some (b - 87)
     else None))

@@ -5,7 +5,7 @@ ghost use Rattle.sj_token.specs.Strings as spec;
 ghost use Rattle.sj_token.specs.Reading as reading;
 ghost use Rattle.sj_token.specs.Gives.{Gives};
 
-use crate::bytes::{is_digit, plain_len};
+use crate::bytes::plain_len;
 use crate::error::LexError;
 use sj_base::Text;
 use std::alloc::Global;
@@ -31,7 +31,7 @@ fn hex_digit(b: u8) -> Option<u32>
     ensures value { result ≡ spec.hex_digit b }
     ensures bound { IfSome result (λ n. n < 16) }
 {
-    if is_digit(b) {
+    if b.is_ascii_digit() {
         Some(u32::from(b - b'0'))
     } else if b'A' <= b && b <= b'F' {
         Some(u32::from(b - b'A') + 10)
