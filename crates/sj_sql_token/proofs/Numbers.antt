@@ -13,37 +13,15 @@ use Rattle.sj_decimal.specs.Normal.{normal, IsExact}
 use Rattle.sj_decimal.specs.Number.{NumberParts, IsWhole, IsFraction, IsNumberOf, value_of as value_of_parts, shifted}
 use Rattle.sj_decimal.proofs.Digits.{digit_passed}
 use Rattle.sj_decimal.proofs.Readings.{read_parts_full}
-use Rattle.sj_decimal.proofs.NormalForm.{exact_from_limits, limits_from_exact}
+use Rattle.sj_decimal.proofs.Exactness.{exact_true, exact_false}
 use Rattle.sj_sql_token.specs.declared.piece.Piece.TheVariants as p
 use Rattle.sj_sql_token.specs.declared.token.Token.TheVariants as k
-use Rattle.sj_sql_token.specs.Numbers.{is_exact, value_of, exact_of, pointed, fraction_of, fraction_len}
+use Rattle.sj_sql_token.specs.Numbers.{value_of, exact_of, pointed, fraction_of, fraction_len}
 use Rattle.sj_sql_token.specs.Tokens.{number_piece, number_at}
 use Rattle.sj_sql_token.proofs.Quotes.{slice_from}
 
 some_is : {A : Type 0} {a b : A} → Some a ≡ Some b → a ≡ b
 some_is e = cc
-
--- ---- exact numbers
-
-exact_true : (v : ℤ × ℕ) → IsExact v → is_exact v ≡ true
-exact_true v h =
-    let l = limits_from_exact v h in
-    ap (λ a. a && nat_le (normal v).1 38) (lt-ltb (unsigned_abs (normal v).0) (10 ^ 38) l.coefficient) ∙ le-leb (normal v).1 38 l.scale
-
-exact_is : (v : ℤ × ℕ) → is_exact v ≡ true → IsExact v
-exact_is v h = go (nat_lt (unsigned_abs (normal v).0) (10 ^ 38)) (nat_le (normal v).1 38) refl refl h
-  where
-    go : (a b : Bool) → nat_lt (unsigned_abs (normal v).0) (10 ^ 38) ≡ a → nat_le (normal v).1 38 ≡ b → (a && b) ≡ true → IsExact v
-    go true true p q _ = exact_from_limits v (record { coefficient = ltb-true _ _ p; scale = leb-true _ _ q })
-    go true false p q x = absurd cc
-    go false b p q x = absurd cc
-
-exact_false : (v : ℤ × ℕ) → (IsExact v → ⊥) → is_exact v ≡ false
-exact_false v h = go (is_exact v) refl
-  where
-    go : (b : Bool) → is_exact v ≡ b → is_exact v ≡ false
-    go true e = absurd (h (exact_is v e))
-    go false e = e
 
 -- ---- zeros at the front
 

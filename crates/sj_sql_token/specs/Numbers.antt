@@ -5,10 +5,7 @@ use Rattle.std.specs.Str.Parse.{digits_value}
 use Rattle.std.specs.Char.{is_ascii_digit}
 use Rattle.sj_base.specs.ByteClasses.{next_is_digit}
 use Rattle.sj_decimal.specs.Normal.{normal}
-
--- a number is exact where it has at most 38 digits and at most 38 decimals, without zeros at their ends
-abbrev pub is_exact : ℤ × ℕ → Bool
-is_exact v = nat_lt (unsigned_abs (normal v).0) (10 ^ 38) && nat_le (normal v).1 38
+use Rattle.sj_decimal.specs.Exact.{is_exact}
 
 -- the number that digits before and behind a point stand for
 abbrev pub value_of : List ℕ → List ℕ → ℤ × ℕ

@@ -5,44 +5,23 @@ use Rattle.std.specs.Char.{is_ascii_digit}
 use Rattle.sj_base.specs.ByteClasses.{is_letter, next_is, next_is_digit}
 use Rattle.sj_base.specs.Options.{◌>>=◌}
 use Rattle.sj_decimal.specs.Normal.{normal, IsExact}
+use Rattle.sj_decimal.specs.Exact.{is_exact}
 use Rattle.sj_decimal.specs.Number.{NumberParts, IsWhole, IsFraction, IsExponentSign, IsWrittenExponent, IsExponent, IsNumberOf, value_of, SpellsNumber, IsNumber, SpellsExact, SpellsWide}
 use Rattle.sj_decimal.specs.Reading.{read_parts}
 use Rattle.sj_decimal.proofs.Digits.{digit_passes, digit_passed}
 use Rattle.sj_decimal.proofs.Readings.{read_parts_full, read_parts_sound}
-use Rattle.sj_decimal.proofs.NormalForm.{exact_from_limits, limits_from_exact}
+use Rattle.sj_decimal.proofs.Exactness.{exact_is, exact_true, exact_false}
 use Rattle.sj_token.specs.declared.token.Token.{Token}
 use Rattle.sj_token.specs.declared.token.Token.TheVariants as k
 use Rattle.sj_token.specs.Words as w
 use Rattle.sj_token.specs.Words.{AllPass}
 use Rattle.sj_token.specs.Numbers as n
 use Rattle.sj_token.specs.Numbers.{NoMinus, IsNumeral}
-use Rattle.sj_token.specs.Reading.{run, whole_len, fraction_len, sign_len, digits_len, exponent_len, rest_len, number_len, is_exact, exact_number, number_token, number_at, exact, exactly}
+use Rattle.sj_token.specs.Reading.{run, whole_len, fraction_len, sign_len, digits_len, exponent_len, rest_len, number_len, exact_number, number_token, number_at, exact, exactly}
 use Rattle.sj_token.proofs.Runs.{run_within, run_passes, run_longer}
 use Rattle.sj_token.proofs.Cuts.{IfCut, here, cond_on, cond_off}
 
 -- ---- what a number stands for
-
-exact_is : (v : ℤ × ℕ) → is_exact v ≡ true → IsExact v
-unfolding is_exact
-exact_is v h = go (nat_lt (unsigned_abs (normal v).0) (10 ^ 38)) (nat_le (normal v).1 38) refl refl h
-  where
-    go : (a b : Bool) → nat_lt (unsigned_abs (normal v).0) (10 ^ 38) ≡ a → nat_le (normal v).1 38 ≡ b → (a && b) ≡ true → IsExact v
-    go true true p q _ = exact_from_limits v (record { coefficient = ltb-true _ _ p; scale = leb-true _ _ q })
-    go true false p q x = absurd cc
-    go false b p q x = absurd cc
-
-is_exact_true : (v : ℤ × ℕ) → IsExact v → is_exact v ≡ true
-unfolding is_exact
-is_exact_true v h =
-    let l = limits_from_exact v h in
-    ap (λ a. a && nat_le (normal v).1 38) (lt-ltb (unsigned_abs (normal v).0) (10 ^ 38) l.coefficient) ∙ le-leb (normal v).1 38 l.scale
-
-is_exact_false : (v : ℤ × ℕ) → (IsExact v → ⊥) → is_exact v ≡ false
-is_exact_false v h = go (is_exact v) refl
-  where
-    go : (b : Bool) → is_exact v ≡ b → is_exact v ≡ false
-    go true e = absurd (h (exact_is v e))
-    go false e = e
 
 token_of : (digits : List ℕ) (v : ℤ × ℕ) → SpellsNumber digits v → number_token digits ≡ exact_number v
 unfolding number_token
@@ -51,10 +30,10 @@ token_of digits v s =
 
 pub token_exact : (digits : List ℕ) (d : ℤ × ℕ) → SpellsExact digits d → number_token digits ≡ Some (k.Number d)
 token_exact digits d s =
-    token_of digits s.value s.spells ∙ cond_on (is_exact s.value) _ _ (is_exact_true s.value s.exact) (ap (λ x. Some (k.Number x)) (sym s.normal_form))
+    token_of digits s.value s.spells ∙ cond_on (is_exact s.value) _ _ (exact_true s.value s.exact) (ap (λ x. Some (k.Number x)) (sym s.normal_form))
 
 pub token_wide : (digits : List ℕ) → SpellsWide digits → number_token digits ≡ None
-token_wide digits s = token_of digits s.value s.spells ∙ cond_off (is_exact s.value) _ _ (is_exact_false s.value s.wide) refl
+token_wide digits s = token_of digits s.value s.spells ∙ cond_off (is_exact s.value) _ _ (exact_false s.value s.wide) refl
 
 -- a number has the token that it stands for
 token_sound : (digits : List ℕ) (v : ℤ × ℕ) → NoMinus digits → SpellsNumber digits v → IsNumeral digits (number_token digits)
@@ -65,7 +44,7 @@ token_sound digits v m s = go (is_exact v) refl
 
     go : (b : Bool) → is_exact v ≡ b → IsNumeral digits (number_token digits)
     go true e = subst (IsNumeral digits) (sym (token_of digits v s ∙ cond_on (is_exact v) _ _ e refl)) (n.exact m (record { value = v; spells = s; exact = exact_is v e; normal_form = refl }))
-    go false e = subst (IsNumeral digits) (sym (token_of digits v s ∙ cond_off (is_exact v) _ _ e refl)) (n.inexact m (record { value = v; spells = s; wide = λ x. absurd (apart (sym e ∙ is_exact_true v x)) }))
+    go false e = subst (IsNumeral digits) (sym (token_of digits v s ∙ cond_off (is_exact v) _ _ e refl)) (n.inexact m (record { value = v; spells = s; wide = λ x. absurd (apart (sym e ∙ exact_true v x)) }))
 
 -- ---- digits
 

@@ -9,6 +9,7 @@ use Rattle.sj_token.specs.declared.token.Token.TheVariants as k
 use Rattle.sj_token.specs.Words.{keyword_of}
 use Rattle.sj_token.specs.Strings.{short_escape, unit_of, is_high, is_low, paired}
 use Rattle.sj_decimal.specs.Normal.{normal}
+use Rattle.sj_decimal.specs.Exact.{is_exact}
 use Rattle.sj_decimal.specs.Number.{value_of}
 use Rattle.sj_decimal.specs.Reading.{read_parts}
 
@@ -123,10 +124,6 @@ rest_len bs = fraction_len bs + exponent_len (drop (fraction_len bs) bs)
 
 unfoldable pub number_len : List ℕ → ℕ
 number_len bs = whole_len bs + rest_len (drop (whole_len bs) bs)
-
--- a number has at most 38 digits and at most 38 decimals
-unfoldable pub is_exact : ℤ × ℕ → Bool
-is_exact v = nat_lt (unsigned_abs (normal v).0) (10 ^ 38) && nat_le (normal v).1 38
 
 abbrev pub exact_number : ℤ × ℕ → Option Token
 exact_number v = if is_exact v then Some (k.Number (normal v)) else None
