@@ -36,6 +36,24 @@ pub fn is_plain(byte: u8) -> bool
     byte != b'"' && byte != b'\\' && byte >= b' '
 }
 
+/// The character of an escape of one letter, behind its backslash (RFC 8259, section 7).
+#[inline]
+pub fn letter_char(letter: u8) -> Option<char>
+    ensures { result ≡ spec.letter_char letter }
+{
+    match letter {
+        b'"' => Some('"'),
+        b'\\' => Some('\\'),
+        b'/' => Some('/'),
+        b'b' => Some('\u{8}'),
+        b'f' => Some('\u{c}'),
+        b'n' => Some('\n'),
+        b'r' => Some('\r'),
+        b't' => Some('\t'),
+        _ => None,
+    }
+}
+
 /// Whether this byte stands at the front.
 pub fn next_is(byte: u8, bytes: &[u8]) -> bool
     ensures { result ≡ spec.next_is byte bytes.now }

@@ -6,7 +6,7 @@ use Rattle.std.proofs.lemmas.Str.{IsCharBoundary-after_ascii}
 use Rattle.std.specs.Char.{digit_value, is_ascii_digit}
 use Rattle.std.specs.Fmt.{sign_text}
 use Rattle.std.specs.Str.Parse.{AllDigits, IsNumeral as IsDigits}
-use Rattle.sj_base.specs.ByteClasses.{is_blank, is_word_byte, is_plain}
+use Rattle.sj_base.specs.ByteClasses.{is_blank, is_word_byte, is_plain, letter_char}
 use Rattle.sj_base.specs.Options.{◌>>=◌}
 use Rattle.sj_decimal.specs.Number.{NumberParts, IsFraction, IsExponent, IsNumberOf}
 use Rattle.sj_decimal.proofs.Digits.{digit_byte}
@@ -21,7 +21,7 @@ use Rattle.sj_token.specs.Numbers.{IsNumeral}
 use Rattle.sj_token.specs.Tokens as t
 use Rattle.sj_token.specs.Tokens.{IsSign, IsForm, HasTokens}
 use Rattle.sj_token.specs.Strings as s
-use Rattle.sj_token.specs.Strings.{IsEscape, IsInside, hex_digit, unit_of, short_escape}
+use Rattle.sj_token.specs.Strings.{IsEscape, IsInside, hex_digit, unit_of}
 use Rattle.sj_token.specs.Reading.{run, escape_at, behind_run, behind, inside_from, form_from, form_at, exactly, token_at, lex_from}
 use Rattle.sj_token.proofs.Runs.{run_within, run_stops, run_boundary}
 use Rattle.sj_token.proofs.Cuts.{bind_is, bind_none, cond_on, cond_off}
@@ -88,13 +88,13 @@ nat_gt a b h = go (nat_le a b) refl
     go true q = absurd (omega (arith, leb-true a b q))
     go false q = q
 
-short_ascii : (e c : ℕ) → short_escape e ≡ Some c → e < 128
+short_ascii : (e c : ℕ) → letter_char e ≡ Some c → e < 128
 short_ascii e c h = go (nat_le 128 e) refl
   where
     other : (d : ℕ) → d < 128 → 128 ≤ e → (e == d) ≡ false
     other d below above = ne_eqb e d (λ q. absurd (omega arith))
 
-    none : 128 ≤ e → short_escape e ≡ None
+    none : 128 ≤ e → letter_char e ≡ None
     none above =
         cond_off (e == 34) _ _ (other 34 (omega arith) above) (cond_off (e == 92) _ _ (other 92 (omega arith) above) (cond_off (e == 47) _ _ (other 47 (omega arith) above)
         (cond_off (e == 98) _ _ (other 98 (omega arith) above) (cond_off (e == 102) _ _ (other 102 (omega arith) above) (cond_off (e == 110) _ _ (other 110 (omega arith) above)

@@ -1,13 +1,14 @@
 -- Reading tokens from left to right, as functions. A number of bytes stands beside what was read.
 use Rattle.std.specs.Prelude.{ℕ, zero, suc, ◌+◌, Bool, false, ◌&&◌, ◌||◌, ◌==◌, ◌^◌, nat_lt, nat_le, ℤ, unsigned_abs, List, [], ◌∷◌, ◌++◌, length, take, drop, Option, Some, None, if◌then◌else◌, encode_utf8}
 use Rattle.std.specs.Char.{is_ascii_digit}
-use Rattle.sj_base.specs.ByteClasses.{is_blank, is_letter, is_word_byte, is_plain, next_is, next_is_digit}
+use Rattle.std.specs.Char.Utf16.{is_high_surrogate, is_low_surrogate, surrogate_pair_char}
+use Rattle.sj_base.specs.ByteClasses.{is_blank, is_letter, is_word_byte, is_plain, next_is, next_is_digit, letter_char}
 use Rattle.sj_base.specs.Options.{◌>>=◌}
 use Rattle.sj_decimal.specs.declared.comparing.Compare.TheVariants as c
 use Rattle.sj_token.specs.declared.token.Token.{Token}
 use Rattle.sj_token.specs.declared.token.Token.TheVariants as k
 use Rattle.sj_token.specs.Words.{keyword_of}
-use Rattle.sj_token.specs.Strings.{short_escape, unit_of, is_high, is_low, paired}
+use Rattle.sj_token.specs.Strings.{unit_of}
 use Rattle.sj_decimal.specs.Normal.{normal}
 use Rattle.sj_decimal.specs.Exact.{is_exact}
 use Rattle.sj_decimal.specs.Number.{value_of}
@@ -68,19 +69,19 @@ unit_at _ = None
 
 -- the second half of a pair of surrogates
 abbrev pub low_at : List ℕ → Option ℕ
-low_at (x ∷ y ∷ bs) = if x == 92 && y == 117 then (unit_at bs >>= λ low. if is_low low then Some low else None) else None
+low_at (x ∷ y ∷ bs) = if x == 92 && y == 117 then (unit_at bs >>= λ low. if is_low_surrogate low then Some low else None) else None
 low_at _ = None
 
 -- behind a backslash and u
 abbrev pub character_at : List ℕ → Option (ℕ × ℕ)
 character_at bs = unit_at bs >>= λ u.
-    if is_high u then (low_at (drop 4 bs) >>= λ low. Some (paired u low, 11))
-    else (if is_low u then None else Some (u, 5))
+    if is_high_surrogate u then (low_at (drop 4 bs) >>= λ low. Some (surrogate_pair_char u low, 11))
+    else (if is_low_surrogate u then None else Some (u, 5))
 
 -- behind a backslash
 unfoldable pub escape_at : List ℕ → Option (ℕ × ℕ)
 escape_at [] = None
-escape_at (e ∷ bs) = if e == 117 then character_at bs else (short_escape e >>= λ c. Some (c, 1))
+escape_at (e ∷ bs) = if e == 117 then character_at bs else (letter_char e >>= λ c. Some (c, 1))
 
 -- where plain bytes end, with inside to read what follows an escape
 abbrev pub behind_run : (List ℕ → Option (List ℕ × ℕ)) → List ℕ → Option (List ℕ × ℕ)
