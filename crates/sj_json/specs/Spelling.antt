@@ -1,6 +1,6 @@
 -- How a JSON text spells a tree (RFC 8259). Each rule splits the whole text. White space may stand
 -- before each token, and at the end.
-use Rattle.std.specs.Prelude.{◌≡◌, ℕ, ◌≤◌, List, [], ◌∷◌, ◌++◌, length, Bool, true, false, ◌||◌, ◌==◌, codes, IsUtf8}
+use Rattle.std.specs.Prelude.{◌≡◌, ℕ, ◌≤◌, List, [], ◌∷◌, ◌++◌, length, true, false, codes, IsUtf8}
 use Rattle.std.specs.List.{AllByRecursion}
 use Rattle.sj_base.specs.ByteClasses.{is_blank}
 use Rattle.sj_decimal.specs.Number.{SpellsExact, SpellsWide}

@@ -1,6 +1,6 @@
 -- What is read behind a quotation mark is the inside of a string, and each inside is read.
 use Rattle.std.proofs.Common.{◌≡◌, ℕ, zero, suc, ◌+◌, ◌≤◌, Bool, true, false, cond, List, [], ◌∷◌, ◌++◌, length, take, drop, Option, Some, None, refl, sym, ap, subst, ◌∙◌, arith, append_assoc, length-append, length-drop, take-add, drop_at, eqb-true, encode_utf8, ◌==◌, ◌&&◌}
-use Rattle.std.specs.Char.Utf16.{is_high_surrogate, is_low_surrogate, surrogate_pair_char}
+use Rattle.std.specs.Char.Utf16.{is_low_surrogate, surrogate_pair_char}
 use Rattle.sj_base.specs.ByteClasses.{is_plain, next_is, letter_char}
 use Rattle.sj_base.specs.Options.{◌>>=◌}
 use Rattle.sj_token.specs.Words as w

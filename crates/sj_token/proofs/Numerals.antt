@@ -1,10 +1,9 @@
 -- The longest number at the front of a text, and what it stands for.
-use Rattle.std.proofs.Common.{◌≡◌, ◌≢◌, ℕ, zero, suc, ◌+◌, ◌^◌, ◌<◌, ◌≤◌, ◌⊎◌, inl, inr, Bool, true, false, cond, ◌&&◌, ◌||◌, ◌==◌, nat_le, nat_lt, List, [], ◌∷◌, ◌++◌, length, take, drop, Option, Some, None, ℤ, unsigned_abs, refl, sym, ap, subst, ◌∙◌, arith, append_assoc, length-append, length-drop, take-add, take_at, drop_at, eqb-true, leb-true, ltb-true, le-leb, lt-ltb, eq-eqb}
+use Rattle.std.proofs.Common.{◌≡◌, ◌≢◌, ℕ, zero, suc, ◌+◌, ◌<◌, ◌≤◌, ◌⊎◌, inl, inr, Bool, true, false, cond, ◌&&◌, ◌||◌, ◌==◌, nat_le, List, [], ◌∷◌, ◌++◌, length, take, drop, Option, Some, None, ℤ, refl, sym, ap, subst, ◌∙◌, arith, append_assoc, length-append, length-drop, take-add, take_at, drop_at, eqb-true, leb-true, eq-eqb}
 use Rattle.std.specs.Str.Parse.{AllDigits, IsNumeral as IsDigits}
 use Rattle.std.specs.Char.{is_ascii_digit}
 use Rattle.sj_base.specs.ByteClasses.{is_letter, next_is, next_is_digit}
 use Rattle.sj_base.specs.Options.{◌>>=◌}
-use Rattle.sj_decimal.specs.Normal.{normal, IsExact}
 use Rattle.sj_decimal.specs.Exact.{is_exact}
 use Rattle.sj_decimal.specs.Number.{NumberParts, IsWhole, IsFraction, IsExponentSign, IsWrittenExponent, IsExponent, IsNumberOf, value_of, SpellsNumber, IsNumber, SpellsExact, SpellsWide}
 use Rattle.sj_decimal.specs.Reading.{read_parts}
