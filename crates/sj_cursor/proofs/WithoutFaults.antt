@@ -2,6 +2,7 @@
 use Rattle.std.specs.Prelude.{if◌then◌else◌, slice_range, pos, ◌-ℤ◌, unsigned_abs, int_lt, int_le}
 use Rattle.std.specs.Int.{int_min, int_max}
 use Rattle.std.proofs.Common.{◌≡◌, ℕ, ◌+◌, List, [], ◌∷◌, length, Bool, true, false, ◌&&◌, Some, None, ℤ, ◌∙◌, refl}
+use Rattle.sj_doc.specs.Keyed.{is_key}
 use Rattle.sj_doc.specs.Kinds.{kind_of}
 use Rattle.sj_doc.specs.declared.node.Kind.{Kind}
 use Rattle.sj_doc.specs.declared.node.Kind.TheVariants as kinds
@@ -13,7 +14,7 @@ use Rattle.sj_item.specs.Items.{ItemValue, made_number, item_tree}
 use Rattle.sj_item.specs.declared.truth.Truth.{Truth}
 use Rattle.sj_item.specs.declared.truth.Truth.TheVariants.{True, False, Unknown}
 use Rattle.sj_step.specs.Trace.{Trace, stop, fail, visit, give, only, pay, join, each, fault_of}
-use Rattle.sj_step.specs.Reach.{ReachValue, by_key, all_members, all_elements, by_range, unwrapped, Child, child_visits, children_of, every, is_under, under_key, between, lax_range, range_of_one, on_array, on_object, on_scalar, on_kind, reach, unwrap, spread, last_on, last}
+use Rattle.sj_step.specs.Reach.{ReachValue, by_key, all_members, all_elements, by_range, unwrapped, Child, child_visits, children_of, every, under_key, between, lax_range, range_of_one, on_array, on_object, on_scalar, on_kind, reach, unwrap, spread, last_on, last}
 use Rattle.sj_step.proofs.Traces.{fault-pay}
 use Rattle.sj_method.specs.Numbers.{operand_of, subscript_of}
 use Rattle.sj_cursor.specs.Verdicts.{Verdict, kept, filtered}
@@ -51,8 +52,8 @@ every_well n (c ∷ cs) = pay_well n (give c.1 (every n cs)) (every_well n cs)
 under_key_well : (n : ℕ) (key : List ℕ) (found : Bool) (cs : List Child) → fault_of (under_key n Lax key found cs) ≡ None
 under_key_well n key found [] = refl
 under_key_well n key found (c ∷ cs) =
-    pay_well n (if is_under key c.0 then give c.1 (under_key n Lax key true cs) else under_key n Lax key found cs)
-    (if_well (is_under key c.0) (give c.1 (under_key n Lax key true cs)) (under_key n Lax key found cs) (under_key_well n key true cs) (under_key_well n key found cs))
+    pay_well n (if is_key key c.0 then give c.1 (under_key n Lax key true cs) else under_key n Lax key found cs)
+    (if_well (is_key key c.0) (give c.1 (under_key n Lax key true cs)) (under_key n Lax key found cs) (under_key_well n key true cs) (under_key_well n key found cs))
 
 between_well : (i j : ℕ) (cs : List Child) → fault_of (between i j cs) ≡ None
 between_well i j cs = pay_well i (every 1 (slice_range cs i j)) (every_well 1 (slice_range cs i j))

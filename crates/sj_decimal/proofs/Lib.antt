@@ -1,6 +1,7 @@
 pub mod Comparisons
 pub mod Digits
 pub mod Divisions
+pub mod Exactness
 pub mod Laws
 pub mod NormalForm
 pub mod NumberBytes

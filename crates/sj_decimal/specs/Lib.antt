@@ -1,5 +1,6 @@
 pub mod Arithmetic
 pub mod Compare
+pub mod Exact
 pub mod Magnitudes
 pub mod Normal
 pub mod Number

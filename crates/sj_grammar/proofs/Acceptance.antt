@@ -1,22 +1,21 @@
 -- The path of a text is the one that it is accepted as.
-use Rattle.std.proofs.Common.{◌≡◌, ◌⊎◌, inl, inr, ℕ, zero, suc, ◌+◌, ◌<◌, ◌≤◌, nat_lt, nat_le, Bool, true, false, ◌||◌, cond, List, [], ◌∷◌, length, take, count_by, Option, Some, None, refl, sym, ap, subst, ◌∙◌, arith}
+use Rattle.std.proofs.Common.{◌≡◌, ◌⊎◌, inl, inr, ℕ, zero, suc, ◌+◌, ◌<◌, ◌≤◌, nat_lt, nat_le, Bool, true, false, ◌||◌, cond, List, length, take, count_by, Option, Some, None, refl, sym, ap, subst, ◌∙◌, arith}
 use Rattle.std.proofs.lemmas.Bool.Decides.{nat_tests}
 use Rattle.std.proofs.lemmas.List.{take_all}
 use Rattle.std.proofs.Math.Seq.{take-length}
-use Rattle.sj_token.specs.declared.token.Token.{Token}
-use Rattle.sj_token.specs.Tokens.{HasTokens}
+use Rattle.sj_base.specs.Options.{◌>>=◌}
 use Rattle.sj_token.specs.Reading.{lex}
 use Rattle.sj_token.proofs.Texts.{lex_sound, lex_full}
 use Rattle.sj_grammar.specs.declared.refusal.PathRefusal.{PathRefusal}
 use Rattle.sj_grammar.specs.declared.refusal.PathRefusal.TheVariants.{Memory}
 use Rattle.sj_grammar.specs.declared.refusal.Name.{Name}
 use Rattle.sj_grammar.specs.Tree.{Path}
-use Rattle.sj_grammar.specs.Grammar.{Tokens, IsPath}
+use Rattle.sj_grammar.specs.Grammar.{Tokens}
 use Rattle.sj_grammar.specs.Depth.{is_opening, is_closing, is_counted, IsDeepAt, OpensTooMany, IsTooDeep}
 use Rattle.sj_grammar.specs.Misplaced.{is_misplaced}
 use Rattle.sj_grammar.specs.Unsupported.{unsupported}
-use Rattle.sj_grammar.specs.Reading.{path_at, ◌>>=◌}
-use Rattle.sj_grammar.specs.Answers.{Spells, Allows, Accepts, Refuses}
+use Rattle.sj_grammar.specs.Reading.{path_at}
+use Rattle.sj_grammar.specs.Answers.{Allows, Accepts, Refuses}
 use Rattle.sj_grammar.specs.Accepted.{is_deep_at, is_deep_within, is_too_deep, if_supported, accepted_path}
 use Rattle.sj_grammar.proofs.Paths.{path_full, path_sound}
 use Rattle.sj_grammar.proofs.Laws as laws
@@ -71,13 +70,13 @@ deep_anywhere ts h m d = go (nat_le m (length ts)) refl
         let same : take m ts ≡ take (length ts) ts = take_all m ts long ∙ sym (take-length ts) in
         deep_missed ts (length ts) h (length ts) (omega arith) (subst (λ (us : Tokens). count_by is_closing us + 64 < count_by is_opening us) same d)
 
-too_deep_found : (ts : Tokens) → is_too_deep ts ≡ true → IsTooDeep ts
+pub too_deep_found : (ts : Tokens) → is_too_deep ts ≡ true → IsTooDeep ts
 too_deep_found ts h = elim (or_cases (is_deep_within ts (length ts)) (nat_lt 256 (count_by is_counted ts)) h) [
   | inl deep ↦ inl (deep_found ts (length ts) deep)
   | inr many ↦ inr (lt_from _ _ many)
 ]
 
-too_deep_missed : (ts : Tokens) → is_too_deep ts ≡ false → IsTooDeep ts → ⊥
+pub too_deep_missed : (ts : Tokens) → is_too_deep ts ≡ false → IsTooDeep ts → ⊥
 too_deep_missed ts h (inl deep) = deep_anywhere ts (or_left (is_deep_within ts (length ts)) (nat_lt 256 (count_by is_counted ts)) h) deep.0 deep.1
 too_deep_missed ts h (inr many) = lt_not _ _ (or_right (is_deep_within ts (length ts)) (nat_lt 256 (count_by is_counted ts)) h) many
 

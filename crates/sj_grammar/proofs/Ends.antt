@@ -1,5 +1,6 @@
 -- Where a construct of the grammar cannot go on.
 use Rattle.std.proofs.Common.{◌≡◌, ℕ, true, false, List, [], ◌∷◌, Option, Some, None, refl, ap}
+use Rattle.sj_base.specs.Options.{◌>>=◌}
 use Rattle.sj_token.specs.declared.token.Token.{Token}
 use Rattle.sj_token.specs.declared.token.Token.TheVariants as k
 use Rattle.sj_token.specs.declared.keyword.Keyword.{Keyword}
@@ -10,7 +11,7 @@ use Rattle.sj_grammar.specs.Tree.{Expr, Step, Sub, Subs, Pred}
 use Rattle.sj_grammar.specs.Signs.{add_sign, mul_sign, token_expr, method_of}
 use Rattle.sj_grammar.specs.Grammar as g
 use Rattle.sj_grammar.specs.Grammar.{Tokens, NotOpen, IsExpr, IsSum, IsTerm, IsProduct, IsUnary, IsAccess, IsPrimary, IsStep, IsSub, IsSubs, IsPred, IsOr, IsConj, IsAnd, IsNeg, IsDelim, IsPrim}
-use Rattle.sj_grammar.specs.Reading.{Parser, Read, Thing, Value, begins_step, sign_at, to_at, is_at, flag_at, close_at, called, open_at, star_at, comma_at, and_at, or_at, test_from, ◌>>=◌}
+use Rattle.sj_grammar.specs.Reading.{Parser, Read, Thing, Value, begins_step, sign_at, to_at, is_at, flag_at, close_at, called, open_at, star_at, comma_at, and_at, or_at, test_from}
 
 pub record EndsUnary (rest : Tokens) : Type 0 where
   pub no_step : begins_step rest ≡ false

@@ -1,5 +1,6 @@
 -- A list of tokens has at most one tree, which reading finds.
 use Rattle.std.proofs.Common.{◌≡◌, suc, false, [], ◌∷◌, length, Option, Some, None, Result, Ok, Err, MatchResult, refl, sym, subst, ◌∙◌, arith}
+use Rattle.sj_base.specs.Options.{◌>>=◌}
 use Rattle.sj_token.specs.declared.token.Token.{Token}
 use Rattle.sj_token.specs.declared.token.Token.TheVariants as k
 use Rattle.sj_token.specs.declared.keyword.Keyword.TheVariants as w
@@ -9,7 +10,7 @@ use Rattle.sj_grammar.specs.Tree.{Expr, Path}
 use Rattle.sj_grammar.specs.Signs.{token_expr}
 use Rattle.sj_grammar.specs.Grammar as g
 use Rattle.sj_grammar.specs.Grammar.{Tokens, IsExpr, IsPath}
-use Rattle.sj_grammar.specs.Reading.{Read, Thing, Value, Test, ◌>>=◌, on_some, lax_at, strict_at, as_value, inner_expr, thing_at, ended, whole_at, with_mode, in_mode, path_at}
+use Rattle.sj_grammar.specs.Reading.{Read, Thing, Value, Test, on_some, lax_at, strict_at, as_value, inner_expr, thing_at, ended, whole_at, with_mode, in_mode, path_at}
 use Rattle.sj_grammar.specs.declared.refusal.PathRefusal.{PathRefusal}
 use Rattle.sj_grammar.specs.declared.refusal.PathRefusal.TheVariants as r
 use Rattle.sj_grammar.specs.Gives.{Fails, Finishes}

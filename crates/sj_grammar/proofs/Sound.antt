@@ -1,5 +1,6 @@
 -- What is read is in the grammar.
 use Rattle.std.proofs.Common.{ℕ, zero, suc, List, [], ◌∷◌, length, Some, sym, subst, ap, ◌∙◌}
+use Rattle.sj_base.specs.Options.{◌>>=◌}
 use Rattle.sj_token.specs.declared.token.Token.TheVariants as k
 use Rattle.sj_token.specs.declared.keyword.Keyword.{Keyword}
 use Rattle.sj_token.specs.declared.keyword.Keyword.TheVariants as w
@@ -8,7 +9,7 @@ use Rattle.sj_grammar.specs.Tree.{Expr, Pred, Binary, Access}
 use Rattle.sj_grammar.specs.Signs.{add_sign, mul_sign, method_of}
 use Rattle.sj_grammar.specs.Grammar as g
 use Rattle.sj_grammar.specs.Grammar.{Tokens, IsExpr, IsSum, IsTerm, IsProduct, IsUnary, IsAccess, IsPrimary, IsStep, IsSub, IsSubs, IsPred, IsOr, IsConj, IsAnd, IsNeg, IsDelim, IsPrim}
-use Rattle.sj_grammar.specs.Reading.{◌>>=◌, begins_step, Parser, Thing, Value, Test, close_at, with_at, quoted_at, inner_expr, inner_pred, as_value, as_test, datetime_at, called, named, after_dot, sub_at, subs_at, after_bracket, after_question, step_at, primary_at, access_from, access_at, unary_at, product_from, term_at, sum_from, expr_at, expr_from, initial_at, flags_at, test_from, tested, unknown_from, after_group, exists_at, group_at, delim_at, neg_at, test_at, and_from, conj_at, or_from, pred_from, thing_over, thing_at}
+use Rattle.sj_grammar.specs.Reading.{begins_step, Parser, Thing, Value, Test, close_at, with_at, quoted_at, inner_expr, inner_pred, as_value, as_test, datetime_at, called, named, after_dot, sub_at, subs_at, after_bracket, after_question, step_at, primary_at, access_from, access_at, unary_at, product_from, term_at, sum_from, expr_at, expr_from, initial_at, flags_at, test_from, tested, unknown_from, after_group, exists_at, group_at, delim_at, neg_at, test_at, and_from, conj_at, or_from, pred_from, thing_over, thing_at}
 use Rattle.sj_grammar.proofs.Words.{IfRead, nothing, here, then, given, either, chosen, weaken, closes, opens, not_open, brackets, commas, stars, ands, ors, quotes, quoted_reads, to_word, is_word, unknown_word, with_word, flag_word, signs}
 
 abbrev pub Spells : Tokens → Thing → Tokens → Type 0

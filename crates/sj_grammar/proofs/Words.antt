@@ -1,11 +1,12 @@
 -- What was read meets a fact, and how that follows step by step.
 use Rattle.std.proofs.Common.{◌≡◌, ℕ, Bool, true, false, cond, List, [], ◌∷◌, Option, Some, None, refl, ap, subst, ◌∙◌}
+use Rattle.sj_base.specs.Options.{◌>>=◌}
 use Rattle.sj_token.specs.declared.token.Token.{Token}
 use Rattle.sj_token.specs.declared.token.Token.TheVariants as k
 use Rattle.sj_token.specs.declared.keyword.Keyword.TheVariants as w
 use Rattle.sj_grammar.specs.declared.tree.Arith.{Arith}
 use Rattle.sj_grammar.specs.Grammar.{Tokens, NotOpen}
-use Rattle.sj_grammar.specs.Reading.{Read, ◌>>=◌, on_some, sign_at, to_at, is_at, unknown_at, with_at, flag_at, lax_at, strict_at, open_at, close_at, bracket_at, comma_at, and_at, or_at, quoted_at, star_at}
+use Rattle.sj_grammar.specs.Reading.{Read, on_some, sign_at, to_at, is_at, unknown_at, with_at, flag_at, lax_at, strict_at, open_at, close_at, bracket_at, comma_at, and_at, or_at, quoted_at, star_at}
 
 pair : {A B : Type 0} {a c : A} {b d : B} → a ≡ c → b ≡ d → ◌≡◌ {A = A × B} (a, b) (c, d)
 pair p q = cc

@@ -1,5 +1,6 @@
 -- The path of a text.
 use Rattle.std.specs.Prelude.{ℕ, zero, suc, ◌+◌, nat_lt, Bool, ◌||◌, cond, List, length, take, Option, Some, None, count_by}
+use Rattle.sj_base.specs.Options.{◌>>=◌}
 use Rattle.sj_token.specs.Reading.{lex}
 use Rattle.sj_grammar.specs.declared.refusal.Name.{Name}
 use Rattle.sj_grammar.specs.Tree.{Path}
@@ -7,7 +8,7 @@ use Rattle.sj_grammar.specs.Grammar.{Tokens}
 use Rattle.sj_grammar.specs.Depth.{is_opening, is_closing, is_counted}
 use Rattle.sj_grammar.specs.Misplaced.{is_misplaced}
 use Rattle.sj_grammar.specs.Unsupported.{unsupported}
-use Rattle.sj_grammar.specs.Reading.{path_at, ◌>>=◌}
+use Rattle.sj_grammar.specs.Reading.{path_at}
 
 -- the first n tokens leave more than 64 open
 abbrev pub is_deep_at : Tokens → ℕ → Bool

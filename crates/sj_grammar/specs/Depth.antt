@@ -1,5 +1,6 @@
 -- Lists of tokens that nest too deep, or have too many parts.
-use Rattle.std.specs.Prelude.{ℕ, ◌+◌, ◌<◌, ◌⊎◌, Bool, true, false, take, count_by}
+use Rattle.std.specs.Prelude.{ℕ, ◌<◌, ◌⊎◌, Bool, true, false, count_by}
+use Rattle.sj_base.specs.Nesting.{LeavesOpen, NestsTooDeep}
 use Rattle.sj_token.specs.declared.token.Token.{Token}
 use Rattle.sj_token.specs.declared.token.Token.TheVariants as k
 use Rattle.sj_grammar.specs.Grammar.{Tokens}
@@ -32,13 +33,11 @@ is_counted k.Question = true
 is_counted k.Comma = true
 is_counted _ = false
 
--- the first n tokens leave more than 64 open
 abbrev pub IsDeepAt : Tokens → ℕ → Type 0
-IsDeepAt ts n = count_by is_closing (take n ts) + 64 < count_by is_opening (take n ts)
+IsDeepAt ts n = LeavesOpen is_opening is_closing ts n
 
--- some prefix does
 abbrev pub OpensTooMany : Tokens → Type 0
-OpensTooMany ts = (n : ℕ) × IsDeepAt ts n
+OpensTooMany ts = NestsTooDeep is_opening is_closing ts
 
 -- or more than 256 tokens are of those counted, wherever they stand
 abbrev pub IsTooDeep : Tokens → Type 0

@@ -1,5 +1,6 @@
 -- Reading tokens from left to right, with no way back. `None` means that no tree begins there.
 use Rattle.std.specs.Prelude.{ℕ, zero, suc, Bool, true, false, List, [], ◌∷◌, length, Option, Some, None, if◌then◌else◌}
+use Rattle.sj_base.specs.Options.{◌>>=◌}
 use Rattle.sj_token.specs.declared.token.Token.{Token}
 use Rattle.sj_token.specs.declared.token.Token.TheVariants as k
 use Rattle.sj_token.specs.declared.keyword.Keyword.{Keyword}
@@ -18,11 +19,6 @@ Read A = Option (A × Tokens)
 
 abbrev pub Parser : Type 0 → Type 0
 Parser A = Tokens → Read A
-
-infixl 10 ◌>>=◌
-abbrev pub ◌>>=◌ : {A B : Type 0} → Option A → (A → Option B) → Option B
-None >>= f = None
-(Some x) >>= f = f x
 
 -- goes on by f where there is something, and else by the second
 abbrev pub on_some : {A B : Type 0} → Option A → B → (A → B) → B

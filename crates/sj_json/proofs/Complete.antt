@@ -11,8 +11,10 @@ use Rattle.sj_decimal.specs.Number.{is_number_byte, begins_number}
 use Rattle.sj_decimal.proofs.NumberBytes.{BeginsAsNumber, number_bytes, number_begins}
 use Rattle.sj_json.specs.Tree.{Number, exact, wide, Tree, null, truth, string, number, array, object, Items, no_items, item, Members, no_members, member, depth, items_depth, members_depth}
 use Rattle.sj_json.specs.Building.{Part, elements, pairs, State, items_push, members_push, with_value, with_open, fresh}
-use Rattle.sj_json.specs.Strings.{is_plain, IsPlain, letter_char, IsHex, code, is_low, pair_char, Piece, plain, letter, unicode, pair, IsPiece, piece_bytes, char_text, piece_text, Quoted}
-use Rattle.sj_json.specs.Spelling.{is_blank, IsBlank, Blank, Spaced, Sign, SpellsNumber, Spells, SpellsItems, SpellsMoreItems, SpellsMembers, SpellsMoreMembers, SpellsText}
+use Rattle.sj_json.specs.Strings.{IsPlain, IsHex, code, Piece, plain, letter, unicode, pair, IsPiece, piece_bytes, char_text, piece_text, Quoted}
+use Rattle.std.specs.Char.Utf16.{is_low_surrogate, surrogate_pair_char}
+use Rattle.sj_base.specs.ByteClasses.{is_plain, letter_char, is_blank}
+use Rattle.sj_json.specs.Spelling.{IsBlank, Blank, Spaced, Sign, SpellsNumber, Spells, SpellsItems, SpellsMoreItems, SpellsMembers, SpellsMoreMembers, SpellsText}
 use Rattle.sj_json.specs.Numbers.{number_of}
 use Rattle.sj_json.proofs.Numbers.{number_complete}
 use Rattle.sj_json.specs.Machine.{Mode, value, value_or_close, key, key_or_close, colon, after_value, quoted, escaped, begun, unit, high, second, Step, wait, char, unit_done, unit_step, after_step, digits, root, end_number, unless_blank, first_mode, open_turn, close_turn, start, separate, end_quote, turn, run, reading}
@@ -226,7 +228,7 @@ module _ (limit : ℕ) where
   run_piece k acc (unicode ds) rest s h =
       let v = code ds in
       begins_unit k acc (ds ++ rest) s ∙ run_hex None ds rest k acc s h.0
-      ∙ ap (λ (x : Bool). goes_to k acc s rest (cond x (Some (wait (high v))) (cond (is_low v) None (Some (char v))))) h.1
+      ∙ ap (λ (x : Bool). goes_to k acc s rest (cond x (Some (wait (high v))) (cond (is_low_surrogate v) None (Some (char v))))) h.1
       ∙ ap (λ (x : Bool). goes_to k acc s rest (cond x None (Some (char v)))) h.2
   run_piece k acc (pair hs ls) rest s h =
       let u = code hs in
@@ -234,11 +236,11 @@ module _ (limit : ℕ) where
       let behind = 92 ∷ 117 ∷ (ls ++ rest) in
       ap (λ (x : List ℕ). run limit (quoted k acc) s (92 ∷ 117 ∷ x)) (append_assoc hs (92 ∷ 117 ∷ ls) rest)
       ∙ begins_unit k acc (hs ++ behind) s ∙ run_hex None hs behind k acc s h.0
-      ∙ ap (λ (x : Bool). goes_to k acc s behind (cond x (Some (wait (high u))) (cond (is_low u) None (Some (char u))))) h.1
+      ∙ ap (λ (x : Bool). goes_to k acc s behind (cond x (Some (wait (high u))) (cond (is_low_surrogate u) None (Some (char u))))) h.1
       ∙ run_step (escaped k acc (high u)) s 92 (117 ∷ (ls ++ rest)) (escaped k acc (second u), s) refl
       ∙ run_step (escaped k acc (second u)) s 117 (ls ++ rest) (escaped k acc (unit (Some u) 0 0), s) refl
       ∙ run_hex (Some u) ls rest k acc s h.2
-      ∙ ap (λ (x : Bool). goes_to k acc s rest (cond x (Some (char (pair_char u v))) None)) h.3
+      ∙ ap (λ (x : Bool). goes_to k acc s rest (cond x (Some (char (surrogate_pair_char u v))) None)) h.3
 
   run_pieces : (k : Bool) (acc : List ℕ) (ps : List Piece) (rest : List ℕ) (s : State) → AllByRecursion IsPiece ps
       → run limit (quoted k acc) s (flat_map piece_bytes ps ++ rest) ≡ run limit (quoted k (acc ++ flat_map piece_text ps)) s rest

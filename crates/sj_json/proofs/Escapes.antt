@@ -6,7 +6,9 @@ use Rattle.std.specs.Str.Parse.{AllDigits, digits_value_after}
 use Rattle.std.proofs.lemmas.List.{append-nil}
 use Rattle.std.proofs.lemmas.Bool.{eqb-true, ltb-true}
 use Rattle.std.proofs.lemmas.Int.Digits.{digits_push}
-use Rattle.sj_json.specs.Strings.{letter_char, IsHex, code, is_high, is_low, pair_char, Piece, letter, unicode, pair, IsPiece, piece_bytes, char_text, piece_text, Writes}
+use Rattle.std.specs.Char.Utf16.{is_high_surrogate, is_low_surrogate, surrogate_pair_char}
+use Rattle.sj_base.specs.ByteClasses.{letter_char}
+use Rattle.sj_json.specs.Strings.{IsHex, code, Piece, letter, unicode, pair, IsPiece, piece_bytes, char_text, piece_text, Writes}
 use Rattle.sj_json.specs.Machine.{Escape, begun, unit, high, second, Step, wait, char, unit_done, unit_step, escape_step}
 
 value_push : (w : ℕ) (ds : List ℕ) (b : ℕ) → digits_value_after 16 w (ds ++ b ∷ []) ≡ digits_value_after 16 w ds * 16 + digit_value b
@@ -15,7 +17,7 @@ value_push w (d ∷ ds) b = value_push (w * 16 + digit_value d) ds b
 
 -- four digits of a high surrogate h
 abbrev pub IsHigh : ℕ → List ℕ → Type 0
-IsHigh h hs = IsHex hs × (code hs ≡ h) × (is_high (code hs) ≡ true)
+IsHigh h hs = IsHex hs × (code hs ≡ h) × (is_high_surrogate (code hs) ≡ true)
 
 -- what stands before the digits, behind the backslash
 abbrev pub Front : Option ℕ → List ℕ → Type 0
@@ -43,18 +45,18 @@ letter_leads b (Some v) e = (letter b, (v, e), refl, ap char_text e)
 
 done_leads : (o : Option ℕ) (f ds : List ℕ) → Front o f → IsHex ds → IfSome (unit_done o (code ds)) (Leads (f ++ ds))
 done_leads None f ds h d =
-    by_cases (is_high (code ds)) (Some (wait (high (code ds)))) (cond (is_low (code ds)) None (Some (char (code ds)))) (Leads (f ++ ds))
+    by_cases (is_high_surrogate (code ds)) (Some (wait (high (code ds)))) (cond (is_low_surrogate (code ds)) None (Some (char (code ds)))) (Leads (f ++ ds))
     (λ e. (ds, (d, refl, e), ap (λ (x : List ℕ). x ++ ds) h))
-    (λ e. by_cases (is_low (code ds)) None (Some (char (code ds))) (Leads (f ++ ds)) (λ _. tt)
+    (λ e. by_cases (is_low_surrogate (code ds)) None (Some (char (code ds))) (Leads (f ++ ds)) (λ _. tt)
     (λ g. (unicode ds, (d, e, g), ap (λ (x : List ℕ). 92 ∷ x ++ ds) (sym h), refl)))
 done_leads (Some h) f ds k d =
     let hs = k.0 in
-    by_cases (is_low (code ds)) (Some (char (pair_char h (code ds)))) None (Leads (f ++ ds))
+    by_cases (is_low_surrogate (code ds)) (Some (char (surrogate_pair_char h (code ds)))) None (Leads (f ++ ds))
     (λ e. (
       pair hs ds,
       (k.1.0, k.1.2, d, e),
       sym (ap (λ (x : List ℕ). 92 ∷ x ++ ds) k.2 ∙ ap (λ (x : List ℕ). 92 ∷ 117 ∷ x) (append_assoc hs (92 ∷ 117 ∷ []) ds)),
-      ap (λ (x : ℕ). encode_utf8 (pair_char x (code ds))) k.1.1,
+      ap (λ (x : ℕ). encode_utf8 (surrogate_pair_char x (code ds))) k.1.1,
     ))
     (λ _. tt)
 

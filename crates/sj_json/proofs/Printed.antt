@@ -10,7 +10,8 @@ use borrow.Author.Tests.{lt-ltb}
 use Rattle.sj_decimal.specs.Number.{SpellsWide}
 use Rattle.sj_decimal.proofs.Laws.{decimal_text_spells, IsDecimal-spelled}
 use Rattle.sj_json.specs.Tree.{Number, exact, wide, Tree, null, truth, string, number, array, object, Items, no_items, item, Members, no_members, member, subtrees, items_subtrees, members_subtrees}
-use Rattle.sj_json.specs.Strings.{code, is_high, is_low, Piece, plain, letter, unicode, IsPiece, piece_bytes, piece_text, Quoted}
+use Rattle.sj_json.specs.Strings.{code, Piece, plain, letter, unicode, IsPiece, piece_bytes, piece_text, Quoted}
+use Rattle.std.specs.Char.Utf16.{is_high_surrogate, is_low_surrogate}
 use Rattle.sj_json.specs.Spelling.{Spaced, Sign, SpellsNumber, Spells, SpellsItems, SpellsMoreItems, SpellsMembers, SpellsMoreMembers, SpellsText}
 use Rattle.sj_json.specs.Printing.{printed, printed_number, IsWellMade, IsNode, IsTree, printed_byte, printed_string, printed_items, printed_more_items, printed_members, printed_more_members}
 
@@ -35,10 +36,10 @@ choose b false y z f g = g refl
 at_letter : (b c v : ℕ) → b ≡ v → Prints v (92 ∷ c ∷ []) → Prints b (92 ∷ c ∷ [])
 at_letter b c v e p = subst (λ (n : ℕ). Prints n (92 ∷ c ∷ [])) (sym e) p
 
-no_high : (b : ℕ) → b < 32 → is_high b ≡ false
+no_high : (b : ℕ) → b < 32 → is_high_surrogate b ≡ false
 no_high b h = grind (arith, nat_tests)
 
-no_low : (b : ℕ) → b < 32 → is_low b ≡ false
+no_low : (b : ℕ) → b < 32 → is_low_surrogate b ≡ false
 no_low b h = grind (arith, nat_tests)
 
 one_byte : (b : ℕ) → b < 32 → encode_utf8 b ≡ b ∷ []
@@ -58,8 +59,8 @@ control b h =
           (omega (arith, zero_digit), (omega (arith, zero_digit), (omega (arith, first, h), (omega (arith, last), tt)))),
           refl,
         ),
-        ap is_high value ∙ no_high b h,
-        ap is_low value ∙ no_low b h,
+        ap is_high_surrogate value ∙ no_high b h,
+        ap is_low_surrogate value ∙ no_low b h,
       ),
       ap encode_utf8 value ∙ one_byte b h,
       refl,

@@ -4,11 +4,12 @@ use Rattle.std.specs.List.{AllByRecursion}
 use Rattle.std.specs.Char.{encode_utf8}
 use Rattle.std.proofs.lemmas.List.{append-nil}
 use Rattle.std.proofs.lemmas.Bool.{eqb-true, ltb-true}
+use Rattle.sj_base.specs.ByteClasses.{is_plain, is_blank}
 use Rattle.sj_json.specs.Tree.{Number, Tree, null, truth, string, number, array, object, Items, no_items, item, Members, no_members, member, depth, items_depth, members_depth}
 use Rattle.sj_json.specs.Building.{Part, top, elements, pairs, State, items_push, members_push, put, put_key, with_value, empty, fresh}
-use Rattle.sj_json.specs.Strings.{is_plain, Piece, plain, IsPiece, piece_bytes, piece_text, Writes, Quoted}
+use Rattle.sj_json.specs.Strings.{Piece, plain, IsPiece, piece_bytes, piece_text, Writes, Quoted}
 use Rattle.sj_json.proofs.Escapes.{Pending, Leads, escape_leads, writes_none, writes_push}
-use Rattle.sj_json.specs.Spelling.{is_blank, IsBlank, Blank, Spaced, Sign, Spells, SpellsItems, SpellsMoreItems, SpellsMembers, SpellsMoreMembers, SpellsText}
+use Rattle.sj_json.specs.Spelling.{IsBlank, Blank, Spaced, Sign, Spells, SpellsItems, SpellsMoreItems, SpellsMembers, SpellsMoreMembers, SpellsText}
 use Rattle.sj_decimal.specs.Number.{is_number_byte, begins_number}
 use Rattle.sj_json.specs.Numbers.{number_of}
 use Rattle.sj_json.proofs.Numbers.{number_sound}

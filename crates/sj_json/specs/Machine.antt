@@ -2,11 +2,11 @@
 -- the definitions: it is what the code does, and it accepts exactly what `Spelling` spells.
 use Rattle.std.specs.Prelude.{ℕ, ◌+◌, ◌*◌, List, [], ◌∷◌, ◌++◌, length, Bool, true, false, cond, ◌==◌, nat_lt, Option, Some, None, option_map, option_and_then, codes}
 use Rattle.std.specs.Char.{encode_utf8, digit_value, is_digit}
+use Rattle.std.specs.Char.Utf16.{is_high_surrogate, is_low_surrogate, surrogate_pair_char}
+use Rattle.sj_base.specs.ByteClasses.{is_plain, letter_char, is_blank}
 use Rattle.sj_decimal.specs.Number.{is_number_byte, begins_number}
 use Rattle.sj_json.specs.Tree.{Number, Tree, null, truth, string, number}
 use Rattle.sj_json.specs.Building.{top, elements, pairs, State, with_value, with_key, with_open, with_close, fresh}
-use Rattle.sj_json.specs.Strings.{is_plain, letter_char, is_high, is_low, pair_char}
-use Rattle.sj_json.specs.Spelling.{is_blank}
 use Rattle.sj_json.specs.Numbers.{number_of}
 
 -- in an escape, behind its backslash
@@ -74,8 +74,8 @@ end_number a s = option_map (λ (v : Number). with_value (number v) s) (number_o
 
 -- four digits came
 abbrev pub unit_done : Option ℕ → ℕ → Option Step
-unit_done None v = cond (is_high v) (Some (wait (high v))) (cond (is_low v) None (Some (char v)))
-unit_done (Some h) v = cond (is_low v) (Some (char (pair_char h v))) None
+unit_done None v = cond (is_high_surrogate v) (Some (wait (high v))) (cond (is_low_surrogate v) None (Some (char v)))
+unit_done (Some h) v = cond (is_low_surrogate v) (Some (char (surrogate_pair_char h v))) None
 
 abbrev pub unit_step : Option ℕ → ℕ → ℕ → Option Step
 unit_step o n v = cond (n == 3) (unit_done o v) (Some (wait (unit o (n + 1) v)))

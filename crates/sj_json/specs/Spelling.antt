@@ -1,14 +1,11 @@
 -- How a JSON text spells a tree (RFC 8259). Each rule splits the whole text. White space may stand
 -- before each token, and at the end.
-use Rattle.std.specs.Prelude.{◌≡◌, ℕ, ◌≤◌, List, [], ◌∷◌, ◌++◌, length, Bool, true, false, ◌||◌, ◌==◌, codes, IsUtf8}
+use Rattle.std.specs.Prelude.{◌≡◌, ℕ, ◌≤◌, List, [], ◌∷◌, ◌++◌, length, true, false, codes, IsUtf8}
 use Rattle.std.specs.List.{AllByRecursion}
+use Rattle.sj_base.specs.ByteClasses.{is_blank}
 use Rattle.sj_decimal.specs.Number.{SpellsExact, SpellsWide}
 use Rattle.sj_json.specs.Strings.{Quoted}
 use Rattle.sj_json.specs.Tree.{Number, exact, wide, Tree, null, truth, string, number, array, object, Items, no_items, item, Members, no_members, member, depth}
-
--- a space, a tab, a line feed or a carriage return
-abbrev pub is_blank : ℕ → Bool
-is_blank b = (b == 32) || (b == 9) || (b == 10) || (b == 13)
 
 abbrev pub IsBlank : ℕ → Type 0
 IsBlank b = is_blank b ≡ true

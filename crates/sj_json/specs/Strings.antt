@@ -1,22 +1,14 @@
 -- The text of a string, between its quotation marks (RFC 8259, section 7). It is cut into pieces: bytes that
 -- stand for themselves, and escapes.
-use Rattle.std.specs.Prelude.{◌≡◌, ℕ, ◌+◌, ◌-◌, ◌*◌, List, [], ◌∷◌, ◌++◌, length, Bool, true, false, not, cond, ◌||◌, ◌&&◌, ◌==◌, nat_lt, nat_le, Option, Some, None}
+use Rattle.std.specs.Prelude.{◌≡◌, ℕ, ◌+◌, List, [], ◌∷◌, ◌++◌, length, true, false, Option, Some, None}
 use Rattle.std.specs.List.{AllByRecursion, flat_map}
 use Rattle.std.specs.Char.{encode_utf8}
 use Rattle.std.specs.Str.Parse.{AllDigits, digits_value}
-
--- a byte that stands for itself: no quotation mark, no backslash, no control character
-abbrev pub is_plain : ℕ → Bool
-is_plain b = not ((b == 34) || (b == 92) || nat_lt b 32)
+use Rattle.std.specs.Char.Utf16.{is_high_surrogate, is_low_surrogate, surrogate_pair_char}
+use Rattle.sj_base.specs.ByteClasses.{is_plain, letter_char}
 
 abbrev pub IsPlain : ℕ → Type 0
 IsPlain b = is_plain b ≡ true
-
--- the character of an escape of one letter: `"`, `\`, `/`, and `b`, `f`, `n`, `r`, `t`
-abbrev pub letter_char : ℕ → Option ℕ
-letter_char c =
-    cond (c == 34) (Some 34) (cond (c == 92) (Some 92) (cond (c == 47) (Some 47) (cond (c == 98) (Some 8)
-    (cond (c == 102) (Some 12) (cond (c == 110) (Some 10) (cond (c == 114) (Some 13) (cond (c == 116) (Some 9) None)))))))
 
 -- four hexadecimal digits, in either case, and the number that they write
 abbrev pub IsHex : List ℕ → Type 0
@@ -24,16 +16,6 @@ IsHex ds = AllDigits 16 ds × (length ds ≡ 4)
 
 abbrev pub code : List ℕ → ℕ
 code ds = digits_value 16 ds
-
--- surrogates: a high and a low one stand for one character together, and alone for none
-abbrev pub is_high : ℕ → Bool
-is_high u = nat_le 0xd800 u && nat_lt u 0xdc00
-
-abbrev pub is_low : ℕ → Bool
-is_low u = nat_le 0xdc00 u && nat_lt u 0xe000
-
-abbrev pub pair_char : ℕ → ℕ → ℕ
-pair_char h l = 0x10000 + (h - 0xd800) * 1024 + (l - 0xdc00)
 
 pub data Piece : Type 0 where
   plain : ℕ → Piece
@@ -47,8 +29,8 @@ pub data Piece : Type 0 where
 abbrev pub IsPiece : Piece → Type 0
 IsPiece (plain b) = IsPlain b
 IsPiece (letter c) = (v : ℕ) × (letter_char c ≡ Some v)
-IsPiece (unicode ds) = IsHex ds × (is_high (code ds) ≡ false) × (is_low (code ds) ≡ false)
-IsPiece (pair hs ls) = IsHex hs × (is_high (code hs) ≡ true) × IsHex ls × (is_low (code ls) ≡ true)
+IsPiece (unicode ds) = IsHex ds × (is_high_surrogate (code ds) ≡ false) × (is_low_surrogate (code ds) ≡ false)
+IsPiece (pair hs ls) = IsHex hs × (is_high_surrogate (code hs) ≡ true) × IsHex ls × (is_low_surrogate (code ls) ≡ true)
 
 abbrev pub piece_bytes : Piece → List ℕ
 piece_bytes (plain b) = b ∷ []
@@ -64,7 +46,7 @@ abbrev pub piece_text : Piece → List ℕ
 piece_text (plain b) = b ∷ []
 piece_text (letter c) = char_text (letter_char c)
 piece_text (unicode ds) = encode_utf8 (code ds)
-piece_text (pair hs ls) = encode_utf8 (pair_char (code hs) (code ls))
+piece_text (pair hs ls) = encode_utf8 (surrogate_pair_char (code hs) (code ls))
 
 -- the text s is written as b
 pub record Writes (s : List ℕ) (b : List ℕ) : Type 0 where

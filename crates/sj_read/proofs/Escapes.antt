@@ -3,8 +3,8 @@ use Rattle.std.proofs.Common.{◌≡◌, ℕ, zero, suc, ◌+◌, ◌-◌, ◌*�
 use Rattle.std.specs.Char.{encode_utf8, digit_value, is_digit}
 use Rattle.std.proofs.lemmas.List.{drop_all}
 use Rattle.std.proofs.lemmas.Bool.Decides.{nat_tests}
+use Rattle.sj_base.specs.ByteClasses.{letter_char}
 use Rattle.sj_json.specs.Building.{State}
-use Rattle.sj_json.specs.Strings.{letter_char}
 use Rattle.sj_json.specs.Machine.{Escape, begun, unit, high, second, Step, wait, char, unit_step, escape_step, after_step, escaped, quoted, run}
 use Rattle.sj_read.specs.Strings.{FindsEscape}
 use Rattle.sj_read.proofs.Steps.{goes, stops, cond_no}

@@ -2,7 +2,8 @@
 use Rattle.std.proofs.Common.{◌≡◌, ℕ, suc, ◌+◌, ◌-◌, ◌<◌, ◌≤◌, List, [], ◌∷◌, length, take, drop, get_or, Bool, true, false, cond, refl, sym, ap, ◌∙◌, subst, arith}
 use Rattle.std.specs.List.{AllByRecursion, prefix_len}
 use Rattle.std.proofs.lemmas.List.{get_or-drop, length-drop}
-use Rattle.sj_json.specs.Strings.{is_plain, IsPlain}
+use Rattle.sj_base.specs.ByteClasses.{is_plain}
+use Rattle.sj_json.specs.Strings.{IsPlain}
 use Rattle.sj_read.specs.Scans.{EndsPlain}
 
 plain_front : (xs : List ℕ) → AllByRecursion IsPlain (take (prefix_len is_plain xs) xs)

@@ -6,7 +6,7 @@ use borrow.Author.Tests.{lt-ltb, le-ltb, eqb-true, eqb-false}
 use Rattle.sj_decimal.specs.Number.{begins_number}
 use Rattle.sj_json.specs.Tree.{Tree, null, truth, string, below}
 use Rattle.sj_json.specs.Building.{Part, top, elements, pairs, State, TakesValue, TakesKey, TakesClose, put, put_key, with_value, with_key, with_open, with_close}
-use Rattle.sj_json.specs.Spelling.{is_blank}
+use Rattle.sj_base.specs.ByteClasses.{is_blank}
 use Rattle.sj_json.specs.Machine.{Mode, value, value_or_close, key, key_or_close, colon, after_value, letters, quoted, open_turn, close_turn, start, separate, end_quote, turn, run}
 use Rattle.sj_json.proofs.Complete.{run_step, run_plain}
 use Rattle.sj_json.proofs.Buildings.{total-put, total-open, total-key}

@@ -7,8 +7,8 @@ use Rattle.std.proofs.lemmas.List.{drop_all}
 use Rattle.std.proofs.lemmas.Str.{IsCharBoundary-before_ascii, IsCharBoundary-after_ascii, IsCharBoundary-end}
 use Rattle.std.proofs.lemmas.Bool.{cases_lt}
 use Rattle.std.proofs.lemmas.Bool.Decides.{nat_tests}
+use Rattle.sj_base.specs.ByteClasses.{is_plain}
 use Rattle.sj_json.specs.Building.{State}
-use Rattle.sj_json.specs.Strings.{is_plain}
 use Rattle.sj_json.specs.Machine.{quoted, escaped, begun, end_quote, run}
 use Rattle.sj_json.proofs.Complete.{run_plain_bytes}
 use Rattle.sj_read.specs.Strings.{FindsString, NoString, FindsEscape, NoEscape}

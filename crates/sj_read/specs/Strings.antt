@@ -1,8 +1,8 @@
 -- What the reading of a string finds, against the reader of bytes. Private clauses alone cite it.
 use Rattle.std.specs.Prelude.{◌≡◌, ℕ, ◌+◌, ◌-◌, ◌<◌, ◌≤◌, ◌^◌, List, [], ◌++◌, length, drop, get_or, Bool, true, None, IfSome, ⊤}
 use Rattle.std.specs.Char.{encode_utf8}
+use Rattle.std.specs.Char.Utf16.{is_high_surrogate}
 use Rattle.sj_json.specs.Building.{State}
-use Rattle.sj_json.specs.Strings.{is_high}
 use Rattle.sj_json.specs.Machine as machine
 use Rattle.sj_json.specs.Machine.{run, quoted, escaped, end_quote}
 use Rattle.sj_read.specs.declared.escape.Escape.{Escape}
@@ -21,7 +21,7 @@ step_of (Wait e) = machine.wait (escape_of e)
 step_of (Char c) = machine.char c
 
 abbrev pub IsHighUnit : ℕ → Type 0
-IsHighUnit h = is_high h ≡ true
+IsHighUnit h = is_high_surrogate h ≡ true
 
 -- no more digits than three, the number of so many digits, and a high surrogate
 abbrev pub IsEscape : Escape → Type 0

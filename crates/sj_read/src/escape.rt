@@ -1,8 +1,9 @@
 // Escapes of a string (RFC 8259, section 7), byte by byte.
 ghost use Rattle.std.specs.Prelude.{◌≡◌, ◌<◌, ◌≤◌, ◌^◌, length, option_map, IfSome, MatchOption};
-ghost use Rattle.sj_json.specs.Strings.{is_high as high_unit, is_low as low_unit, letter_char as character_of};
 ghost use Rattle.sj_json.specs.Machine.{escape_step, unit_step as machine_unit_step, unit_done as machine_unit_done};
 ghost use Rattle.sj_read.specs.Strings.{escape_of, step_of, IsHighUnit, IsEscape, IsStep, FindsEscape, NoEscape};
+
+use sj_base::{is_high_surrogate, is_low_surrogate, letter_char, surrogate_pair_char};
 
 // How far an escape has come, behind its backslash.
 #[derive(Clone, Copy, Drop)]
@@ -31,38 +32,6 @@ enum Step {
 
 const UNIT_DIGITS: u32 = 4;
 
-// The first code point behind those of one unit.
-const SUPPLEMENTARY: u32 = 0x10000;
-
-fn is_high(unit: u32) -> bool
-    ensures { result ≡ high_unit unit }
-{
-    0xd800 <= unit && unit < 0xdc00
-}
-
-fn is_low(unit: u32) -> bool
-    ensures { result ≡ low_unit unit }
-{
-    0xdc00 <= unit && unit < 0xe000
-}
-
-// The character of an escape of one letter.
-fn letter_char(letter: u8) -> Option<char>
-    ensures { result ≡ character_of letter }
-{
-    match letter {
-        b'"' => Some('"'),
-        b'\\' => Some('\\'),
-        b'/' => Some('/'),
-        b'b' => Some('\u{8}'),
-        b'f' => Some('\u{c}'),
-        b'n' => Some('\n'),
-        b'r' => Some('\r'),
-        b't' => Some('\t'),
-        _ => None,
-    }
-}
-
 // Four digits have come.
 fn unit_done(high: Option<u32>, unit: u32) -> Option<Step>
     requires small { unit < 2 ^ 16 }
@@ -72,7 +41,7 @@ fn unit_done(high: Option<u32>, unit: u32) -> Option<Step>
 {
     match high {
         None => {
-            if is_high(unit) {
+            if is_high_surrogate(unit) {
                 return Some(Step::Wait(Escape::High(unit)));
             }
             // a low surrogate alone is no character
@@ -82,13 +51,10 @@ fn unit_done(high: Option<u32>, unit: u32) -> Option<Step>
             }
         }
         Some(high) => {
-            if !is_low(unit) {
+            if !is_low_surrogate(unit) {
                 return None;
             }
-            match char::from_u32(SUPPLEMENTARY + (high - 0xd800) * 1024 + (unit - 0xdc00)) {
-                Some(c) => Some(Step::Char(c)),
-                None => None,
-            }
+            Some(Step::Char(surrogate_pair_char(high, unit)))
         }
     }
 }

@@ -2,7 +2,7 @@
 ghost use Rattle.std.specs.Prelude.{◌≡◌, ◌+◌, ◌≤◌, length, drop, map};
 ghost use Rattle.std.specs.List.{prefix_len};
 ghost use Rattle.std.specs.Simd.Lanes.{mask_l};
-ghost use Rattle.sj_json.specs.Strings.{is_plain};
+ghost use Rattle.sj_base.specs.ByteClasses.{is_plain};
 ghost use Rattle.sj_read.specs.Scans.{is_stop};
 
 use std::simd::prelude::*;

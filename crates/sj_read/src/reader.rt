@@ -1,19 +1,20 @@
 // The reader: a loop over the tokens that drives a `DocBuilder`.
 ghost use Rattle.std.specs.Prelude.{◌≡◌, ◌≢◌, ℕ, List, ◌+◌, ◌-◌, ◌<◌, ◌≤◌, length, take, drop, get_or, slice_index, true, false, IfSome, MatchResult, IfOk, Ok, Err};
+ghost use Rattle.sj_base.specs.ByteClasses.{is_blank as blank_byte};
 ghost use Rattle.sj_decimal.specs.Number.{begins_number as beginning_byte};
 ghost use Rattle.sj_json.specs.Tree.{Tree};
 ghost use Rattle.sj_json.specs.Building.{State, fresh};
-ghost use Rattle.sj_json.specs.Spelling.{is_blank as blank_byte, SpellsText, IsJson};
+ghost use Rattle.sj_json.specs.Spelling.{SpellsText, IsJson};
 ghost use Rattle.sj_json.specs.Machine.{value as value_mode, key as key_mode, after_value as after_mode};
 ghost use Rattle.sj_doc.specs.Builders.{node_total};
 ghost use Rattle.sj_read.specs.Scans.{EndsPlain};
 ghost use Rattle.sj_read.specs.Turns.{mode_of, closes_at, Ready, TakesOneKey, Turns};
 
-use crate::scan::{begins_number, follows, is_blank, number_end, string_end, token_at};
+use crate::scan::{begins_number, follows, number_end, string_end, token_at};
 use crate::short::short_number;
 use crate::unescape::unescape;
 use crate::utf8::text_of;
-use sj_base::Memory;
+use sj_base::{Memory, is_blank};
 use sj_decimal::{Decimal, Parsed};
 use sj_doc::{Doc, DocBuilder, Want};
 use std::alloc::Global;

@@ -2,19 +2,12 @@
 ghost use Rattle.std.specs.Prelude.{◌≡◌, ℕ, List, ◌++◌, ◌+◌, ◌-◌, ◌<◌, ◌≤◌, length, take, drop, slice_index, false, IfSome};
 ghost use Rattle.std.specs.Bool.{MatchBool};
 ghost use Rattle.std.specs.List.{prefix_len};
+ghost use Rattle.sj_base.specs.ByteClasses.{is_blank as blank_byte};
 ghost use Rattle.sj_decimal.specs.Number.{begins_number as beginning_byte, is_number_byte as number_byte};
-ghost use Rattle.sj_json.specs.Spelling.{is_blank as blank_byte};
 ghost use Rattle.sj_read.specs.Scans.{EndsPlain};
 
 use crate::plain::plain_end;
-
-// White space between tokens.
-#[inline(always)]
-pub(crate) fn is_blank(c: u8) -> bool
-    ensures { result ≡ blank_byte c }
-{
-    c == 32 || c == 9 || c == 10 || c == 13
-}
+use sj_base::is_blank;
 
 // The byte at the place, if it is no white space.
 #[inline(always)]

@@ -1,9 +1,11 @@
 -- What numbers stand for.
-use Rattle.std.proofs.Common.{◌≡◌, ◌≢◌, ℕ, zero, suc, ◌+◌, ◌*◌, ◌^◌, ◌<◌, ◌≤◌, inl, inr, Bool, true, false, cond, ◌&&◌, ◌==◌, nat_lt, nat_le, List, [], ◌∷◌, ◌++◌, length, get_or, take, drop, Option, Some, None, ℤ, pos, negsuc, ◌-ℤ◌, unsigned_abs, refl, sym, ap, subst, ◌∙◌, arith, ◌-◌, length-drop, length-take-le, take-add, eqb-true, ne_eqb, leb-true, ltb-true, le-leb, lt-ltb}
+use Rattle.std.proofs.Common.{◌≡◌, ◌≢◌, ℕ, zero, suc, ◌+◌, ◌*◌, ◌^◌, ◌<◌, ◌≤◌, inl, inr, Bool, true, false, cond, ◌&&◌, ◌==◌, List, [], ◌∷◌, ◌++◌, length, get_or, take, drop, Option, Some, None, ℤ, pos, negsuc, ◌-ℤ◌, refl, sym, ap, subst, ◌∙◌, arith, ◌-◌, length-drop, length-take-le, take-add, eqb-true, ne_eqb}
 use Rattle.std.proofs.lemmas.List.{append-nil}
 use Rattle.std.proofs.lemmas.Int.{ints}
 use Rattle.std.specs.List.{take_while, prefix_len}
 use Rattle.std.specs.Str.Parse.{AllDigits, digits_value}
+use Rattle.std.specs.Char.{is_ascii_digit}
+use Rattle.sj_base.specs.ByteClasses.{next_is_digit}
 use Rattle.sj_decimal.specs.declared.parsing.Parsed.{Parsed}
 use Rattle.sj_decimal.specs.declared.parsing.Parsed.TheVariants.{Exact, Wide, NotNumber}
 use Rattle.sj_decimal.specs.Parses.{ParsesAs}
@@ -11,38 +13,15 @@ use Rattle.sj_decimal.specs.Normal.{normal, IsExact}
 use Rattle.sj_decimal.specs.Number.{NumberParts, IsWhole, IsFraction, IsNumberOf, value_of as value_of_parts, shifted}
 use Rattle.sj_decimal.proofs.Digits.{digit_passed}
 use Rattle.sj_decimal.proofs.Readings.{read_parts_full}
-use Rattle.sj_decimal.proofs.NormalForm.{exact_from_limits, limits_from_exact}
+use Rattle.sj_decimal.proofs.Exactness.{exact_true, exact_false}
 use Rattle.sj_sql_token.specs.declared.piece.Piece.TheVariants as p
 use Rattle.sj_sql_token.specs.declared.token.Token.TheVariants as k
-use Rattle.sj_sql_token.specs.Bytes.{is_digit, next_is_digit}
-use Rattle.sj_sql_token.specs.Numbers.{is_exact, value_of, exact_of, pointed, fraction_of, fraction_len}
+use Rattle.sj_sql_token.specs.Numbers.{value_of, exact_of, pointed, fraction_of, fraction_len}
 use Rattle.sj_sql_token.specs.Tokens.{number_piece, number_at}
 use Rattle.sj_sql_token.proofs.Quotes.{slice_from}
 
 some_is : {A : Type 0} {a b : A} → Some a ≡ Some b → a ≡ b
 some_is e = cc
-
--- ---- exact numbers
-
-exact_true : (v : ℤ × ℕ) → IsExact v → is_exact v ≡ true
-exact_true v h =
-    let l = limits_from_exact v h in
-    ap (λ a. a && nat_le (normal v).1 38) (lt-ltb (unsigned_abs (normal v).0) (10 ^ 38) l.coefficient) ∙ le-leb (normal v).1 38 l.scale
-
-exact_is : (v : ℤ × ℕ) → is_exact v ≡ true → IsExact v
-exact_is v h = go (nat_lt (unsigned_abs (normal v).0) (10 ^ 38)) (nat_le (normal v).1 38) refl refl h
-  where
-    go : (a b : Bool) → nat_lt (unsigned_abs (normal v).0) (10 ^ 38) ≡ a → nat_le (normal v).1 38 ≡ b → (a && b) ≡ true → IsExact v
-    go true true p q _ = exact_from_limits v (record { coefficient = ltb-true _ _ p; scale = leb-true _ _ q })
-    go true false p q x = absurd cc
-    go false b p q x = absurd cc
-
-exact_false : (v : ℤ × ℕ) → (IsExact v → ⊥) → is_exact v ≡ false
-exact_false v h = go (is_exact v) refl
-  where
-    go : (b : Bool) → is_exact v ≡ b → is_exact v ≡ false
-    go true e = absurd (h (exact_is v e))
-    go false e = e
 
 -- ---- zeros at the front
 
@@ -179,28 +158,28 @@ number_is digits w f n z r zeros split len whole fraction parse =
 
 -- ---- the digits at the front
 
-passes : (bs : List ℕ) → AllDigits 10 (take_while is_digit bs)
+passes : (bs : List ℕ) → AllDigits 10 (take_while is_ascii_digit bs)
 passes [] = tt
-passes (b ∷ bs) = go (is_digit b) refl (passes bs)
+passes (b ∷ bs) = go (is_ascii_digit b) refl (passes bs)
   where
-    go : (t : Bool) → is_digit b ≡ t → AllDigits 10 (take_while is_digit bs) → AllDigits 10 (take (cond t (1 + prefix_len is_digit bs) 0) (b ∷ bs))
-    go true e more = let one : 1 + prefix_len is_digit bs ≡ suc (prefix_len is_digit bs) = omega arith in
+    go : (t : Bool) → is_ascii_digit b ≡ t → AllDigits 10 (take_while is_ascii_digit bs) → AllDigits 10 (take (cond t (1 + prefix_len is_ascii_digit bs) 0) (b ∷ bs))
+    go true e more = let one : 1 + prefix_len is_ascii_digit bs ≡ suc (prefix_len is_ascii_digit bs) = omega arith in
         subst (λ n. AllDigits 10 (take n (b ∷ bs))) (sym one) (digit_passed b e, more)
     go false e more = tt
 
-pub whole_digits : (b : ℕ) (bs : List ℕ) → is_digit b ≡ true → AllDigits 10 (b ∷ take_while is_digit bs)
+pub whole_digits : (b : ℕ) (bs : List ℕ) → is_ascii_digit b ≡ true → AllDigits 10 (b ∷ take_while is_ascii_digit bs)
 whole_digits b bs e = (digit_passed b e, passes bs)
 
 pub fraction_digits : (bs : List ℕ) → AllDigits 10 (fraction_of bs)
 fraction_digits [] = tt
 fraction_digits (b ∷ bs) = go (b == 46 && next_is_digit bs)
   where
-    go : (t : Bool) → AllDigits 10 (cond t (take_while is_digit bs) [])
+    go : (t : Bool) → AllDigits 10 (cond t (take_while is_ascii_digit bs) [])
     go true = passes bs
     go false = tt
 
-run_some : (b : ℕ) (bs : List ℕ) → next_is_digit (b ∷ bs) ≡ true → prefix_len is_digit (b ∷ bs) ≡ suc (prefix_len is_digit bs)
-run_some b bs h = ap (λ t. cond t (1 + prefix_len is_digit bs) 0) h ∙ omega arith
+run_some : (b : ℕ) (bs : List ℕ) → next_is_digit (b ∷ bs) ≡ true → prefix_len is_ascii_digit (b ∷ bs) ≡ suc (prefix_len is_ascii_digit bs)
+run_some b bs h = ap (λ t. cond t (1 + prefix_len is_ascii_digit bs) 0) h ∙ omega arith
 
 -- a point and the digits behind it
 fraction_text : (bs : List ℕ) → take (fraction_len bs) bs ≡ pointed (fraction_of bs)
@@ -208,54 +187,54 @@ fraction_text [] = refl
 fraction_text (b ∷ bs) = go (b == 46) (next_is_digit bs) refl refl
   where
     by : (c : ℕ) (cs : List ℕ) → next_is_digit (c ∷ cs) ≡ true → b ≡ 46
-        → take (cond (length (take_while is_digit (c ∷ cs)) == 0) 0 (suc (length (take_while is_digit (c ∷ cs))))) (b ∷ c ∷ cs) ≡ pointed (take_while is_digit (c ∷ cs))
+        → take (cond (length (take_while is_ascii_digit (c ∷ cs)) == 0) 0 (suc (length (take_while is_ascii_digit (c ∷ cs))))) (b ∷ c ∷ cs) ≡ pointed (take_while is_ascii_digit (c ∷ cs))
     by c cs h point =
-        let n : prefix_len is_digit (c ∷ cs) ≡ suc (prefix_len is_digit cs) = run_some c cs h in
-        let len : length (take (prefix_len is_digit cs) cs) ≡ prefix_len is_digit cs = length_take_while cs in
+        let n : prefix_len is_ascii_digit (c ∷ cs) ≡ suc (prefix_len is_ascii_digit cs) = run_some c cs h in
+        let len : length (take (prefix_len is_ascii_digit cs) cs) ≡ prefix_len is_ascii_digit cs = length_take_while cs in
         subst (λ m. take (cond (length (take m (c ∷ cs)) == 0) 0 (suc (length (take m (c ∷ cs))))) (b ∷ c ∷ cs) ≡ pointed (take m (c ∷ cs))) (sym n)
-        (joined (length (take (prefix_len is_digit cs) cs)) len ∙ ap (λ x. x ∷ c ∷ take (prefix_len is_digit cs) cs) point)
+        (joined (length (take (prefix_len is_ascii_digit cs) cs)) len ∙ ap (λ x. x ∷ c ∷ take (prefix_len is_ascii_digit cs) cs) point)
       where
-        joined : (n : ℕ) → n ≡ prefix_len is_digit cs → take (cond (suc n == 0) 0 (suc (suc n))) (b ∷ c ∷ cs) ≡ b ∷ c ∷ take (prefix_len is_digit cs) cs
+        joined : (n : ℕ) → n ≡ prefix_len is_ascii_digit cs → take (cond (suc n == 0) 0 (suc (suc n))) (b ∷ c ∷ cs) ≡ b ∷ c ∷ take (prefix_len is_ascii_digit cs) cs
         joined n e = ap (λ t. take (cond t 0 (suc (suc n))) (b ∷ c ∷ cs)) (ne_eqb (suc n) 0 (λ q. absurd (omega arith))) ∙ ap (λ m. b ∷ c ∷ take m cs) e
 
-        length_take_while : (cs : List ℕ) → length (take (prefix_len is_digit cs) cs) ≡ prefix_len is_digit cs
+        length_take_while : (cs : List ℕ) → length (take (prefix_len is_ascii_digit cs) cs) ≡ prefix_len is_ascii_digit cs
         length_take_while [] = refl
-        length_take_while (c ∷ cs) = turn (is_digit c) (length_take_while cs)
+        length_take_while (c ∷ cs) = turn (is_ascii_digit c) (length_take_while cs)
           where
-            turn : (t : Bool) → length (take (prefix_len is_digit cs) cs) ≡ prefix_len is_digit cs
-                → length (take (cond t (1 + prefix_len is_digit cs) 0) (c ∷ cs)) ≡ cond t (1 + prefix_len is_digit cs) 0
-            turn true e = let one : 1 + prefix_len is_digit cs ≡ suc (prefix_len is_digit cs) = omega arith in
+            turn : (t : Bool) → length (take (prefix_len is_ascii_digit cs) cs) ≡ prefix_len is_ascii_digit cs
+                → length (take (cond t (1 + prefix_len is_ascii_digit cs) 0) (c ∷ cs)) ≡ cond t (1 + prefix_len is_ascii_digit cs) 0
+            turn true e = let one : 1 + prefix_len is_ascii_digit cs ≡ suc (prefix_len is_ascii_digit cs) = omega arith in
                 subst (λ m. length (take m (c ∷ cs)) ≡ m) (sym one) (ap suc e)
             turn false e = refl
 
     some : (bs : List ℕ) → next_is_digit bs ≡ true → b ≡ 46
-        → take (cond (length (take_while is_digit bs) == 0) 0 (suc (length (take_while is_digit bs)))) (b ∷ bs) ≡ pointed (take_while is_digit bs)
+        → take (cond (length (take_while is_ascii_digit bs) == 0) 0 (suc (length (take_while is_ascii_digit bs)))) (b ∷ bs) ≡ pointed (take_while is_ascii_digit bs)
     some [] h point = absurd cc
     some (c ∷ cs) h point = by c cs h point
 
     go : (s t : Bool) → (b == 46) ≡ s → next_is_digit bs ≡ t
-        → take (cond (length (cond (s && t) (take_while is_digit bs) []) == 0) 0 (suc (length (cond (s && t) (take_while is_digit bs) [])))) (b ∷ bs)
-        ≡ pointed (cond (s && t) (take_while is_digit bs) [])
+        → take (cond (length (cond (s && t) (take_while is_ascii_digit bs) []) == 0) 0 (suc (length (cond (s && t) (take_while is_ascii_digit bs) [])))) (b ∷ bs)
+        ≡ pointed (cond (s && t) (take_while is_ascii_digit bs) [])
     go true true e f = some bs f (eqb-true b 46 e)
     go true false e f = refl
     go false t e f = refl
 
-pub number_text : (b : ℕ) (bs : List ℕ) → take (prefix_len is_digit bs + fraction_len (drop (prefix_len is_digit bs) bs) + 1) (b ∷ bs)
-    ≡ (b ∷ take_while is_digit bs) ++ pointed (fraction_of (drop (prefix_len is_digit bs) bs))
+pub number_text : (b : ℕ) (bs : List ℕ) → take (prefix_len is_ascii_digit bs + fraction_len (drop (prefix_len is_ascii_digit bs) bs) + 1) (b ∷ bs)
+    ≡ (b ∷ take_while is_ascii_digit bs) ++ pointed (fraction_of (drop (prefix_len is_ascii_digit bs) bs))
 number_text b bs =
-    let n = prefix_len is_digit bs in
+    let n = prefix_len is_ascii_digit bs in
     let m = fraction_len (drop n bs) in
     let one : n + m + 1 ≡ suc (n + m) = omega arith in
     ap (λ k. take k (b ∷ bs)) one ∙ ap (λ x. b ∷ x) (take-add n m bs ∙ ap (λ x. take n bs ++ x) (fraction_text (drop n bs)))
 
 -- ---- the token of a number
 
-pub number_found : (b : ℕ) (bs bytes : List ℕ) (n m : ℕ) (r : Option (ℤ × ℕ)) → is_digit b ≡ true → bytes ≡ b ∷ bs → n ≡ prefix_len is_digit bs → n ≤ length bs
+pub number_found : (b : ℕ) (bs bytes : List ℕ) (n m : ℕ) (r : Option (ℤ × ℕ)) → is_ascii_digit b ≡ true → bytes ≡ b ∷ bs → n ≡ prefix_len is_ascii_digit bs → n ≤ length bs
     → m ≡ fraction_len (take (length bs - n) (drop n bs))
     → ((w f : List ℕ) → take (n + m + 1) bytes ≡ w ++ pointed f → length w ≡ n + 1 → AllDigits 10 w → AllDigits 10 f → r ≡ exact_of (value_of w f))
     → (number_piece r (fraction_of (drop n bs)) (n + m) ≡ number_at b bs) × (m ≡ fraction_len (drop n bs))
 number_found b bs bytes n m r digit split len within fraction read =
-    let w = b ∷ take_while is_digit bs in
+    let w = b ∷ take_while is_ascii_digit bs in
     let f = fraction_of (drop n bs) in
     let rest : m ≡ fraction_len (drop n bs) = fraction ∙ ap fraction_len (slice_from bs n) in
     let text : take (n + m + 1) bytes ≡ w ++ pointed f =

@@ -3,11 +3,11 @@ use Rattle.std.proofs.Common.{◌≡◌, ℕ, zero, suc, ◌+◌, ◌-◌, ◌<�
 use Rattle.std.specs.List.{take_while, prefix_len}
 use Rattle.std.specs.Str.{is_utf8}
 use Rattle.std.proofs.lemmas.Str.{is_utf8-from_IsUtf8}
+use Rattle.sj_base.specs.ByteClasses.{is_letter, is_word_byte}
 use Rattle.sj_sql_token.specs.declared.token.Token.{Token}
 use Rattle.sj_sql_token.specs.declared.token.Token.TheVariants as k
 use Rattle.sj_sql_token.specs.declared.piece.Piece.{Piece}
 use Rattle.sj_sql_token.specs.declared.piece.Piece.TheVariants as p
-use Rattle.sj_sql_token.specs.Bytes.{is_letter, is_word_byte}
 use Rattle.sj_sql_token.specs.Quotes.{undoubled, inside_len}
 use Rattle.sj_sql_token.specs.Tokens.{end, fault, next, behind_piece, piece_at, lexed_behind, lexed, string_piece, string_end, name_piece, name_end}
 use Rattle.sj_sql_token.proofs.Texts.{word_text}

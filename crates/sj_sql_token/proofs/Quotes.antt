@@ -5,7 +5,7 @@ use Rattle.std.specs.Str.{bytes_eq, IsUtf8, IsCharBoundary}
 use Rattle.std.proofs.lemmas.Str.{IsCharBoundary-after_ascii}
 use Rattle.std.proofs.lemmas.Slice.Eq.{bytes_eq-Decides}
 use Rattle.std.specs.List.{prefix_len}
-use Rattle.sj_sql_token.specs.Bytes.{next_is}
+use Rattle.sj_base.specs.ByteClasses.{next_is}
 use Rattle.sj_sql_token.specs.Quotes.{inside_len, undoubled, marks_len}
 
 -- ---- how far the inside reaches

@@ -3,7 +3,8 @@ use Rattle.std.proofs.Common.{◌≡◌, ℕ, zero, suc, ◌+◌, ◌<◌, ◌�
 use Rattle.std.specs.List.{take_while, prefix_len}
 use Rattle.std.specs.Str.{is_utf8, IsUtf8, IsAscii}
 use Rattle.std.proofs.lemmas.Str.{IsUtf8-from_is_utf8, is_utf8-from_IsUtf8, IsUtf8-from_ascii}
-use Rattle.sj_sql_token.specs.Bytes.{is_letter, is_digit, is_word_byte}
+use Rattle.std.specs.Char.{is_ascii_digit}
+use Rattle.sj_base.specs.ByteClasses.{is_letter, is_word_byte}
 
 pub is_text : (bs : List ℕ) → IsUtf8 bs → ◌≡◌ {A = Option (List ℕ)} (Some bs) (cond (is_utf8 bs) (Some bs) None)
 is_text bs u = ap (λ b. cond {A = Option (List ℕ)} b (Some bs) None) (sym (is_utf8-from_IsUtf8 bs u))
@@ -53,7 +54,7 @@ word_ascii b h = go (nat_le 128 b) refl
     go false q = omega (arith, leb-false 128 b q)
 
 letter_ascii : (b : ℕ) → is_letter b ≡ true → b < 128
-letter_ascii b h = word_ascii b (ap (λ x. x || is_digit b) h)
+letter_ascii b h = word_ascii b (ap (λ x. x || is_ascii_digit b) h)
 
 -- the bytes at the front that pass a test that no byte above 127 passes
 run_ascii : (test : ℕ → Bool) → ((b : ℕ) → test b ≡ true → b < 128) → (bs : List ℕ) → IsAscii (take_while test bs)

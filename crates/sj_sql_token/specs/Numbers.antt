@@ -1,13 +1,11 @@
 -- Numbers: digits, and then maybe a point and digits.
-use Rattle.std.specs.Prelude.{ℕ, suc, ◌^◌, Bool, ◌&&◌, ◌==◌, nat_lt, nat_le, ℤ, pos, unsigned_abs, List, [], ◌∷◌, ◌++◌, length, Option, Some, None, if◌then◌else◌}
+use Rattle.std.specs.Prelude.{ℕ, suc, ◌&&◌, ◌==◌, ℤ, pos, List, [], ◌∷◌, ◌++◌, length, Option, Some, None, if◌then◌else◌}
 use Rattle.std.specs.List.{take_while}
 use Rattle.std.specs.Str.Parse.{digits_value}
+use Rattle.std.specs.Char.{is_ascii_digit}
+use Rattle.sj_base.specs.ByteClasses.{next_is_digit}
 use Rattle.sj_decimal.specs.Normal.{normal}
-use Rattle.sj_sql_token.specs.Bytes.{is_digit, next_is_digit}
-
--- a number is exact where it has at most 38 digits and at most 38 decimals, without zeros at their ends
-abbrev pub is_exact : ℤ × ℕ → Bool
-is_exact v = nat_lt (unsigned_abs (normal v).0) (10 ^ 38) && nat_le (normal v).1 38
+use Rattle.sj_decimal.specs.Exact.{is_exact}
 
 -- the number that digits before and behind a point stand for
 abbrev pub value_of : List ℕ → List ℕ → ℤ × ℕ
@@ -25,7 +23,7 @@ pointed (b ∷ bs) = 46 ∷ b ∷ bs
 -- the digits behind a point, if they stand at the front
 abbrev pub fraction_of : List ℕ → List ℕ
 fraction_of [] = []
-fraction_of (b ∷ bs) = if b == 46 && next_is_digit bs then take_while is_digit bs else []
+fraction_of (b ∷ bs) = if b == 46 && next_is_digit bs then take_while is_ascii_digit bs else []
 
 -- how many bytes they have with the point
 abbrev pub fraction_len : List ℕ → ℕ

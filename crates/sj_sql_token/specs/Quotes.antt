@@ -1,6 +1,6 @@
 -- What stands between quotation marks, where a mark inside is written twice.
-use Rattle.sj_sql_token.specs.Bytes.{next_is}
 use Rattle.std.specs.Prelude.{ℕ, ◌+◌, ◌&&◌, ◌==◌, List, [], ◌∷◌, Option, Some, None, option_map, if◌then◌else◌}
+use Rattle.sj_base.specs.ByteClasses.{next_is}
 
 -- Behind an opening mark: how many bytes stand before the closing one, which is the first mark that no second one
 -- follows directly. Where there is none, the piece is not closed.

@@ -2,11 +2,12 @@
 use Rattle.std.specs.Prelude.{ℕ, zero, suc, ◌+◌, not, ◌&&◌, ◌==◌, ℤ, List, [], ◌∷◌, take, drop, Option, Some, None, if◌then◌else◌}
 use Rattle.std.specs.List.{take_while, prefix_len}
 use Rattle.std.specs.Str.{is_utf8}
+use Rattle.std.specs.Char.{is_ascii_digit}
+use Rattle.sj_base.specs.ByteClasses.{is_blank, is_letter, is_word_byte, next_is}
 use Rattle.sj_sql_token.specs.declared.token.Token.{Token}
 use Rattle.sj_sql_token.specs.declared.token.Token.TheVariants as k
 use Rattle.sj_sql_token.specs.declared.piece.Piece.{Piece}
 use Rattle.sj_sql_token.specs.declared.piece.Piece.TheVariants as p
-use Rattle.sj_sql_token.specs.Bytes.{is_blank, is_letter, is_digit, is_word_byte, next_is}
 use Rattle.sj_sql_token.specs.Keywords.{keyword_of}
 use Rattle.sj_sql_token.specs.Quotes.{inside_len, undoubled}
 use Rattle.sj_sql_token.specs.Numbers.{exact_of, value_of, fraction_of, fraction_len}
@@ -42,9 +43,9 @@ number_piece (Some d) (b ∷ bs) n = p.Token (k.Fraction d) n
 -- a number, of which b is the first digit
 abbrev pub number_at : ℕ → List ℕ → Piece
 number_at b bs =
-    let n = prefix_len is_digit bs in
+    let n = prefix_len is_ascii_digit bs in
     let fraction = fraction_of (drop n bs) in
-    number_piece (exact_of (value_of (b ∷ take_while is_digit bs) fraction)) fraction (n + fraction_len (drop n bs))
+    number_piece (exact_of (value_of (b ∷ take_while is_ascii_digit bs) fraction)) fraction (n + fraction_len (drop n bs))
 
 -- behind an opening mark: what is inside a string, and a quoted name, if it is closed
 abbrev pub string_end : List ℕ → Option ℕ
@@ -73,7 +74,7 @@ unfoldable pub piece_at : ℕ → List ℕ → Piece
 piece_at b bs =
     if is_blank b then p.Passed 0
     else (if is_letter b then word_at b bs
-    else (if is_digit b then number_at b bs
+    else (if is_ascii_digit b then number_at b bs
     else (if b == 39 then string_piece bs (string_end bs)
     else (if b == 34 then name_piece bs (name_end bs)
     else (if b == 45 && next_is 45 bs then comment_at bs

@@ -1,17 +1,18 @@
 //! Token by token.
 
 ghost use Rattle.std.specs.Prelude.{◌≡◌, ◌∷◌, ◌<◌, ◌≤◌, length, IsTrue};
-ghost use Rattle.sj_sql_token.specs.Bytes.{is_letter};
+ghost use Rattle.sj_base.specs.ByteClasses.{is_letter};
 ghost use Rattle.sj_sql_token.specs.Tokens as spec;
 ghost use Rattle.sj_sql_token.specs.Next.{IsNext, IsWithin};
 
-use crate::bytes::{is_blank, is_digit, is_letter, line_len, next_is, word_len};
+use crate::bytes::{line_len, word_len};
 use crate::number::number;
 use crate::piece::{Next, Piece};
 use crate::quoted::{Quoted, inside_len};
 use crate::token::{Token, Word};
 use crate::utf8::utf8;
 use crate::word::keyword;
+use sj_base::{is_blank, is_letter, next_is};
 
 /// The sign that a byte is.
 fn sign<'a>(b: u8) -> Piece<'a>
@@ -106,7 +107,7 @@ fn piece<'a>(bytes: &'a [u8], first: u8, after: &'a [u8]) -> Piece<'a>
         Piece::Passed(0)
     } else if is_letter(first) {
         word(bytes, first, after)
-    } else if is_digit(first) {
+    } else if first.is_ascii_digit() {
         number(bytes, first, after)
     } else if first == b'\'' {
         string(after)

@@ -3,14 +3,15 @@
 ghost use Rattle.std.specs.Prelude.{◌≡◌, ◌≤◌, ◌<◌, ◌+◌, ◌∷◌, ◌++◌, ◌==◌, ℕ, List, length, IsTrue};
 ghost use Rattle.std.specs.Str.Parse.{AllDigits};
 ghost use Rattle.std.specs.List.{prefix_len};
-ghost use Rattle.sj_sql_token.specs.Bytes.{is_digit};
+ghost use Rattle.std.specs.Char.{is_ascii_digit};
 ghost use Rattle.sj_sql_token.specs.Numbers as spec;
 ghost use Rattle.sj_sql_token.specs.Tokens.{number_at};
 ghost use Rattle.sj_sql_token.specs.Next.{IsWithin};
 
-use crate::bytes::{digits_len, next_is_digit};
+use crate::bytes::digits_len;
 use crate::piece::Piece;
 use crate::token::Token;
+use sj_base::next_is_digit;
 use sj_decimal::{Decimal, Parsed};
 
 /// How many bytes a point and the digits behind it have at the front.
@@ -48,7 +49,7 @@ fn number_of(digits: &[u8], whole: usize) -> Option<Decimal>
 /// The longest number at the front of `bytes`, of which `after` are all but the first, a digit.
 pub(crate) fn number<'a>(bytes: &[u8], first: u8, after: &[u8]) -> Piece<'a>
     requires bytes { bytes.now ≡ first ∷ after.now }
-    requires digit { IsTrue (is_digit first) }
+    requires digit { IsTrue (is_ascii_digit first) }
     ensures value { result ≡ number_at first after.now }
     ensures within { IsWithin (length after.now) result }
 {

@@ -4,8 +4,7 @@ ghost use Rattle.std.specs.Prelude.{◌≡◌, ◌≤◌, ◌<◌, ◌==◌, not
 ghost use Rattle.std.specs.List.{prefix_len};
 ghost use Rattle.sj_sql_token.specs.Quotes as spec;
 
-use crate::bytes::next_is;
-use sj_base::{Memory, Text};
+use sj_base::{Memory, Text, next_is};
 use std::alloc::Global;
 use std::marker::Model;
 

@@ -1,5 +1,6 @@
 -- The grammar on examples: what the tokens of statements are read as; above each stands its text. Reading finds exactly the trees of the grammar.
 use Rattle.std.proofs.Common.{◌≡◌, ℕ, Bool, true, false, List, [], ◌∷◌, Option, Some, None, pos, negsuc, codes, refl}
+use Rattle.sj_base.specs.Options.{◌>>=◌}
 use Rattle.sj_grammar.specs.declared.tree.Literal.TheVariants as l
 use Rattle.sj_value.specs.declared.types.SqlType.TheVariants as sql
 use Rattle.sj_value.specs.declared.clauses.Wrapper.TheVariants as wrapper
@@ -21,7 +22,7 @@ use Rattle.sj_statement.specs.declared.clauses.Quotes.TheVariants as quotes
 use Rattle.sj_statement.specs.declared.clauses.InOut.TheVariants as in_out
 use Rattle.sj_statement.specs.declared.clauses.Siblings.TheVariants as siblings
 use Rattle.sj_statement.specs.Tree.{PathText, Written, OfName, Common, Value, Lit, Column, Exists, ValueOf, Query, IsJson, Object, Array, NoValues, MoreValues, NoMembers, MoreMembers, Single, ArrayAgg, ObjectAgg, Ordinality, Regular, Formatted, Existence, Nested, Columns, Last, More, NamedPlan, PathOf, Outer, Inner, Union, Cross, PlanTree, Default, Named, Statement, Plain, All, Listed}
-use Rattle.sj_statement.specs.Phrases.{Tokens, literal_at, type_from, type_at, encoding_at, format_at, passed_at, exists_clause_at, returning_at, value_clause_at, query_clause_at, wrapper_at, quotes_at, not_at, unique_at, nulls_at, alias_at, table_alias_at, path_name_at, path_at, nested_path_at, formatted_at, existence_at, table_clause_at, default_at, ◌>>=◌}
+use Rattle.sj_statement.specs.Phrases.{Tokens, literal_at, type_from, type_at, encoding_at, format_at, passed_at, exists_clause_at, returning_at, value_clause_at, query_clause_at, wrapper_at, quotes_at, not_at, unique_at, nulls_at, alias_at, table_alias_at, path_name_at, path_at, nested_path_at, formatted_at, existence_at, table_clause_at, default_at}
 use Rattle.sj_statement.specs.Notes.{written}
 use Rattle.sj_statement.specs.Reading.{list_from, document_at, passing_at, kind_at, is_json_at, plan_parens_at, plan_prim_at, union_from, cross_from, joined_at, named_plan_at, plan_over, plan_expr_at, plan_at, common_at, exists_from, value_from, query_from, values_from, member_value_at, keyed_at, valued_at, member_at, members_from, members_to_end, object_from, values_to_end, array_from, asking_at, value_over, value_at, regular_at, formatted_from, existence_from, named_column_at, nested_from, column_at, columns_from, columns_over, columns_at, row_path_at, table_at, plain_item_at, array_agg_from, object_agg_from, row_item_at, listed_item_at, items_from, all_at, listed_at, plain_at, select_at}
 

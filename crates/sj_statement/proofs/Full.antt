@@ -1,5 +1,6 @@
 -- What is in the grammar is read, whatever follows it, if that does not go on with it.
 use Rattle.std.proofs.Common.{◌≡◌, ℕ, zero, suc, ◌<◌, ◌≤◌, Bool, true, false, cond, List, ◌∷◌, length, Option, Some, None, refl, ap, arith}
+use Rattle.sj_base.specs.Options.{◌>>=◌}
 use Rattle.sj_grammar.specs.declared.tree.Literal.{Literal}
 use Rattle.sj_value.specs.declared.clauses.QueryAction.TheVariants as on_query
 use Rattle.sj_value.specs.declared.clauses.JsonKind.{JsonKind}
@@ -14,7 +15,7 @@ use Rattle.sj_statement.specs.declared.clauses.Quotes.TheVariants as quotes
 use Rattle.sj_statement.specs.declared.clauses.IsJsonCall.{IsJsonCall}
 use Rattle.sj_statement.specs.Tree as t
 use Rattle.sj_statement.specs.Tree.{PathText, Common, ExistsCall, ValueCall, QueryCall, Value, Values, Members, Item, ColumnOf, Columns, NamedPlan, PlanTree, Table, Statement}
-use Rattle.sj_statement.specs.Phrases.{Tokens, Phrase, ◌>>=◌, if_some, word, close_at, comma_at, constant_of, literal_at, type_at, format_at, passed_at, exists_clause_at, returning_at, value_clause_at, query_clause_at, wrapper_at, quotes_at, not_at, meant, kind_of, unique_at, unique_of, nulls_of, quotes_of, nulls_at}
+use Rattle.sj_statement.specs.Phrases.{Tokens, Phrase, if_some, word, close_at, comma_at, constant_of, literal_at, type_at, format_at, passed_at, exists_clause_at, returning_at, value_clause_at, query_clause_at, wrapper_at, quotes_at, not_at, meant, kind_of, unique_at, unique_of, nulls_of, quotes_of, nulls_at}
 use Rattle.sj_statement.specs.Grammar as g
 use Rattle.sj_statement.specs.Grammar.{IsOptional, IsPassedOver, IsList, IsDocument, IsPassed, IsPassing, IsCommon, IsExistsCall, IsValueCall, IsQueryCall, IsKind, IsOwnUnique, IsIsJson, Source, document, row, IsValue, IsValues, IsMember, IsMembers, IsColumnPath, IsColumn, IsColumns, IsColumnList, IsPlanExpr, IsUnion, IsCross, IsPlanPrim, operators, IsPlan, IsTable, IsPlainItem, IsRowItem, IsListedItem, IsSelect}
 use Rattle.sj_statement.specs.Notes.{Notes, common_with, value_with, values_with, members_with, note_type, note_common, note_value, note_values, note_members, exists_with, value_call_with, query_with}

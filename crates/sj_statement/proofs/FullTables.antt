@@ -1,5 +1,6 @@
 -- The same of tables and of whole statements.
 use Rattle.std.proofs.Common.{◌≡◌, ℕ, zero, suc, ◌≤◌, Bool, true, false, cond, le-leb, List, [], ◌∷◌, length, Option, Some, None, refl, sym, ap, ◌∙◌, arith}
+use Rattle.sj_base.specs.Options.{◌>>=◌}
 use Rattle.sj_grammar.specs.declared.tree.Literal.{Literal}
 use Rattle.sj_value.specs.declared.clauses.Wrapper.TheVariants as wrapper
 use Rattle.sj_value.specs.declared.clauses.QueryAction.TheVariants as on_query
@@ -11,7 +12,7 @@ use Rattle.sj_statement.specs.declared.clauses.Passed.{Passed}
 use Rattle.sj_statement.specs.declared.clauses.ValueDo.TheVariants as on_value
 use Rattle.sj_statement.specs.declared.clauses.Quotes.TheVariants as quotes
 use Rattle.sj_statement.specs.Tree.{PathText, Written, Value, Item, ColumnOf, Columns, NamedPlan, PathOf, PlanTree, Table, Statement}
-use Rattle.sj_statement.specs.Phrases.{Tokens, Phrase, ◌>>=◌, word, close_at, comma_at, star_at, constant_of, literal_at, encoding_at, exists_clause_at, value_clause_at, query_clause_at, wrapper_at, quotes_at, meant, quotes_of, alias_at, table_alias_at, path_name_at, path_at, formatted_at, existence_at, table_action_of, table_clause_at}
+use Rattle.sj_statement.specs.Phrases.{Tokens, Phrase, word, close_at, comma_at, star_at, constant_of, literal_at, encoding_at, exists_clause_at, value_clause_at, query_clause_at, wrapper_at, quotes_at, meant, quotes_of, alias_at, table_alias_at, path_name_at, path_at, formatted_at, existence_at, table_action_of, table_clause_at}
 use Rattle.sj_statement.specs.Grammar as g
 use Rattle.sj_statement.specs.Grammar.{IsOptional, IsPassedOver, IsList, IsDocument, IsPassing, Source, document, row, IsValue, IsColumnPath, IsColumn, IsColumns, IsColumnList, IsPlanExpr, IsUnion, IsCross, IsPlanPrim, operators, IsPlan, IsTable, IsPlainItem, IsRowItem, IsListedItem, IsSelect}
 use Rattle.sj_statement.specs.Notes.{Notes, value_with, item_with, column_with, columns_with, table_with, plain_with, items_with, statement_with, note_encoding, note_value, note_item, note_column, note_columns, note_table, note_plain, note_items, note_statement}

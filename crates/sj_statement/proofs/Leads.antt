@@ -1,5 +1,6 @@
 -- The tokens with which a phrase begins, and what may follow what.
 use Rattle.std.proofs.Common.{◌≡◌, ℕ, Bool, true, false, cond, List, [], ◌∷◌, Option, Some, None, is_some, not, refl, sym, ap, subst, ◌∙◌}
+use Rattle.sj_base.specs.Options.{◌>>=◌}
 use Rattle.sj_grammar.specs.declared.tree.Literal.{Literal}
 use Rattle.sj_sql_token.specs.declared.token.Token.TheVariants as k
 use Rattle.sj_sql_token.specs.declared.keyword.Keyword.{Keyword}
@@ -8,7 +9,7 @@ use Rattle.sj_sql_token.specs.Keywords.{is_reserved}
 use Rattle.sj_sql_token.specs.Same.{same}
 use Rattle.sj_statement.specs.declared.clauses.TypeName.{TypeName}
 use Rattle.sj_statement.specs.Tree.{PathText, Value}
-use Rattle.sj_statement.specs.Phrases.{Tokens, Phrase, ◌>>=◌, if_some, word, open_at, close_at, comma_at, colon_at, star_at, string_at, name_at, doc_at, meant, constant_of, literal_at, varchar_at, type_from, type_at, encoding_at, on_at, exists_action_of, exists_clause_at, returning_at, value_action_of, value_action_at, value_clause_at, query_action_of, query_action_at, query_clause_at, wrapper_at, quotes_of, quotes_at, kind_of, unique_of, unique_at, nulls_of, nulls_at, alias_at, path_name_at, path_at, formatted_at, existence_at, table_action_of, table_clause_at}
+use Rattle.sj_statement.specs.Phrases.{Tokens, Phrase, if_some, word, open_at, close_at, comma_at, colon_at, star_at, string_at, name_at, doc_at, meant, constant_of, literal_at, varchar_at, type_from, type_at, encoding_at, on_at, exists_action_of, exists_clause_at, returning_at, value_action_of, value_action_at, value_clause_at, query_action_of, query_action_at, query_clause_at, wrapper_at, quotes_of, quotes_at, kind_of, unique_of, unique_at, nulls_of, nulls_at, alias_at, path_name_at, path_at, formatted_at, existence_at, table_action_of, table_clause_at}
 use Rattle.sj_statement.specs.Grammar as g
 use Rattle.sj_statement.specs.Grammar.{IsOptional, IsPassedOver, Source, document, row, IsValue, IsIsJson, IsExistsCall, IsValueCall, IsQueryCall}
 use Rattle.sj_statement.specs.Reading.{begins_value}

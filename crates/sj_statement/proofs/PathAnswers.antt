@@ -18,68 +18,10 @@ use Rattle.sj_grammar.specs.Reading.{path_at}
 use Rattle.sj_grammar.specs.Answers.{Spells, Accepts, Refuses}
 use Rattle.sj_grammar.specs.Accepted.{is_deep_at, is_deep_within, is_too_deep}
 use Rattle.sj_grammar.proofs.Paths.{path_full, path_sound}
-use Rattle.sj_grammar.proofs.Acceptance.{accepted_is}
+use Rattle.sj_grammar.proofs.Acceptance.{too_deep_found, too_deep_missed, accepted_is}
 use Rattle.sj_grammar.proofs.Laws as laws
 use Rattle.sj_statement.specs.PathAnswers.{if_supported, if_spelled, of_tokens, path_answer}
 use Rattle.sj_statement.proofs.Words.{some_is}
-
--- ---- the test of depth
-
-lt_from : (m n : ℕ) → nat_lt m n ≡ true → m < n
-lt_from m n h = grind (arith, nat_tests)
-
-lt_not : (m n : ℕ) → nat_lt m n ≡ false → m < n → ⊥
-lt_not m n h l = grind (arith, nat_tests)
-
-or_cases : (a b : Bool) → a || b ≡ true → (a ≡ true) ⊎ (b ≡ true)
-or_cases true b h = inl refl
-or_cases false b h = inr h
-
-or_left : (a b : Bool) → a || b ≡ false → a ≡ false
-or_left true b h = cc
-or_left false b h = refl
-
-or_right : (a b : Bool) → a || b ≡ false → b ≡ false
-or_right true b h = cc
-or_right false b h = h
-
-deep_found : (ts : Tokens) (n : ℕ) → is_deep_within ts n ≡ true → OpensTooMany ts
-unfolding is_deep_within
-deep_found ts zero h = (0, lt_from _ _ h)
-deep_found ts (suc n) h = elim (or_cases (is_deep_at ts (suc n)) (is_deep_within ts n) h) [ inl here ↦ (suc n, lt_from _ _ here) | inr before ↦ deep_found ts n before ]
-
-deep_step : (ts : Tokens) (n m : ℕ) → is_deep_at ts (suc n) ≡ false → (m ≤ n → ⊥) → m ≤ suc n → IsDeepAt ts m → ⊥
-deep_step ts n m here before le d = go (nat_le m n) refl
-  where
-    go : (b : Bool) → nat_le m n ≡ b → ⊥
-    go true e = before (grind (arith, nat_tests))
-    go false e = let is : m ≡ suc n = grind (arith, nat_tests) in lt_not _ _ here (subst (λ (k : ℕ). IsDeepAt ts k) is d)
-
-deep_missed : (ts : Tokens) (n : ℕ) → is_deep_within ts n ≡ false → (m : ℕ) → m ≤ n → IsDeepAt ts m → ⊥
-unfolding is_deep_within
-deep_missed ts zero h m le d = let is : m ≡ 0 = omega arith in lt_not _ _ h (subst (λ (k : ℕ). IsDeepAt ts k) is d)
-deep_missed ts (suc n) h m le d =
-    deep_step ts n m (or_left (is_deep_at ts (suc n)) (is_deep_within ts n) h) (λ small. deep_missed ts n (or_right (is_deep_at ts (suc n)) (is_deep_within ts n) h) m small d) le d
-
-deep_anywhere : (ts : Tokens) → is_deep_within ts (length ts) ≡ false → (m : ℕ) → IsDeepAt ts m → ⊥
-deep_anywhere ts h m d = go (nat_le m (length ts)) refl
-  where
-    go : (b : Bool) → nat_le m (length ts) ≡ b → ⊥
-    go true e = deep_missed ts (length ts) h m (grind (arith, nat_tests)) d
-    go false e =
-        let long : length ts ≤ m = grind (arith, nat_tests) in
-        let same : take m ts ≡ take (length ts) ts = take_all m ts long ∙ sym (take-length ts) in
-        deep_missed ts (length ts) h (length ts) (omega arith) (subst (λ (us : Tokens). count_by is_closing us + 64 < count_by is_opening us) same d)
-
-too_deep_found : (ts : Tokens) → is_too_deep ts ≡ true → IsTooDeep ts
-too_deep_found ts h = elim (or_cases (is_deep_within ts (length ts)) (nat_lt 256 (count_by is_counted ts)) h) [
-  | inl deep ↦ inl (deep_found ts (length ts) deep)
-  | inr many ↦ inr (lt_from _ _ many)
-]
-
-too_deep_missed : (ts : Tokens) → is_too_deep ts ≡ false → IsTooDeep ts → ⊥
-too_deep_missed ts h (inl deep) = deep_anywhere ts (or_left (is_deep_within ts (length ts)) (nat_lt 256 (count_by is_counted ts)) h) deep.0 deep.1
-too_deep_missed ts h (inr many) = lt_not _ _ (or_right (is_deep_within ts (length ts)) (nat_lt 256 (count_by is_counted ts)) h) many
 
 -- ---- what is answered holds
 

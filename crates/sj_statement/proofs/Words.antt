@@ -1,10 +1,11 @@
 -- What was read meets a fact, and how that follows step by step.
 use Rattle.std.proofs.Common.{◌≡◌, ℕ, Bool, true, false, cond, List, [], ◌∷◌, Option, Some, None, refl, sym, ap, subst, ◌∙◌}
+use Rattle.sj_base.specs.Options.{◌>>=◌}
 use Rattle.sj_sql_token.specs.declared.token.Token.TheVariants as k
 use Rattle.sj_sql_token.specs.declared.keyword.Keyword.{Keyword}
 use Rattle.sj_sql_token.specs.Same.{same}
 use Rattle.sj_sql_token.proofs.Keywords.{same_is}
-use Rattle.sj_statement.specs.Phrases.{Tokens, ◌>>=◌, if_some, word}
+use Rattle.sj_statement.specs.Phrases.{Tokens, if_some, word}
 
 -- what is there, if anything is, meets P
 pub record If {B : Type 0} (P : B → Type 0) (o : Option B) : Type 0 where

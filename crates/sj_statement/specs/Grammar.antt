@@ -2,6 +2,7 @@
 -- begin with a spelling of the value v, and that rest follows it; the others say the same of theirs. A rule goes from list to list,
 -- phrase by phrase, in the order of the text.
 use Rattle.std.specs.Prelude.{◌≡◌, ℕ, ◌+◌, ◌<◌, ◌≤◌, Bool, true, false, List, [], ◌∷◌, take, Option, Some, None, count_by}
+use Rattle.sj_base.specs.Nesting.{LeavesOpen, NestsTooDeep}
 use Rattle.sj_grammar.specs.declared.tree.Literal.{Literal}
 use Rattle.sj_value.specs.declared.types.SqlType.TheVariants as sql
 use Rattle.sj_value.specs.declared.clauses.Wrapper.{Wrapper}
@@ -277,13 +278,11 @@ abbrev pub is_close : Token → Bool
 is_close k.Close = true
 is_close _ = false
 
--- the first n tokens leave more than 64 parentheses open
 abbrev pub IsDeepAt : Tokens → ℕ → Type 0
-IsDeepAt ts n = count_by is_close (take n ts) + 64 < count_by is_open (take n ts)
+IsDeepAt ts n = LeavesOpen is_open is_close ts n
 
--- some prefix does
 abbrev pub IsTooDeep : Tokens → Type 0
-IsTooDeep ts = (n : ℕ) × IsDeepAt ts n
+IsTooDeep ts = NestsTooDeep is_open is_close ts
 
 -- statement = "SELECT" sitem { "," sitem } | "SELECT" "*" "FROM" table | "SELECT" titem { "," titem } "FROM" table,
 -- where the tokens are those of one statement, without its semicolon

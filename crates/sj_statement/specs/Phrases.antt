@@ -2,6 +2,7 @@
 -- passed where they stand. `None` means that the phrase does not stand there.
 use Rattle.std.specs.Prelude.{ℕ, Bool, true, false, ◌&&◌, nat_le, List, [], ◌∷◌, Option, Some, None, ℤ, neg_ℤ, unsigned_abs, codes, if◌then◌else◌}
 use Rattle.std.specs.Str.{bytes_eq}
+use Rattle.sj_base.specs.Options.{◌>>=◌}
 use Rattle.sj_grammar.specs.declared.tree.Literal.{Literal}
 use Rattle.sj_grammar.specs.declared.tree.Literal.TheVariants as l
 use Rattle.sj_value.specs.declared.types.SqlType.TheVariants as sql
@@ -44,11 +45,6 @@ Tokens = List Token
 -- what stands there, and what follows it
 abbrev pub Phrase : Type 0 → Type 0
 Phrase A = Tokens → Option (A × Tokens)
-
-infixl 10 ◌>>=◌
-abbrev pub ◌>>=◌ : {A B : Type 0} → Option A → (A → Option B) → Option B
-None >>= f = None
-(Some x) >>= f = f x
 
 -- goes on by f where there is something, and else by the last
 abbrev pub if_some : {A B : Type 0} → Option A → (A → B) → B → B

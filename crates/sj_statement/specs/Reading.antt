@@ -1,6 +1,7 @@
 -- Reading the tokens of a statement from left to right, with no way back. `None` means that no tree begins there. What is noted
 -- of the tree is handed on from part to part.
 use Rattle.std.specs.Prelude.{ℕ, zero, suc, Bool, true, false, not, ◌||◌, nat_le, List, [], ◌∷◌, length, Option, Some, None, is_some, if◌then◌else◌}
+use Rattle.sj_base.specs.Options.{◌>>=◌}
 use Rattle.sj_value.specs.declared.types.SqlType.TheVariants as sql
 use Rattle.sj_value.specs.declared.clauses.Wrapper.TheVariants as wrapper
 use Rattle.sj_value.specs.declared.clauses.QueryAction.TheVariants as on_query
@@ -23,7 +24,7 @@ use Rattle.sj_statement.specs.declared.clauses.IsJsonCall.{IsJsonCall}
 use Rattle.sj_statement.specs.declared.clauses.InOut.TheVariants as in_out
 use Rattle.sj_statement.specs.declared.clauses.Siblings.TheVariants as siblings
 use Rattle.sj_statement.specs.Tree.{PathText, Written, OfName, Common, Value, Lit, Column, Exists, ValueOf, Query, IsJson, Object, Array, Values, NoValues, MoreValues, Members, NoMembers, MoreMembers, Item, Single, ArrayAgg, ObjectAgg, ColumnOf, Ordinality, Regular, Formatted, Existence, Nested, Columns, Last, More, NamedPlan, PathOf, Outer, Inner, Union, Cross, PlanTree, Default, Named, Table, Statement, Plain, All, Listed}
-use Rattle.sj_statement.specs.Phrases.{Tokens, Phrase, ◌>>=◌, if_some, word, open_at, close_at, comma_at, colon_at, star_at, string_at, name_at, doc_at, literal_at, type_at, encoding_at, format_at, passed_at, exists_clause_at, returning_at, value_clause_at, query_clause_at, wrapper_at, quotes_at, not_at, meant, kind_of, unique_at, nulls_at, alias_at, table_alias_at, path_name_at, path_at, nested_path_at, formatted_at, existence_at, table_clause_at, default_at}
+use Rattle.sj_statement.specs.Phrases.{Tokens, Phrase, if_some, word, open_at, close_at, comma_at, colon_at, star_at, string_at, name_at, doc_at, literal_at, type_at, encoding_at, format_at, passed_at, exists_clause_at, returning_at, value_clause_at, query_clause_at, wrapper_at, quotes_at, not_at, meant, kind_of, unique_at, nulls_at, alias_at, table_alias_at, path_name_at, path_at, nested_path_at, formatted_at, existence_at, table_clause_at, default_at}
 use Rattle.sj_statement.specs.Grammar.{Source, document, row, operators}
 use Rattle.sj_statement.specs.Notes.{Notes, note_encoding, note_type}
 

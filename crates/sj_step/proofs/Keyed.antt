@@ -3,7 +3,7 @@ use Rattle.std.proofs.Common.{◌≡◌, ℕ, suc, ◌-◌, ◌<◌, List, [], �
 use Rattle.sj_json.specs.Tree.{Tree}
 use Rattle.sj_doc.specs.Keyed.{is_key, from_key}
 use Rattle.sj_grammar.specs.declared.tree.Mode.{Mode}
-use Rattle.sj_step.specs.Reach.{child_item, is_under, under_key, members_end}
+use Rattle.sj_step.specs.Reach.{child_item, under_key, members_end}
 use Rattle.sj_grammar.specs.declared.tree.Mode.TheVariants.{Lax, Strict}
 use Rattle.sj_base.specs.Outside.{raised}
 use Rattle.sj_item.specs.Items.{gives}
@@ -13,10 +13,6 @@ use Rattle.sj_step.proofs.Traces.{first-pay, rest-pay, fore-pay}
 
 abbrev Named : Type 0
 Named = Option (List ℕ) × ℕ × Tree
-
-same_key : (key : List ℕ) (k : Option (List ℕ)) → is_under key k ≡ is_key key k
-same_key key None = refl
-same_key key (Some k) = refl
 
 chosen : (key : List ℕ) (x : Bool) (d : Named) (cs ds : List Named) → is_key key d.0 ≡ x → from_key key (d ∷ cs) ≡ ds → (if x then d ∷ cs else from_key key cs) ≡ ds
 chosen key x d cs ds e f = sym (ap (λ (b : Bool). if b then d ∷ cs else from_key key cs) e) ∙ f
@@ -29,7 +25,7 @@ given mode key c ms = give (child_item c).1 (left mode key true ms)
 
 turn : (mode : Mode) (key : List ℕ) (found : Bool) (x : Bool) (d : Named) (cs : List Named) → is_key key d.0 ≡ x
     → left mode key found (d ∷ cs) ≡ visit (if x then give (child_item d).1 (left mode key true cs) else left mode key found cs)
-turn mode key found x d cs e = ap (λ (b : Bool). visit (if b then give (child_item d).1 (left mode key true cs) else left mode key found cs)) (same_key key d.0 ∙ e)
+turn mode key found x d cs e = ap (λ (b : Bool). visit (if b then give (child_item d).1 (left mode key true cs) else left mode key found cs)) e
 
 module _ (mode : Mode) (key : List ℕ) (found : Bool) (c : Named) (ms : List Named) where
   fewer_by : (x : Bool) (d : Named) (cs : List Named) → is_key key d.0 ≡ x → from_key key (d ∷ cs) ≡ c ∷ ms → (from_key key cs ≡ c ∷ ms → length ms < length cs) → length ms < suc (length cs)

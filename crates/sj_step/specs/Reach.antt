@@ -1,10 +1,10 @@
 -- An accessor on one item (ISO/IEC 9075-2, path accessors), and the unwrapping of one item.
 use Rattle.std.specs.Prelude.{ℕ, ◌+◌, List, [], ◌∷◌, map, length, codes, slice_range, Bool, true, false, ◌||◌, ◌&&◌, if◌then◌else◌, Option, Some, None, ℤ, pos, ◌-ℤ◌, unsigned_abs, int_lt, int_le}
 use Rattle.std.specs.Int.{int_min, int_max}
-use Rattle.std.specs.Str.{bytes_eq}
 use Rattle.sj_base.specs.declared.state.State.{State}
 use Rattle.sj_base.specs.declared.state.State.TheVariants.{S22033, S22039, S2203A, S2203C}
 use Rattle.sj_json.specs.Tree.{Tree, children, numbered}
+use Rattle.sj_doc.specs.Keyed.{is_key}
 use Rattle.sj_doc.specs.Kinds.{kind_of}
 use Rattle.sj_doc.specs.declared.node.Kind.{Kind}
 use Rattle.sj_doc.specs.declared.node.Kind.TheVariants as kinds
@@ -71,10 +71,6 @@ abbrev pub every : ℕ → List Child → Trace
 every n [] = stop
 every n (c ∷ cs) = pay n (give c.1 (every n cs))
 
-abbrev pub is_under : List ℕ → Option (List ℕ) → Bool
-is_under key None = false
-is_under key (Some k) = bytes_eq k key
-
 -- the end of a walk over members: in strict mode one under the key is to be found
 abbrev pub members_end : Mode → Bool → Trace
 members_end Lax found = stop
@@ -84,7 +80,7 @@ members_end Strict false = fail S2203A
 -- each child under the key is given; `found` says whether there was one before these
 abbrev pub under_key : ℕ → Mode → List ℕ → Bool → List Child → Trace
 under_key n mode key found [] = members_end mode found
-under_key n mode key found (c ∷ cs) = pay n (if is_under key c.0 then give c.1 (under_key n mode key true cs) else under_key n mode key found cs)
+under_key n mode key found (c ∷ cs) = pay n (if is_key key c.0 then give c.1 (under_key n mode key true cs) else under_key n mode key found cs)
 
 -- the children from the index i on and before the index j are given, behind visits for all that stand before
 abbrev pub between : ℕ → ℕ → List Child → Trace

@@ -2,7 +2,7 @@
 ghost use Rattle.std.specs.Prelude.{◌≡◌, ◌++◌, ◌<◌, ◌≤◌, length, take, slice_index, false, OnOk, OnErr};
 ghost use Rattle.std.specs.List.{flat_map};
 ghost use Rattle.std.specs.Char.{digit_char};
-ghost use Rattle.sj_json.specs.Strings.{is_plain};
+ghost use Rattle.sj_base.specs.ByteClasses.{is_plain};
 ghost use Rattle.sj_json.specs.Printing.{printed_byte, printed_string};
 ghost use Rattle.sj_text.specs.Prefixes.{AppendsPrefix};
 
@@ -49,18 +49,11 @@ fn plain_run(bytes: &[u8]) -> usize
     ensures stops { result < length bytes.now → is_plain (slice_index bytes.now result) ≡ false }
 {
     for (i, byte) in bytes.iter().enumerate() {
-        if !stands_for_itself(*byte) {
+        if !sj_base::is_plain(*byte) {
             return i;
         }
     }
     bytes.len()
-}
-
-// Whether a byte of a string is printed as it is.
-fn stands_for_itself(byte: u8) -> bool
-    ensures { result ≡ is_plain byte }
-{
-    byte != b'"' && byte != b'\\' && byte >= b' '
 }
 
 // Appends the escape of a byte that does not stand for itself, at once.

@@ -1,6 +1,6 @@
 -- What was read at the front of a text meets a fact, and how that follows step by step.
 use Rattle.std.proofs.Common.{◌≡◌, ℕ, Bool, true, false, cond, Option, Some, None, refl, ap, subst, ◌∙◌}
-use Rattle.sj_token.specs.Strings.{◌>>=◌}
+use Rattle.sj_base.specs.Options.{◌>>=◌}
 
 -- what was read, if anything was, meets P
 pub record IfCut {A : Type 0} (P : A → ℕ → Type 0) (o : Option (A × ℕ)) : Type 0 where

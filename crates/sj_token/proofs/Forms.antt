@@ -1,16 +1,18 @@
 -- What is read at the front of a text has the form of a token, and nothing longer there has one.
 use Rattle.std.proofs.Common.{◌≡◌, ℕ, zero, suc, ◌+◌, ◌<◌, ◌≤◌, ◌⊎◌, inl, inr, Bool, true, false, cond, ◌||◌, List, [], ◌∷◌, ◌++◌, length, take, Option, Some, refl, sym, ap, subst, ◌∙◌, arith, length-append, take_at, eqb-true, ◌==◌}
+use Rattle.std.specs.Char.{is_ascii_digit}
+use Rattle.sj_base.specs.ByteClasses.{is_letter, is_word_byte, next_is}
+use Rattle.sj_base.specs.Options.{◌>>=◌}
 use Rattle.sj_decimal.specs.declared.comparing.Compare.TheVariants as c
 use Rattle.sj_token.specs.declared.token.Token.{Token}
 use Rattle.sj_token.specs.declared.token.Token.TheVariants as k
-use Rattle.sj_token.specs.Bytes.{is_letter, is_digit, is_word_byte}
 use Rattle.sj_token.specs.Words as w
 use Rattle.sj_token.specs.Words.{AllPass, IsWord, keyword_of}
-use Rattle.sj_token.specs.Strings.{◌>>=◌, IsInside}
+use Rattle.sj_token.specs.Strings.{IsInside}
 use Rattle.sj_token.specs.Tokens as t
 use Rattle.sj_token.specs.Tokens.{IsSign, IsForm}
 use Rattle.sj_token.specs.Numbers.{IsNumeral}
-use Rattle.sj_token.specs.Reading.{next_is, run, single_sign, one, longer, sign_at, word_at, dollar_at, string_at, number_at, whole, form_from, form_at}
+use Rattle.sj_token.specs.Reading.{run, single_sign, one, longer, sign_at, word_at, dollar_at, string_at, number_at, whole, form_from, form_at}
 use Rattle.sj_token.proofs.Runs.{run_within, run_passes, run_longer}
 use Rattle.sj_token.proofs.Cuts.{IfCut, nothing, here, then, given, chosen, some_is, bind_is, cond_on, cond_off}
 use Rattle.sj_token.proofs.Inside.{InsideFront, inside_sound, inside_full}
@@ -70,7 +72,7 @@ sign_sound b bs =
 
 -- a letter and what may follow it
 word_front : (b : ℕ) (bs : List ℕ) → is_letter b ≡ true → IsWord (take (run is_word_byte (b ∷ bs)) (b ∷ bs))
-word_front b bs h = subst (λ n. IsWord (take n (b ∷ bs))) (sym (ap (λ x. cond (x || is_digit b) (suc (run is_word_byte bs)) 0) h)) (w.word h (run_passes is_word_byte bs))
+word_front b bs h = subst (λ n. IsWord (take n (b ∷ bs))) (sym (ap (λ x. cond (x || is_ascii_digit b) (suc (run is_word_byte bs)) 0) h)) (w.word h (run_passes is_word_byte bs))
 
 word_sound : (b : ℕ) (bs : List ℕ) → is_letter b ≡ true → IfCut (FormFront (b ∷ bs)) (word_at (b ∷ bs))
 unfolding word_at
@@ -111,7 +113,7 @@ unfolding form_from
 form_sound [] = nothing
 form_sound (b ∷ bs) =
     chosen (is_letter b) _ _ (λ h. word_sound b bs h) (λ _.
-    chosen (is_digit b) _ _ (λ h. number (number_at (b ∷ bs)) (numeral_sound b bs h)) (λ _.
+    chosen (is_ascii_digit b) _ _ (λ h. number (number_at (b ∷ bs)) (numeral_sound b bs h)) (λ _.
     chosen (b == 34) _ _ (λ h. subst (λ x. IfCut (FormFront (x ∷ bs)) (string_at bs)) (sym (eqb-true b 34 h)) (string_sound bs)) (λ _.
     chosen (b == 36) _ _ (λ h. subst (λ x. IfCut (FormFront (x ∷ bs)) (dollar_at bs)) (sym (eqb-true b 36 h)) (dollar_sound bs)) (λ _.
     then _ _ (sign_sound b bs) (λ u n _ p. here (record { within = p.0; fits = t.sign p.1 }))))))
@@ -163,14 +165,14 @@ root_full [] = inl refl
 root_full (b ∷ bs) = go (is_letter b) refl
   where
     long : is_letter b ≡ true → 1 < run is_word_byte (b ∷ bs) + 1
-    long h = let e = ap (λ x. cond (x || is_digit b) (suc (run is_word_byte bs)) 0) h in omega (arith, e)
+    long h = let e = ap (λ x. cond (x || is_ascii_digit b) (suc (run is_word_byte bs)) 0) h in omega (arith, e)
 
     go : (x : Bool) → is_letter b ≡ x → Found (cond x (Some (Some (k.Variable (take (run is_word_byte (b ∷ bs)) (b ∷ bs))), run is_word_byte (b ∷ bs) + 1)) (Some (Some k.Root, 1))) (Some k.Root) 1
     go true h = inr (Some (k.Variable (take (run is_word_byte (b ∷ bs)) (b ∷ bs))), run is_word_byte (b ∷ bs) + 1, refl, long h)
     go false h = inl refl
 
 letter_is_word_byte : (b : ℕ) → is_letter b ≡ true → is_word_byte b ≡ true
-letter_is_word_byte b h = ap (λ x. x || is_digit b) h
+letter_is_word_byte b h = ap (λ x. x || is_ascii_digit b) h
 
 -- a word is read, or a longer one
 word_run : {name : List ℕ} → AllPass is_word_byte name → (after : List ℕ) (make : List ℕ → Token)
@@ -195,7 +197,7 @@ make_word text = k.Word (keyword_of text) text
 letter_read : (b : ℕ) (bs : List ℕ) → is_letter b ≡ true → form_at (b ∷ bs) ≡ word_at (b ∷ bs)
 unfolding form_from
 letter_read b bs h =
-    cond_on (is_letter b) (word_at (b ∷ bs)) (cond (is_digit b) (number_at (b ∷ bs)) (cond (b == 34) (string_at bs) (cond (b == 36) (dollar_at bs) (sign_at b bs >>= whole)))) h refl
+    cond_on (is_letter b) (word_at (b ∷ bs)) (cond (is_ascii_digit b) (number_at (b ∷ bs)) (cond (b == 34) (string_at bs) (cond (b == 36) (dollar_at bs) (sign_at b bs >>= whole)))) h refl
 
 word_full : {text : List ℕ} → IsWord text → (after : List ℕ) → Found (form_at (text ++ after)) (Some (k.Word (keyword_of text) text)) (length text)
 unfolding word_at make_word
@@ -237,9 +239,9 @@ number_full : {digits : List ℕ} {o : Option Token} → IsNumeral digits o → 
 unfolding form_from
 number_full {digits} {o} d after = go digits refl (numeral_digit d)
   where
-    go : (ds : List ℕ) → digits ≡ ds → (b : ℕ) × (bs : List ℕ) × (ds ≡ b ∷ bs) × (is_letter b ≡ false) × (is_digit b ≡ true) → Found (form_at (digits ++ after)) o (length digits)
+    go : (ds : List ℕ) → digits ≡ ds → (b : ℕ) × (bs : List ℕ) × (ds ≡ b ∷ bs) × (is_letter b ≡ false) × (is_ascii_digit b ≡ true) → Found (form_at (digits ++ after)) o (length digits)
     go ds e q = subst (λ (r : Option (Option Token × ℕ)). Found r o (length digits))
-        (sym (ap (λ x. form_at (x ++ after)) (e ∙ q.2) ∙ cond_off (is_letter q.0) _ _ q.3 (cond_on (is_digit q.0) _ _ q.4 (ap (λ x. number_at (x ++ after)) (sym (e ∙ q.2))))))
+        (sym (ap (λ x. form_at (x ++ after)) (e ∙ q.2) ∙ cond_off (is_letter q.0) _ _ q.3 (cond_on (is_ascii_digit q.0) _ _ q.4 (ap (λ x. number_at (x ++ after)) (sym (e ∙ q.2))))))
         (numeral_full d after)
 
 pub form_full : {front : List ℕ} {o : Option Token} → IsForm front o → (after : List ℕ) → Found (form_at (front ++ after)) o (length front)

@@ -1,11 +1,13 @@
 -- What is read behind a quotation mark is the inside of a string, and each inside is read.
 use Rattle.std.proofs.Common.{◌≡◌, ℕ, zero, suc, ◌+◌, ◌≤◌, Bool, true, false, cond, List, [], ◌∷◌, ◌++◌, length, take, drop, Option, Some, None, refl, sym, ap, subst, ◌∙◌, arith, append_assoc, length-append, length-drop, take-add, drop_at, eqb-true, encode_utf8, ◌==◌, ◌&&◌}
-use Rattle.sj_token.specs.Bytes.{is_plain}
+use Rattle.std.specs.Char.Utf16.{is_low_surrogate, surrogate_pair_char}
+use Rattle.sj_base.specs.ByteClasses.{is_plain, next_is, letter_char}
+use Rattle.sj_base.specs.Options.{◌>>=◌}
 use Rattle.sj_token.specs.Words as w
 use Rattle.sj_token.specs.Words.{AllPass}
 use Rattle.sj_token.specs.Strings as s
-use Rattle.sj_token.specs.Strings.{◌>>=◌, IsEscape, IsInside, unit_of, is_high, is_low, paired, short_escape}
-use Rattle.sj_token.specs.Reading.{next_is, run, unit_at, low_at, character_at, escape_at, behind_run, behind, inside_from}
+use Rattle.sj_token.specs.Strings.{IsEscape, IsInside, unit_of}
+use Rattle.sj_token.specs.Reading.{run, unit_at, low_at, character_at, escape_at, behind_run, behind, inside_from}
 use Rattle.sj_token.proofs.Runs.{run_within, run_passes}
 use Rattle.sj_token.proofs.Cuts.{IfCut, nothing, here, then, given, chosen, some_is, bind_is, cond_on, cond_off}
 
@@ -24,12 +26,12 @@ record IsLowUnit (bs : List ℕ) (low : ℕ) : Type 0 where
   rest : List ℕ
   is : bs ≡ 92 ∷ 117 ∷ e ∷ f ∷ g ∷ h ∷ rest
   unit : unit_of e f g h ≡ Some low
-  is_low : is_low low ≡ true
+  is_low : is_low_surrogate low ≡ true
 
-low_unit : (x y low : ℕ) (bs : List ℕ) → x ≡ 92 → y ≡ 117 → (unit_at bs >>= λ low. cond (is_low low) (Some low) None) ≡ Some low → IsLowUnit (x ∷ y ∷ bs) low
+low_unit : (x y low : ℕ) (bs : List ℕ) → x ≡ 92 → y ≡ 117 → (unit_at bs >>= λ low. cond (is_low_surrogate low) (Some low) None) ≡ Some low → IsLowUnit (x ∷ y ∷ bs) low
 low_unit x y low (e ∷ f ∷ g ∷ h ∷ bs) p q r = go (unit_of e f g h) refl r
   where
-    pick : (u : ℕ) (b : Bool) → unit_of e f g h ≡ Some u → is_low u ≡ b → cond b (Some u) None ≡ Some low → IsLowUnit (x ∷ y ∷ e ∷ f ∷ g ∷ h ∷ bs) low
+    pick : (u : ℕ) (b : Bool) → unit_of e f g h ≡ Some u → is_low_surrogate u ≡ b → cond b (Some u) None ≡ Some low → IsLowUnit (x ∷ y ∷ e ∷ f ∷ g ∷ h ∷ bs) low
     pick u true a b r = record {
       e = e;
       f = f;
@@ -38,19 +40,19 @@ low_unit x y low (e ∷ f ∷ g ∷ h ∷ bs) p q r = go (unit_of e f g h) refl 
       rest = bs;
       is = ap (λ x. x ∷ y ∷ e ∷ f ∷ g ∷ h ∷ bs) p ∙ ap (λ y. 92 ∷ y ∷ e ∷ f ∷ g ∷ h ∷ bs) q;
       unit = a ∙ r;
-      is_low = subst (λ v. is_low v ≡ true) (some_is r) b;
+      is_low = subst (λ v. is_low_surrogate v ≡ true) (some_is r) b;
     }
     pick u false a b r = absurd cc
 
-    go : (o : Option ℕ) → unit_of e f g h ≡ o → (o >>= λ low. cond (is_low low) (Some low) None) ≡ Some low → IsLowUnit (x ∷ y ∷ e ∷ f ∷ g ∷ h ∷ bs) low
+    go : (o : Option ℕ) → unit_of e f g h ≡ o → (o >>= λ low. cond (is_low_surrogate low) (Some low) None) ≡ Some low → IsLowUnit (x ∷ y ∷ e ∷ f ∷ g ∷ h ∷ bs) low
     go None a r = absurd cc
-    go (Some u) a r = pick u (is_low u) a refl r
+    go (Some u) a r = pick u (is_low_surrogate u) a refl r
 low_unit x y low _ p q r = absurd cc
 
 low_is : (bs : List ℕ) (low : ℕ) → low_at bs ≡ Some low → IsLowUnit bs low
 low_is (x ∷ y ∷ bs) low r = go (x == 92) (y == 117) refl refl r
   where
-    go : (a b : Bool) → (x == 92) ≡ a → (y == 117) ≡ b → cond (a && b) (unit_at bs >>= λ low. cond (is_low low) (Some low) None) None ≡ Some low → IsLowUnit (x ∷ y ∷ bs) low
+    go : (a b : Bool) → (x == 92) ≡ a → (y == 117) ≡ b → cond (a && b) (unit_at bs >>= λ low. cond (is_low_surrogate low) (Some low) None) None ≡ Some low → IsLowUnit (x ∷ y ∷ bs) low
     go true true p q r = low_unit x y low bs (eqb-true x 92 p) (eqb-true y 117 q) r
     go true false p q r = absurd cc
     go false b p q r = absurd cc
@@ -59,7 +61,7 @@ low_is _ low r = absurd cc
 character_sound : (bs : List ℕ) → IfCut (EscapeFront (117 ∷ bs)) (character_at bs)
 character_sound (a ∷ b ∷ c ∷ d ∷ bs) = given _ _ (λ u p. chosen _ _ _
     (λ high. given _ _ (λ low q. let l = low_is bs low q in
-    here (subst (λ x. EscapeFront (117 ∷ a ∷ b ∷ c ∷ d ∷ x) (paired u low) 11) (sym l.is) (record { within = omega arith; fits = s.pair p high l.unit l.is_low }))))
+    here (subst (λ x. EscapeFront (117 ∷ a ∷ b ∷ c ∷ d ∷ x) (surrogate_pair_char u low) 11) (sym l.is) (record { within = omega arith; fits = s.pair p high l.unit l.is_low }))))
     (λ high. chosen _ _ _ (λ _. nothing) (λ low. here (record { within = omega arith; fits = s.unit p high low }))))
 character_sound _ = nothing
 
@@ -73,19 +75,19 @@ escape_sound (e ∷ bs) = chosen _ _ _
 abbrev short : ℕ → Option (ℕ × ℕ)
 short c = Some (c, 1)
 
-short_read : (e c : ℕ) (after : List ℕ) → short_escape e ≡ Some c → escape_at (e ∷ after) ≡ Some (c, 1)
+short_read : (e c : ℕ) (after : List ℕ) → letter_char e ≡ Some c → escape_at (e ∷ after) ≡ Some (c, 1)
 unfolding escape_at
 short_read e c after h = go (e == 117) refl
   where
     read : (o : Option ℕ) → o ≡ Some c → (o >>= short) ≡ Some (c, 1)
     read o q = ap (λ p. p >>= short) q
 
-    none_is : short_escape 117 ≡ Some c → ⊥
+    none_is : letter_char 117 ≡ Some c → ⊥
     none_is q = cc
 
-    go : (b : Bool) → (e == 117) ≡ b → cond b (character_at after) (short_escape e >>= short) ≡ Some (c, 1)
-    go true p = absurd (none_is (sym (ap short_escape (eqb-true e 117 p)) ∙ h))
-    go false p = read (short_escape e) h
+    go : (b : Bool) → (e == 117) ≡ b → cond b (character_at after) (letter_char e >>= short) ≡ Some (c, 1)
+    go true p = absurd (none_is (sym (ap letter_char (eqb-true e 117 p)) ∙ h))
+    go false p = read (letter_char e) h
 
 pub escape_full : {es : List ℕ} {c : ℕ} → IsEscape es c → (after : List ℕ) → escape_at (es ++ after) ≡ Some (c, length es)
 unfolding escape_at

@@ -1,18 +1,19 @@
 -- One more turn of a loop, beside a recursion on the turns that are left.
-use Rattle.std.proofs.Common.{◌≡◌, ◌≢◌, ℕ, zero, suc, ◌+◌, ◌-◌, ◌<◌, ◌≤◌, inl, inr, Bool, true, false, cond, ◌&&◌, ◌||◌, ◌==◌, nat_le, not, List, [], ◌∷◌, ◌++◌, length, get_or, take, drop, Option, Some, None, Result, Err, Vec, Global, encode_utf8, refl, sym, ap, subst, ◌∙◌, arith, append_assoc, length-drop, get_or-drop, drop-drop, leb-true, eqb-true, ne_eqb, le-leb, leb-false, length-take-le, get_or-take, take_all}
+use Rattle.std.proofs.Common.{◌≡◌, ◌≢◌, ℕ, zero, suc, ◌+◌, ◌-◌, ◌<◌, ◌≤◌, inl, inr, Bool, true, false, cond, ◌&&◌, ◌||◌, ◌==◌, nat_le, nat_lt, not, List, [], ◌∷◌, ◌++◌, length, get_or, take, drop, Option, Some, None, Result, Err, Vec, Global, encode_utf8, refl, sym, ap, subst, ◌∙◌, arith, append_assoc, length-drop, get_or-drop, drop-drop, leb-true, ltb-true, eqb-true, ne_eqb, leb-false, length-take-le, get_or-take, take_all}
 use Rattle.std.proofs.lemmas.List.{append-nil}
 use Rattle.std.specs.Str.{IsUtf8, IsCharBoundary}
 use Rattle.std.proofs.lemmas.Str.{IsCharBoundary-after_ascii}
-use Rattle.std.specs.Char.{digit_value}
+use Rattle.std.specs.Char.{digit_value, is_ascii_digit}
 use Rattle.std.specs.Fmt.{sign_text}
 use Rattle.std.specs.Str.Parse.{AllDigits, IsNumeral as IsDigits}
+use Rattle.sj_base.specs.ByteClasses.{is_blank, is_word_byte, is_plain, letter_char}
+use Rattle.sj_base.specs.Options.{◌>>=◌}
 use Rattle.sj_decimal.specs.Number.{NumberParts, IsFraction, IsExponent, IsNumberOf}
 use Rattle.sj_decimal.proofs.Digits.{digit_byte}
 use Rattle.sj_token.specs.declared.token.Token.{Token}
 use Rattle.sj_token.specs.declared.error.LexError.{LexError}
 use Rattle.sj_token.specs.declared.error.LexError.TheVariants as err
 use Rattle.sj_token.specs.Gives.{Gives}
-use Rattle.sj_token.specs.Bytes.{is_blank, is_digit, is_word_byte, is_plain}
 use Rattle.sj_token.specs.Words as w
 use Rattle.sj_token.specs.Words.{AllPass, IsWord}
 use Rattle.sj_token.specs.Numbers as n
@@ -20,7 +21,7 @@ use Rattle.sj_token.specs.Numbers.{IsNumeral}
 use Rattle.sj_token.specs.Tokens as t
 use Rattle.sj_token.specs.Tokens.{IsSign, IsForm, HasTokens}
 use Rattle.sj_token.specs.Strings as s
-use Rattle.sj_token.specs.Strings.{◌>>=◌, IsEscape, IsInside, hex_digit, unit_of, short_escape}
+use Rattle.sj_token.specs.Strings.{IsEscape, IsInside, hex_digit, unit_of}
 use Rattle.sj_token.specs.Reading.{run, escape_at, behind_run, behind, inside_from, form_from, form_at, exactly, token_at, lex_from}
 use Rattle.sj_token.proofs.Runs.{run_within, run_stops, run_boundary}
 use Rattle.sj_token.proofs.Cuts.{bind_is, bind_none, cond_on, cond_off}
@@ -37,11 +38,15 @@ plain_boundary bs n e = subst (IsCharBoundary bs) (sym e) (run_within is_plain b
     apart : true ≡ false → ⊥
     apart q = cc
 
+    above : (b : ℕ) → 128 ≤ b → (x : Bool) → nat_lt b 32 ≡ x → x ≡ false
+    above b h true e = absurd (omega (arith, ltb-true b 32 e))
+    above b h false e = refl
+
     passes : (b : ℕ) → 128 ≤ b → is_plain b ≡ true
     passes b h =
-        ap (λ x. x && not (b == 34) && not (b == 92)) (le-leb 32 b (omega arith))
-        ∙ ap (λ x. not x && not (b == 92)) (ne_eqb b 34 (λ q. absurd (omega arith)))
-        ∙ ap (λ x. not x) (ne_eqb b 92 (λ q. absurd (omega arith)))
+        ap (λ x. not (x || (b == 92) || nat_lt b 32)) (ne_eqb b 34 (λ q. absurd (omega arith)))
+        ∙ ap (λ x. not (x || nat_lt b 32)) (ne_eqb b 92 (λ q. absurd (omega arith)))
+        ∙ ap not (above b h (nat_lt b 32) refl)
 
 some_none : {A : Type 0} {a : A} → None ≡ Some a → ⊥
 some_none e = cc
@@ -83,13 +88,13 @@ nat_gt a b h = go (nat_le a b) refl
     go true q = absurd (omega (arith, leb-true a b q))
     go false q = q
 
-short_ascii : (e c : ℕ) → short_escape e ≡ Some c → e < 128
+short_ascii : (e c : ℕ) → letter_char e ≡ Some c → e < 128
 short_ascii e c h = go (nat_le 128 e) refl
   where
     other : (d : ℕ) → d < 128 → 128 ≤ e → (e == d) ≡ false
     other d below above = ne_eqb e d (λ q. absurd (omega arith))
 
-    none : 128 ≤ e → short_escape e ≡ None
+    none : 128 ≤ e → letter_char e ≡ None
     none above =
         cond_off (e == 34) _ _ (other 34 (omega arith) above) (cond_off (e == 92) _ _ (other 92 (omega arith) above) (cond_off (e == 47) _ _ (other 47 (omega arith) above)
         (cond_off (e == 98) _ _ (other 98 (omega arith) above) (cond_off (e == 102) _ _ (other 102 (omega arith) above) (cond_off (e == 110) _ _ (other 110 (omega arith) above)
@@ -401,7 +406,7 @@ sign_ends t.not = last (omega arith)
 sign_ends t.at = last (omega arith)
 
 word_ends : {name : List ℕ} → IsWord name → EndsAscii name
-word_ends (w.word {b = b} h p) = ends_pass word_ascii (word_ascii b (ap (λ x. x || is_digit b) h)) p
+word_ends (w.word {b = b} h p) = ends_pass word_ascii (word_ascii b (ap (λ x. x || is_ascii_digit b) h)) p
 
 numeral_ends : {digits : List ℕ} {o : Option Token} → IsNumeral digits o → EndsAscii digits
 numeral_ends (n.exact {digits = digits} m s) = number_ends s.spells.parts digits s.spells.number

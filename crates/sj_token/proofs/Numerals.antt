@@ -1,47 +1,26 @@
 -- The longest number at the front of a text, and what it stands for.
-use Rattle.std.proofs.Common.{◌≡◌, ◌≢◌, ℕ, zero, suc, ◌+◌, ◌^◌, ◌<◌, ◌≤◌, ◌⊎◌, inl, inr, Bool, true, false, cond, ◌&&◌, ◌||◌, ◌==◌, nat_le, nat_lt, List, [], ◌∷◌, ◌++◌, length, take, drop, Option, Some, None, ℤ, unsigned_abs, refl, sym, ap, subst, ◌∙◌, arith, append_assoc, length-append, length-drop, take-add, take_at, drop_at, eqb-true, leb-true, ltb-true, le-leb, lt-ltb, eq-eqb}
+use Rattle.std.proofs.Common.{◌≡◌, ◌≢◌, ℕ, zero, suc, ◌+◌, ◌<◌, ◌≤◌, ◌⊎◌, inl, inr, Bool, true, false, cond, ◌&&◌, ◌||◌, ◌==◌, nat_le, List, [], ◌∷◌, ◌++◌, length, take, drop, Option, Some, None, ℤ, refl, sym, ap, subst, ◌∙◌, arith, append_assoc, length-append, length-drop, take-add, take_at, drop_at, eqb-true, leb-true, eq-eqb}
 use Rattle.std.specs.Str.Parse.{AllDigits, IsNumeral as IsDigits}
-use Rattle.sj_decimal.specs.Normal.{normal, IsExact}
+use Rattle.std.specs.Char.{is_ascii_digit}
+use Rattle.sj_base.specs.ByteClasses.{is_letter, next_is, next_is_digit}
+use Rattle.sj_base.specs.Options.{◌>>=◌}
+use Rattle.sj_decimal.specs.Exact.{is_exact}
 use Rattle.sj_decimal.specs.Number.{NumberParts, IsWhole, IsFraction, IsExponentSign, IsWrittenExponent, IsExponent, IsNumberOf, value_of, SpellsNumber, IsNumber, SpellsExact, SpellsWide}
 use Rattle.sj_decimal.specs.Reading.{read_parts}
 use Rattle.sj_decimal.proofs.Digits.{digit_passes, digit_passed}
 use Rattle.sj_decimal.proofs.Readings.{read_parts_full, read_parts_sound}
-use Rattle.sj_decimal.proofs.NormalForm.{exact_from_limits, limits_from_exact}
+use Rattle.sj_decimal.proofs.Exactness.{exact_is, exact_true, exact_false}
 use Rattle.sj_token.specs.declared.token.Token.{Token}
 use Rattle.sj_token.specs.declared.token.Token.TheVariants as k
-use Rattle.sj_token.specs.Bytes.{is_letter, is_digit}
 use Rattle.sj_token.specs.Words as w
 use Rattle.sj_token.specs.Words.{AllPass}
-use Rattle.sj_token.specs.Strings.{◌>>=◌}
 use Rattle.sj_token.specs.Numbers as n
 use Rattle.sj_token.specs.Numbers.{NoMinus, IsNumeral}
-use Rattle.sj_token.specs.Reading.{next_is, next_is_digit, run, whole_len, fraction_len, sign_len, digits_len, exponent_len, rest_len, number_len, is_exact, exact_number, number_token, number_at, exact, exactly}
+use Rattle.sj_token.specs.Reading.{run, whole_len, fraction_len, sign_len, digits_len, exponent_len, rest_len, number_len, exact_number, number_token, number_at, exact, exactly}
 use Rattle.sj_token.proofs.Runs.{run_within, run_passes, run_longer}
 use Rattle.sj_token.proofs.Cuts.{IfCut, here, cond_on, cond_off}
 
 -- ---- what a number stands for
-
-exact_is : (v : ℤ × ℕ) → is_exact v ≡ true → IsExact v
-unfolding is_exact
-exact_is v h = go (nat_lt (unsigned_abs (normal v).0) (10 ^ 38)) (nat_le (normal v).1 38) refl refl h
-  where
-    go : (a b : Bool) → nat_lt (unsigned_abs (normal v).0) (10 ^ 38) ≡ a → nat_le (normal v).1 38 ≡ b → (a && b) ≡ true → IsExact v
-    go true true p q _ = exact_from_limits v (record { coefficient = ltb-true _ _ p; scale = leb-true _ _ q })
-    go true false p q x = absurd cc
-    go false b p q x = absurd cc
-
-is_exact_true : (v : ℤ × ℕ) → IsExact v → is_exact v ≡ true
-unfolding is_exact
-is_exact_true v h =
-    let l = limits_from_exact v h in
-    ap (λ a. a && nat_le (normal v).1 38) (lt-ltb (unsigned_abs (normal v).0) (10 ^ 38) l.coefficient) ∙ le-leb (normal v).1 38 l.scale
-
-is_exact_false : (v : ℤ × ℕ) → (IsExact v → ⊥) → is_exact v ≡ false
-is_exact_false v h = go (is_exact v) refl
-  where
-    go : (b : Bool) → is_exact v ≡ b → is_exact v ≡ false
-    go true e = absurd (h (exact_is v e))
-    go false e = e
 
 token_of : (digits : List ℕ) (v : ℤ × ℕ) → SpellsNumber digits v → number_token digits ≡ exact_number v
 unfolding number_token
@@ -50,10 +29,10 @@ token_of digits v s =
 
 pub token_exact : (digits : List ℕ) (d : ℤ × ℕ) → SpellsExact digits d → number_token digits ≡ Some (k.Number d)
 token_exact digits d s =
-    token_of digits s.value s.spells ∙ cond_on (is_exact s.value) _ _ (is_exact_true s.value s.exact) (ap (λ x. Some (k.Number x)) (sym s.normal_form))
+    token_of digits s.value s.spells ∙ cond_on (is_exact s.value) _ _ (exact_true s.value s.exact) (ap (λ x. Some (k.Number x)) (sym s.normal_form))
 
 pub token_wide : (digits : List ℕ) → SpellsWide digits → number_token digits ≡ None
-token_wide digits s = token_of digits s.value s.spells ∙ cond_off (is_exact s.value) _ _ (is_exact_false s.value s.wide) refl
+token_wide digits s = token_of digits s.value s.spells ∙ cond_off (is_exact s.value) _ _ (exact_false s.value s.wide) refl
 
 -- a number has the token that it stands for
 token_sound : (digits : List ℕ) (v : ℤ × ℕ) → NoMinus digits → SpellsNumber digits v → IsNumeral digits (number_token digits)
@@ -64,55 +43,55 @@ token_sound digits v m s = go (is_exact v) refl
 
     go : (b : Bool) → is_exact v ≡ b → IsNumeral digits (number_token digits)
     go true e = subst (IsNumeral digits) (sym (token_of digits v s ∙ cond_on (is_exact v) _ _ e refl)) (n.exact m (record { value = v; spells = s; exact = exact_is v e; normal_form = refl }))
-    go false e = subst (IsNumeral digits) (sym (token_of digits v s ∙ cond_off (is_exact v) _ _ e refl)) (n.inexact m (record { value = v; spells = s; wide = λ x. absurd (apart (sym e ∙ is_exact_true v x)) }))
+    go false e = subst (IsNumeral digits) (sym (token_of digits v s ∙ cond_off (is_exact v) _ _ e refl)) (n.inexact m (record { value = v; spells = s; wide = λ x. absurd (apart (sym e ∙ exact_true v x)) }))
 
 -- ---- digits
 
-digits_pass : (ds : List ℕ) → AllDigits 10 ds → AllPass is_digit ds
+digits_pass : (ds : List ℕ) → AllDigits 10 ds → AllPass is_ascii_digit ds
 digits_pass [] h = w.none
 digits_pass (c ∷ cs) h = w.more (digit_passes c h.0) (digits_pass cs h.1)
 
-passed_digits : {ds : List ℕ} → AllPass is_digit ds → AllDigits 10 ds
+passed_digits : {ds : List ℕ} → AllPass is_ascii_digit ds → AllDigits 10 ds
 passed_digits w.none = tt
 passed_digits (w.more {b = b} h p) = (digit_passed b h, passed_digits p)
 
 -- a run of digits that begins with one
-run_digits : (bs : List ℕ) → next_is_digit bs ≡ true → IsDigits 10 (take (run is_digit bs) bs)
+run_digits : (bs : List ℕ) → next_is_digit bs ≡ true → IsDigits 10 (take (run is_ascii_digit bs) bs)
 run_digits [] h = absurd cc
 run_digits (b ∷ bs) h =
-    (subst (λ n. 0 < length (take n (b ∷ bs))) (sym (run_is b bs h)) (omega arith), passed_digits (run_passes is_digit (b ∷ bs)))
+    (subst (λ n. 0 < length (take n (b ∷ bs))) (sym (run_is b bs h)) (omega arith), passed_digits (run_passes is_ascii_digit (b ∷ bs)))
   where
-    run_is : (b : ℕ) (bs : List ℕ) → is_digit b ≡ true → run is_digit (b ∷ bs) ≡ suc (run is_digit bs)
-    run_is b bs h = ap (λ x. cond x (suc (run is_digit bs)) 0) h
+    run_is : (b : ℕ) (bs : List ℕ) → is_ascii_digit b ≡ true → run is_ascii_digit (b ∷ bs) ≡ suc (run is_ascii_digit bs)
+    run_is b bs h = ap (λ x. cond x (suc (run is_ascii_digit bs)) 0) h
 
-run_none : (bs : List ℕ) → next_is_digit bs ≡ false → run is_digit bs ≡ 0
+run_none : (bs : List ℕ) → next_is_digit bs ≡ false → run is_ascii_digit bs ≡ 0
 run_none [] h = refl
-run_none (b ∷ bs) h = ap (λ x. cond x (suc (run is_digit bs)) 0) h
+run_none (b ∷ bs) h = ap (λ x. cond x (suc (run is_ascii_digit bs)) 0) h
 
 -- digits, and what follows them
-run_least : (ds : List ℕ) → AllDigits 10 ds → (after : List ℕ) → length ds ≤ run is_digit (ds ++ after)
+run_least : (ds : List ℕ) → AllDigits 10 ds → (after : List ℕ) → length ds ≤ run is_ascii_digit (ds ++ after)
 run_least ds h after = let e = run_longer (digits_pass ds h) after in omega arith
 
-run_exactly : (ds : List ℕ) → AllDigits 10 ds → (after : List ℕ) → next_is_digit after ≡ false → run is_digit (ds ++ after) ≡ length ds
+run_exactly : (ds : List ℕ) → AllDigits 10 ds → (after : List ℕ) → next_is_digit after ≡ false → run is_ascii_digit (ds ++ after) ≡ length ds
 run_exactly ds h after ends = let e = run_longer (digits_pass ds h) after in let f = run_none after ends in omega arith
 
 next_digit : (ds : List ℕ) → IsDigits 10 ds → (after : List ℕ) → next_is_digit (ds ++ after) ≡ true
 next_digit [] h after = absurd (omega (arith, h.0))
 next_digit (c ∷ cs) h after = digit_passes c h.1.0
 
-digit_is_not : (c d : ℕ) → is_digit c ≡ true → is_digit d ≡ false → (c == d) ≡ false
+digit_is_not : (c d : ℕ) → is_ascii_digit c ≡ true → is_ascii_digit d ≡ false → (c == d) ≡ false
 digit_is_not c d h ends = go (c == d) refl
   where
     apart : true ≡ false → ⊥
     apart q = cc
 
     go : (b : Bool) → (c == d) ≡ b → (c == d) ≡ false
-    go true e = absurd (apart (sym h ∙ ap is_digit (eqb-true c d e) ∙ ends))
+    go true e = absurd (apart (sym h ∙ ap is_ascii_digit (eqb-true c d e) ∙ ends))
     go false e = e
 
 -- ---- what is read is a number
 
-whole_sound : (b : ℕ) (bs : List ℕ) → is_digit b ≡ true → IsWhole (take (whole_len (b ∷ bs)) (b ∷ bs))
+whole_sound : (b : ℕ) (bs : List ℕ) → is_ascii_digit b ≡ true → IsWhole (take (whole_len (b ∷ bs)) (b ∷ bs))
 whole_sound b bs h = go (b == 48) refl
   where
     apart : true ≡ false → ⊥
@@ -121,22 +100,22 @@ whole_sound b bs h = go (b == 48) refl
     not_zero : (b == 48) ≡ false → b ≢ 48
     not_zero e q = absurd (apart (sym (ap (λ x. x == 48) q) ∙ e))
 
-    many : (b == 48) ≡ false → IsWhole (b ∷ take (run is_digit bs) bs)
-    many e = ((omega arith, (digit_passed b h, passed_digits (run_passes is_digit bs))), λ _. not_zero e)
+    many : (b == 48) ≡ false → IsWhole (b ∷ take (run is_ascii_digit bs) bs)
+    many e = ((omega arith, (digit_passed b h, passed_digits (run_passes is_ascii_digit bs))), λ _. not_zero e)
 
-    go : (x : Bool) → (b == 48) ≡ x → IsWhole (take (cond x 1 (run is_digit (b ∷ bs))) (b ∷ bs))
+    go : (x : Bool) → (b == 48) ≡ x → IsWhole (take (cond x 1 (run is_ascii_digit (b ∷ bs))) (b ∷ bs))
     go true e = ((omega arith, (digit_passed b h, tt)), λ l. absurd (omega arith))
-    go false e = subst (λ n. IsWhole (take n (b ∷ bs))) (sym (ap (λ x. cond x (suc (run is_digit bs)) 0) h)) (many e)
+    go false e = subst (λ n. IsWhole (take n (b ∷ bs))) (sym (ap (λ x. cond x (suc (run is_ascii_digit bs)) 0) h)) (many e)
 
 fraction_sound : (bs : List ℕ) → (ds : List ℕ) × IsFraction ds (take (fraction_len bs) bs)
 fraction_sound [] = ([], inl (refl, refl))
 fraction_sound (b ∷ bs) = go (b == 46) (next_is_digit bs) refl refl
   where
-    front : b ≡ 46 → take (run is_digit bs + 1) (b ∷ bs) ≡ 46 ∷ take (run is_digit bs) bs
-    front q = let e : run is_digit bs + 1 ≡ suc (run is_digit bs) = omega arith in ap (λ n. take n (b ∷ bs)) e ∙ ap (λ x. x ∷ take (run is_digit bs) bs) q
+    front : b ≡ 46 → take (run is_ascii_digit bs + 1) (b ∷ bs) ≡ 46 ∷ take (run is_ascii_digit bs) bs
+    front q = let e : run is_ascii_digit bs + 1 ≡ suc (run is_ascii_digit bs) = omega arith in ap (λ n. take n (b ∷ bs)) e ∙ ap (λ x. x ∷ take (run is_ascii_digit bs) bs) q
 
-    go : (x y : Bool) → (b == 46) ≡ x → next_is_digit bs ≡ y → (ds : List ℕ) × IsFraction ds (take (cond (x && y) (run is_digit bs + 1) 0) (b ∷ bs))
-    go true true e f = (take (run is_digit bs) bs, inr (run_digits bs f, front (eqb-true b 46 e)))
+    go : (x y : Bool) → (b == 46) ≡ x → next_is_digit bs ≡ y → (ds : List ℕ) × IsFraction ds (take (cond (x && y) (run is_ascii_digit bs + 1) 0) (b ∷ bs))
+    go true true e f = (take (run is_ascii_digit bs) bs, inr (run_digits bs f, front (eqb-true b 46 e)))
     go true false e f = ([], inl (refl, refl))
     go false y e f = ([], inl (refl, refl))
 
@@ -167,15 +146,15 @@ exponent_sound (b ∷ bs) = go (b == 101 || b == 69) (next_is_digit (drop (sign_
     none : HasExponent []
     none = (false, [], inl (refl, refl, refl))
 
-    front : take (sign_len bs + 1 + run is_digit (drop (sign_len bs) bs)) (b ∷ bs) ≡ b ∷ (take (sign_len bs) bs ++ take (run is_digit (drop (sign_len bs) bs)) (drop (sign_len bs) bs))
-    front = let e : sign_len bs + 1 + run is_digit (drop (sign_len bs) bs) ≡ suc (sign_len bs + run is_digit (drop (sign_len bs) bs)) = omega arith in
-        ap (λ n. take n (b ∷ bs)) e ∙ ap (λ x. b ∷ x) (take-add (sign_len bs) (run is_digit (drop (sign_len bs) bs)) bs)
+    front : take (sign_len bs + 1 + run is_ascii_digit (drop (sign_len bs) bs)) (b ∷ bs) ≡ b ∷ (take (sign_len bs) bs ++ take (run is_ascii_digit (drop (sign_len bs) bs)) (drop (sign_len bs) bs))
+    front = let e : sign_len bs + 1 + run is_ascii_digit (drop (sign_len bs) bs) ≡ suc (sign_len bs + run is_ascii_digit (drop (sign_len bs) bs)) = omega arith in
+        ap (λ n. take n (b ∷ bs)) e ∙ ap (λ x. b ∷ x) (take-add (sign_len bs) (run is_ascii_digit (drop (sign_len bs) bs)) bs)
 
     go : (x y : Bool) → (b == 101 || b == 69) ≡ x → next_is_digit (drop (sign_len bs) bs) ≡ y
-        → HasExponent (take (cond x (cond y (sign_len bs + 1 + run is_digit (drop (sign_len bs) bs)) 0) 0) (b ∷ bs))
+        → HasExponent (take (cond x (cond y (sign_len bs + 1 + run is_ascii_digit (drop (sign_len bs) bs)) 0) 0) (b ∷ bs))
     go true true e f = let s = sign_sound bs in (
       s.0,
-      take (run is_digit (drop (sign_len bs) bs)) (drop (sign_len bs) bs),
+      take (run is_ascii_digit (drop (sign_len bs) bs)) (drop (sign_len bs) bs),
       inr (record {
         mark = b;
         sign = take (sign_len bs) bs;
@@ -189,7 +168,7 @@ exponent_sound (b ∷ bs) = go (b == 101 || b == 69) (next_is_digit (drop (sign_
     go false y e f = none
 
 -- the parts of the number at the front
-number_sound : (b : ℕ) (bs : List ℕ) → is_digit b ≡ true → (p : NumberParts) × IsNumberOf p (take (number_len (b ∷ bs)) (b ∷ bs))
+number_sound : (b : ℕ) (bs : List ℕ) → is_ascii_digit b ≡ true → (p : NumberParts) × IsNumberOf p (take (number_len (b ∷ bs)) (b ∷ bs))
 unfolding number_len
 number_sound b bs h =
     let rest : List ℕ = drop (whole_len (b ∷ bs)) (b ∷ bs) in
@@ -209,16 +188,16 @@ number_sound b bs h =
 whole_within : (b : ℕ) (bs : List ℕ) → whole_len (b ∷ bs) ≤ length (b ∷ bs)
 whole_within b bs = go (b == 48)
   where
-    go : (x : Bool) → cond x 1 (run is_digit (b ∷ bs)) ≤ length (b ∷ bs)
+    go : (x : Bool) → cond x 1 (run is_ascii_digit (b ∷ bs)) ≤ length (b ∷ bs)
     go true = omega arith
-    go false = run_within is_digit (b ∷ bs)
+    go false = run_within is_ascii_digit (b ∷ bs)
 
 fraction_within : (bs : List ℕ) → fraction_len bs ≤ length bs
 fraction_within [] = omega arith
 fraction_within (b ∷ bs) = go (b == 46 && next_is_digit bs)
   where
-    go : (x : Bool) → cond x (run is_digit bs + 1) 0 ≤ length (b ∷ bs)
-    go true = omega (arith, run_within is_digit bs)
+    go : (x : Bool) → cond x (run is_ascii_digit bs + 1) 0 ≤ length (b ∷ bs)
+    go true = omega (arith, run_within is_ascii_digit bs)
     go false = omega arith
 
 sign_within : (bs : List ℕ) → sign_len bs ≤ length bs
@@ -233,8 +212,8 @@ exponent_within : (bs : List ℕ) → exponent_len bs ≤ length bs
 exponent_within [] = omega arith
 exponent_within (b ∷ bs) = go (b == 101 || b == 69) (next_is_digit (drop (sign_len bs) bs))
   where
-    go : (x y : Bool) → cond x (cond y (sign_len bs + 1 + run is_digit (drop (sign_len bs) bs)) 0) 0 ≤ length (b ∷ bs)
-    go true true = omega (arith, run_within is_digit (drop (sign_len bs) bs), length-drop (sign_len bs) bs, sign_within bs)
+    go : (x y : Bool) → cond x (cond y (sign_len bs + 1 + run is_ascii_digit (drop (sign_len bs) bs)) 0) 0 ≤ length (b ∷ bs)
+    go true true = omega (arith, run_within is_ascii_digit (drop (sign_len bs) bs), length-drop (sign_len bs) bs, sign_within bs)
     go true false = omega arith
     go false y = omega arith
 
@@ -245,9 +224,9 @@ number_within b bs =
     let le : rest_len rest ≤ length rest = omega (arith, fraction_within rest, exponent_within (drop (fraction_len rest) rest), length-drop (fraction_len rest) rest) in
     omega (arith, le, whole_within b bs, length-drop (whole_len (b ∷ bs)) (b ∷ bs))
 
-no_minus : (n b : ℕ) (bs : List ℕ) → is_digit b ≡ true → NoMinus (take n (b ∷ bs))
+no_minus : (n b : ℕ) (bs : List ℕ) → is_ascii_digit b ≡ true → NoMinus (take n (b ∷ bs))
 no_minus zero b bs h = tt
-no_minus (suc n) b bs h = λ q. absurd (apart (sym (ap is_digit q) ∙ h))
+no_minus (suc n) b bs h = λ q. absurd (apart (sym (ap is_ascii_digit q) ∙ h))
   where
     apart : false ≡ true → ⊥
     apart q = cc
@@ -256,7 +235,7 @@ pub record NumeralFront (text : List ℕ) (o : Option Token) (n : ℕ) : Type 0 
   pub within : n ≤ length text
   pub fits : IsNumeral (take n text) o
 
-pub numeral_sound : (b : ℕ) (bs : List ℕ) → is_digit b ≡ true → IfCut (NumeralFront (b ∷ bs)) (number_at (b ∷ bs))
+pub numeral_sound : (b : ℕ) (bs : List ℕ) → is_ascii_digit b ≡ true → IfCut (NumeralFront (b ∷ bs)) (number_at (b ∷ bs))
 unfolding number_at
 numeral_sound b bs h =
     let p = number_sound b bs h in
@@ -271,7 +250,7 @@ whole_least : (ds after : List ℕ) → IsWhole ds → length ds ≤ whole_len (
 whole_least [] after h = absurd (omega (arith, h.0.0))
 whole_least (c ∷ cs) after h = go (c == 48) refl
   where
-    go : (x : Bool) → (c == 48) ≡ x → length (c ∷ cs) ≤ cond x 1 (run is_digit ((c ∷ cs) ++ after))
+    go : (x : Bool) → (c == 48) ≡ x → length (c ∷ cs) ≤ cond x 1 (run is_ascii_digit ((c ∷ cs) ++ after))
     go true e = single cs h.1
       where
         single : (cs : List ℕ) → (1 < length (c ∷ cs) → c ≢ 48) → length (c ∷ cs) ≤ 1
@@ -283,7 +262,7 @@ whole_exactly : (ds after : List ℕ) → IsWhole ds → next_is_digit after ≡
 whole_exactly [] after h ends = absurd (omega (arith, h.0.0))
 whole_exactly (c ∷ cs) after h ends = go (c == 48) refl
   where
-    go : (x : Bool) → (c == 48) ≡ x → cond x 1 (run is_digit ((c ∷ cs) ++ after)) ≡ length (c ∷ cs)
+    go : (x : Bool) → (c == 48) ≡ x → cond x 1 (run is_ascii_digit ((c ∷ cs) ++ after)) ≡ length (c ∷ cs)
     go true e = single cs h.1
       where
         single : (cs : List ℕ) → (1 < length (c ∷ cs) → c ≢ 48) → 1 ≡ length (c ∷ cs)
@@ -291,8 +270,8 @@ whole_exactly (c ∷ cs) after h ends = go (c == 48) refl
         single (d ∷ ds) n = absurd (n (omega arith) (eqb-true c 48 e))
     go false e = run_exactly (c ∷ cs) h.0.1 after ends
 
-point_read : (ds after : List ℕ) → IsDigits 10 ds → fraction_len (46 ∷ (ds ++ after)) ≡ run is_digit (ds ++ after) + 1
-point_read ds after h = ap (λ x. cond x (run is_digit (ds ++ after) + 1) 0) (next_digit ds h after)
+point_read : (ds after : List ℕ) → IsDigits 10 ds → fraction_len (46 ∷ (ds ++ after)) ≡ run is_ascii_digit (ds ++ after) + 1
+point_read ds after h = ap (λ x. cond x (run is_ascii_digit (ds ++ after) + 1) 0) (next_digit ds h after)
 
 fraction_least : (ds f after : List ℕ) → IsFraction ds f → length f ≤ fraction_len (f ++ after)
 fraction_least ds f after (inl h) = subst (λ x. length x ≤ fraction_len (x ++ after)) (sym h.1) (omega arith)
@@ -300,7 +279,7 @@ fraction_least ds f after (inr h) = subst (λ x. length x ≤ fraction_len (x ++
 
 fraction_none : (after : List ℕ) → next_is 46 after ≡ false → fraction_len after ≡ 0
 fraction_none [] h = refl
-fraction_none (b ∷ bs) h = ap (λ x. cond (x && next_is_digit bs) (run is_digit bs + 1) 0) h
+fraction_none (b ∷ bs) h = ap (λ x. cond (x && next_is_digit bs) (run is_ascii_digit bs + 1) 0) h
 
 fraction_exactly : (ds f after : List ℕ) → IsFraction ds f → next_is_digit after ≡ false → next_is 46 after ≡ false → fraction_len (f ++ after) ≡ length f
 fraction_exactly ds f after (inl h) ends point = subst (λ x. fraction_len (x ++ after) ≡ length x) (sym h.1) (fraction_none after point)
@@ -316,9 +295,9 @@ marked m s bs ds after mark sign rest h =
     is_mark (inl e) = ap (λ x. x == 101 || x == 69) e
     is_mark (inr e) = ap (λ x. x == 101 || x == 69) e
 
-    total : exponent_len (m ∷ bs) ≡ s + 1 + run is_digit (ds ++ after)
+    total : exponent_len (m ∷ bs) ≡ s + 1 + run is_ascii_digit (ds ++ after)
     total = cond_on _ _ _ (is_mark mark) (ap (λ n. digits_len (n + 1) (drop n bs)) sign ∙ ap (digits_len (s + 1)) rest
-        ∙ ap (λ x. cond x (s + 1 + run is_digit (ds ++ after)) 0) (next_digit ds h after))
+        ∙ ap (λ x. cond x (s + 1 + run is_ascii_digit (ds ++ after)) 0) (next_digit ds h after))
 
 written_least : (negative : Bool) (ds e after : List ℕ) → IsWrittenExponent negative ds e → length e ≤ exponent_len (e ++ after)
 written_least negative ds e after h = subst (λ x. length x ≤ exponent_len (x ++ after)) (sym h.text) (go negative h.sign h.is_sign)
@@ -338,9 +317,9 @@ written_least negative ds e after h = subst (λ x. length x ≤ exponent_len (x 
 mark_stops : (negative : Bool) (ds e after : List ℕ) → IsWrittenExponent negative ds e → (next_is_digit (e ++ after) ≡ false) × (next_is 46 (e ++ after) ≡ false)
 mark_stops negative ds e after h = subst (λ x. (next_is_digit (x ++ after) ≡ false) × (next_is 46 (x ++ after) ≡ false)) (sym h.text) (go h.mark h.is_mark)
   where
-    go : (m : ℕ) → (m ≡ 101) ⊎ (m ≡ 69) → (is_digit m ≡ false) × ((m == 46) ≡ false)
-    go m (inl q) = (ap is_digit q, ap (λ x. x == 46) q)
-    go m (inr q) = (ap is_digit q, ap (λ x. x == 46) q)
+    go : (m : ℕ) → (m ≡ 101) ⊎ (m ≡ 69) → (is_ascii_digit m ≡ false) × ((m == 46) ≡ false)
+    go m (inl q) = (ap is_ascii_digit q, ap (λ x. x == 46) q)
+    go m (inr q) = (ap is_ascii_digit q, ap (λ x. x == 46) q)
 
 rest_least : (negative : Bool) (fs es f e after : List ℕ) → IsFraction fs f → IsExponent negative es e → length f + length e ≤ rest_len (f ++ (e ++ after))
 rest_least negative fs es f e after a (inl h) = omega (arith, ap length h.2, fraction_least fs f (e ++ after) a)
@@ -393,7 +372,7 @@ longest digits v m s after =
       number_least s.parts s.parts.whole h.fraction_text h.exponent_text after h.whole h.fraction h.exponent,
     )
 
-no_letter : (c : ℕ) → is_digit c ≡ true → is_letter c ≡ false
+no_letter : (c : ℕ) → is_ascii_digit c ≡ true → is_letter c ≡ false
 no_letter c h = go (nat_le 48 c) (nat_le c 57) refl refl h
   where
     below : c ≤ 57 → is_letter c ≡ false
@@ -410,14 +389,14 @@ no_letter c h = go (nat_le 48 c) (nat_le c 57) refl refl h
     go true false p q e = absurd cc
     go false y p q e = absurd cc
 
-first_digit : (digits : List ℕ) (v : ℤ × ℕ) → NoMinus digits → SpellsNumber digits v → (b : ℕ) × (bs : List ℕ) × (digits ≡ b ∷ bs) × (is_letter b ≡ false) × (is_digit b ≡ true)
+first_digit : (digits : List ℕ) (v : ℤ × ℕ) → NoMinus digits → SpellsNumber digits v → (b : ℕ) × (bs : List ℕ) × (digits ≡ b ∷ bs) × (is_letter b ≡ false) × (is_ascii_digit b ≡ true)
 first_digit digits v m s = go s.parts.whole (s.number.fraction_text ++ s.number.exponent_text) s.number.whole (plain s.parts digits m s.number)
   where
-    go : (w rest : List ℕ) → IsWhole w → digits ≡ w ++ rest → (b : ℕ) × (bs : List ℕ) × (digits ≡ b ∷ bs) × (is_letter b ≡ false) × (is_digit b ≡ true)
+    go : (w rest : List ℕ) → IsWhole w → digits ≡ w ++ rest → (b : ℕ) × (bs : List ℕ) × (digits ≡ b ∷ bs) × (is_letter b ≡ false) × (is_ascii_digit b ≡ true)
     go [] rest h e = absurd (omega (arith, h.0.0))
     go (c ∷ cs) rest h e = (c, cs ++ rest, e, no_letter c (digit_passes c h.0.1.0), digit_passes c h.0.1.0)
 
-pub numeral_digit : {digits : List ℕ} {o : Option Token} → IsNumeral digits o → (b : ℕ) × (bs : List ℕ) × (digits ≡ b ∷ bs) × (is_letter b ≡ false) × (is_digit b ≡ true)
+pub numeral_digit : {digits : List ℕ} {o : Option Token} → IsNumeral digits o → (b : ℕ) × (bs : List ℕ) × (digits ≡ b ∷ bs) × (is_letter b ≡ false) × (is_ascii_digit b ≡ true)
 numeral_digit (n.exact {digits = digits} m s) = first_digit digits s.value m s.spells
 numeral_digit (n.inexact {digits = digits} m s) = first_digit digits s.value m s.spells
 

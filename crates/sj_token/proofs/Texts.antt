@@ -1,9 +1,9 @@
 -- The tokens that are read are those of the text, and there are no others.
 use Rattle.std.proofs.Common.{◌≡◌, ℕ, zero, suc, ◌<◌, ◌≤◌, inl, inr, Bool, true, false, cond, List, [], ◌∷◌, ◌++◌, length, take, drop, Option, Some, None, refl, sym, ap, subst, ◌∙◌, arith, length-append, length-drop, take-append-drop, length-take-le, drop_at, eqb-true, ◌==◌, ◌||◌}
+use Rattle.sj_base.specs.ByteClasses.{is_blank}
+use Rattle.sj_base.specs.Options.{◌>>=◌}
 use Rattle.sj_token.specs.declared.token.Token.{Token}
-use Rattle.sj_token.specs.Bytes.{is_blank}
 use Rattle.sj_token.specs.Words as w
-use Rattle.sj_token.specs.Strings.{◌>>=◌}
 use Rattle.sj_token.specs.Tokens as t
 use Rattle.sj_token.specs.Tokens.{IsSign, IsForm, BeginsWith, HasTokens}
 use Rattle.sj_token.specs.Reading.{form_from, form_at, exact, token_at, lex_from}

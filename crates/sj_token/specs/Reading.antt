@@ -1,19 +1,18 @@
 -- Reading tokens from left to right, as functions. A number of bytes stands beside what was read.
-use Rattle.std.specs.Prelude.{ℕ, zero, suc, ◌+◌, Bool, false, ◌&&◌, ◌||◌, ◌==◌, ◌^◌, nat_lt, nat_le, ℤ, unsigned_abs, List, [], ◌∷◌, ◌++◌, length, take, drop, Option, Some, None, if◌then◌else◌, encode_utf8}
+use Rattle.std.specs.Prelude.{ℕ, zero, suc, ◌+◌, Bool, false, ◌&&◌, ◌||◌, ◌==◌, ℤ, List, [], ◌∷◌, ◌++◌, length, take, drop, Option, Some, None, if◌then◌else◌, encode_utf8}
+use Rattle.std.specs.Char.{is_ascii_digit}
+use Rattle.std.specs.Char.Utf16.{is_high_surrogate, is_low_surrogate, surrogate_pair_char}
+use Rattle.sj_base.specs.ByteClasses.{is_blank, is_letter, is_word_byte, is_plain, next_is, next_is_digit, letter_char}
+use Rattle.sj_base.specs.Options.{◌>>=◌}
 use Rattle.sj_decimal.specs.declared.comparing.Compare.TheVariants as c
 use Rattle.sj_token.specs.declared.token.Token.{Token}
 use Rattle.sj_token.specs.declared.token.Token.TheVariants as k
-use Rattle.sj_token.specs.Bytes.{is_blank, is_letter, is_digit, is_word_byte, is_plain}
 use Rattle.sj_token.specs.Words.{keyword_of}
-use Rattle.sj_token.specs.Strings.{◌>>=◌, short_escape, unit_of, is_high, is_low, paired}
+use Rattle.sj_token.specs.Strings.{unit_of}
 use Rattle.sj_decimal.specs.Normal.{normal}
+use Rattle.sj_decimal.specs.Exact.{is_exact}
 use Rattle.sj_decimal.specs.Number.{value_of}
 use Rattle.sj_decimal.specs.Reading.{read_parts}
-
--- the text goes on with this byte
-abbrev pub next_is : ℕ → List ℕ → Bool
-next_is b [] = false
-next_is b (d ∷ bs) = d == b
 
 abbrev pub next_is_letter : List ℕ → Bool
 next_is_letter [] = false
@@ -70,19 +69,19 @@ unit_at _ = None
 
 -- the second half of a pair of surrogates
 abbrev pub low_at : List ℕ → Option ℕ
-low_at (x ∷ y ∷ bs) = if x == 92 && y == 117 then (unit_at bs >>= λ low. if is_low low then Some low else None) else None
+low_at (x ∷ y ∷ bs) = if x == 92 && y == 117 then (unit_at bs >>= λ low. if is_low_surrogate low then Some low else None) else None
 low_at _ = None
 
 -- behind a backslash and u
 abbrev pub character_at : List ℕ → Option (ℕ × ℕ)
 character_at bs = unit_at bs >>= λ u.
-    if is_high u then (low_at (drop 4 bs) >>= λ low. Some (paired u low, 11))
-    else (if is_low u then None else Some (u, 5))
+    if is_high_surrogate u then (low_at (drop 4 bs) >>= λ low. Some (surrogate_pair_char u low, 11))
+    else (if is_low_surrogate u then None else Some (u, 5))
 
 -- behind a backslash
 unfoldable pub escape_at : List ℕ → Option (ℕ × ℕ)
 escape_at [] = None
-escape_at (e ∷ bs) = if e == 117 then character_at bs else (short_escape e >>= λ c. Some (c, 1))
+escape_at (e ∷ bs) = if e == 117 then character_at bs else (letter_char e >>= λ c. Some (c, 1))
 
 -- where plain bytes end, with inside to read what follows an escape
 abbrev pub behind_run : (List ℕ → Option (List ℕ × ℕ)) → List ℕ → Option (List ℕ × ℕ)
@@ -102,23 +101,19 @@ inside_from (suc n) bs = behind_run (inside_from n) (drop (run is_plain bs) bs) 
 
 -- ---- numbers
 
-abbrev pub next_is_digit : List ℕ → Bool
-next_is_digit [] = false
-next_is_digit (d ∷ bs) = is_digit d
-
 -- how many bytes the longest number at the front has, part by part
 abbrev pub whole_len : List ℕ → ℕ
-whole_len bs = if next_is 48 bs then 1 else run is_digit bs
+whole_len bs = if next_is 48 bs then 1 else run is_ascii_digit bs
 
 abbrev pub fraction_len : List ℕ → ℕ
 fraction_len [] = 0
-fraction_len (b ∷ bs) = if b == 46 && next_is_digit bs then run is_digit bs + 1 else 0
+fraction_len (b ∷ bs) = if b == 46 && next_is_digit bs then run is_ascii_digit bs + 1 else 0
 
 abbrev pub sign_len : List ℕ → ℕ
 sign_len bs = if next_is 43 bs || next_is 45 bs then 1 else 0
 
 abbrev pub digits_len : ℕ → List ℕ → ℕ
-digits_len before bs = if next_is_digit bs then before + run is_digit bs else 0
+digits_len before bs = if next_is_digit bs then before + run is_ascii_digit bs else 0
 
 abbrev pub exponent_len : List ℕ → ℕ
 exponent_len [] = 0
@@ -130,10 +125,6 @@ rest_len bs = fraction_len bs + exponent_len (drop (fraction_len bs) bs)
 
 unfoldable pub number_len : List ℕ → ℕ
 number_len bs = whole_len bs + rest_len (drop (whole_len bs) bs)
-
--- a number has at most 38 digits and at most 38 decimals
-unfoldable pub is_exact : ℤ × ℕ → Bool
-is_exact v = nat_lt (unsigned_abs (normal v).0) (10 ^ 38) && nat_le (normal v).1 38
 
 abbrev pub exact_number : ℤ × ℕ → Option Token
 exact_number v = if is_exact v then Some (k.Number (normal v)) else None
@@ -169,7 +160,7 @@ whole s = Some (Some s.0, s.1)
 unfoldable pub form_from : ℕ → List ℕ → Option (Option Token × ℕ)
 form_from b bs =
     if is_letter b then word_at (b ∷ bs)
-    else (if is_digit b then number_at (b ∷ bs)
+    else (if is_ascii_digit b then number_at (b ∷ bs)
     else (if b == 34 then string_at bs
     else (if b == 36 then dollar_at bs
     else (sign_at b bs >>= whole))))

@@ -1,9 +1,9 @@
 -- The tokens of a text, taken from left to right, each the longest that fits.
 use Rattle.std.specs.Prelude.{◌≡◌, ℕ, ◌≤◌, true, List, [], ◌∷◌, ◌++◌, length, Option, Some, codes}
+use Rattle.sj_base.specs.ByteClasses.{is_blank}
 use Rattle.sj_decimal.specs.declared.comparing.Compare.TheVariants as c
 use Rattle.sj_token.specs.declared.token.Token.{Token}
 use Rattle.sj_token.specs.declared.token.Token.TheVariants as k
-use Rattle.sj_token.specs.Bytes.{is_blank}
 use Rattle.sj_token.specs.Words.{IsWord, keyword_of}
 use Rattle.sj_token.specs.Strings.{IsInside}
 use Rattle.sj_token.specs.Numbers.{IsNumeral}

@@ -1,9 +1,9 @@
 -- Words, and the part that each plays in the grammar.
 use Rattle.std.specs.Prelude.{◌≡◌, ℕ, Bool, true, List, [], ◌∷◌, codes, if◌then◌else◌}
 use Rattle.std.specs.Str.{bytes_eq}
+use Rattle.sj_base.specs.ByteClasses.{is_letter, is_word_byte}
 use Rattle.sj_token.specs.declared.keyword.Keyword.{Keyword}
 use Rattle.sj_token.specs.declared.keyword.Keyword.TheVariants as w
-use Rattle.sj_token.specs.Bytes.{is_letter, is_word_byte}
 
 -- each of the bytes passes the test
 pub data AllPass (test : ℕ → Bool) : List ℕ → Type 0 where

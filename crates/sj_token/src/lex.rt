@@ -7,13 +7,13 @@ ghost use Rattle.sj_token.specs.Tokens.{HasTokens};
 ghost use Rattle.sj_token.specs.declared.token.Token.{Token};
 ghost use Rattle.sj_token.specs.declared.error.LexError.TheVariants as LexError;
 
-use crate::bytes::{is_blank, is_digit, is_letter};
 use crate::error::LexError;
 use crate::number::number;
 use crate::sign::sign;
 use crate::string::string;
 use crate::token::Token;
 use crate::word::{dollar, word};
+use sj_base::{is_blank, is_letter};
 use std::alloc::Global;
 
 /// The longest token at the front of a text, of which `first` is the first byte and `after` the rest, and how many
@@ -25,7 +25,7 @@ fn token(alloc: Global, text: &str, first: u8, after: &[u8]) -> Result<(Token, u
 {
     if is_letter(first) {
         word(alloc, text)
-    } else if is_digit(first) {
+    } else if first.is_ascii_digit() {
         number(text.as_bytes())
     } else if first == b'"' {
         let (string, len) = string(alloc, &text[1..])?;

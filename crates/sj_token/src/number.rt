@@ -4,9 +4,10 @@ ghost use Rattle.std.specs.Prelude.{◌≡◌, ◌≤◌, length};
 ghost use Rattle.sj_token.specs.Reading as reading;
 ghost use Rattle.sj_token.specs.Gives.{Gives};
 
-use crate::bytes::{digits_len, next_is, next_is_digit};
+use crate::bytes::digits_len;
 use crate::error::LexError;
 use crate::token::Token;
+use sj_base::{next_is, next_is_digit};
 use sj_decimal::{Decimal, Parsed};
 
 fn whole_len(bytes: &[u8]) -> usize

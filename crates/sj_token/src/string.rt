@@ -1,37 +1,21 @@
 //! Strings.
 
 ghost use Rattle.std.specs.Prelude.{◌≡◌, ◌<◌, true, false, Some, IfSome, length};
+ghost use Rattle.std.specs.Char.Utf16.{is_high_surrogate as is_high, is_low_surrogate as is_low};
 ghost use Rattle.sj_token.specs.Strings as spec;
 ghost use Rattle.sj_token.specs.Reading as reading;
 ghost use Rattle.sj_token.specs.Gives.{Gives};
 
-use crate::bytes::{is_digit, plain_len};
+use crate::bytes::plain_len;
 use crate::error::LexError;
-use sj_base::Text;
+use sj_base::{Text, is_high_surrogate, is_low_surrogate, letter_char, surrogate_pair_char};
 use std::alloc::Global;
-
-/// The character that a letter or a sign stands for behind a backslash.
-fn short_escape(b: u8) -> Option<char>
-    ensures { result ≡ spec.short_escape b }
-{
-    match b {
-        b'"' => Some('"'),
-        b'\\' => Some('\\'),
-        b'/' => Some('/'),
-        b'b' => Some('\u{8}'),
-        b'f' => Some('\u{c}'),
-        b'n' => Some('\n'),
-        b'r' => Some('\r'),
-        b't' => Some('\t'),
-        _ => None,
-    }
-}
 
 fn hex_digit(b: u8) -> Option<u32>
     ensures value { result ≡ spec.hex_digit b }
     ensures bound { IfSome result (λ n. n < 16) }
 {
-    if is_digit(b) {
+    if b.is_ascii_digit() {
         Some(u32::from(b - b'0'))
     } else if b'A' <= b && b <= b'F' {
         Some(u32::from(b - b'A') + 10)
@@ -54,44 +38,25 @@ fn unit(a: u8, b: u8, c: u8, d: u8) -> Option<u32>
     Some(4096 * a + 256 * b + 16 * c + d)
 }
 
-/// Whether a unit is the first half of a pair of surrogates.
-fn is_high(unit: u32) -> bool
-    ensures { result ≡ spec.is_high unit }
-{
-    0xD800 <= unit && unit <= 0xDBFF
-}
-
-/// Whether a unit is the second half of a pair of surrogates.
-fn is_low(unit: u32) -> bool
-    ensures { result ≡ spec.is_low unit }
-{
-    0xDC00 <= unit && unit <= 0xDFFF
-}
-
 /// The second half of a pair of surrogates, as an escape of its own.
 fn low(bytes: &[u8]) -> Option<u32>
     ensures value { result ≡ reading.low_at bytes.now }
-    ensures low { IfSome result (λ low. spec.is_low low ≡ true) }
+    ensures low { IfSome result (λ low. is_low low ≡ true) }
 {
     let [b'\\', b'u', a, b, c, d, ..] = bytes else {
         return None;
     };
     let low = unit(*a, *b, *c, *d)?;
-    if is_low(low) { Some(low) } else { None }
-}
-
-/// The character that a pair of surrogates stands for.
-fn paired(high: u32, low: u32) -> char
-    requires high { spec.is_high high ≡ true }
-    requires low { spec.is_low low ≡ true }
-    ensures { result ≡ spec.paired high low }
-{
-    char::from_u32(0x10000 + 1024 * (high - 0xD800) + (low - 0xDC00)).unwrap()
+    if is_low_surrogate(low) {
+        Some(low)
+    } else {
+        None
+    }
 }
 
 /// The character that a unit stands for by itself.
 fn unpaired(unit: u32) -> Option<char>
-    ensures { spec.is_high unit ≡ false → spec.is_low unit ≡ false → unit < 65536 → result ≡ Some unit }
+    ensures { is_high unit ≡ false → is_low unit ≡ false → unit < 65536 → result ≡ Some unit }
 {
     char::from_u32(unit)
 }
@@ -104,11 +69,11 @@ fn character(bytes: &[u8]) -> Option<(char, usize)>
         return None;
     };
     let first = unit(*a, *b, *c, *d)?;
-    if is_high(first) {
+    if is_high_surrogate(first) {
         let second = low(after)?;
-        return Some((paired(first, second), 11));
+        return Some((surrogate_pair_char(first, second), 11));
     }
-    if is_low(first) {
+    if is_low_surrogate(first) {
         return None;
     }
     Some((unpaired(first)?, 5))
@@ -122,7 +87,7 @@ fn escape(bytes: &[u8]) -> Option<(char, usize)>
     match bytes {
         [] => None,
         [b'u', after @ ..] => character(after),
-        [first, ..] => Some((short_escape(*first)?, 1)),
+        [first, ..] => Some((letter_char(*first)?, 1)),
     }
 }
 

@@ -1,6 +1,6 @@
 use Rattle.std.proofs.Common.{◌≡◌, ◌+◌, ◌-◌, ◌≤◌, length, drop}
 use Rattle.std.specs.List.{prefix_len}
-use Rattle.sj_json.specs.Strings.{is_plain}
+use Rattle.sj_base.specs.ByteClasses.{is_plain}
 use Rattle.sj_read.proofs.plain.long_plain_end.Given as goal
 
 abbrev pub invariant-loop-i : goal.invariant-loop-i

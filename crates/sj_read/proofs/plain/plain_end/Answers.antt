@@ -1,6 +1,6 @@
 use Rattle.std.proofs.Common.{refl, sym, ap, ◌∙◌, arith}
 use lib.Count.{count_trailing_zeros}
-use Rattle.sj_json.specs.Strings.{is_plain}
+use Rattle.sj_base.specs.ByteClasses.{is_plain}
 use Rattle.sj_read.specs.Scans.{is_stop}
 use Rattle.sj_read.proofs.Runs.{run_bound, run_through, run_stops}
 use Rattle.sj_read.proofs.plain.plain_end.Goals as goal

@@ -3,7 +3,7 @@ use Rattle.std.specs.List.{prefix_len}
 use Rattle.std.specs.Str.{IsCharBoundary}
 use Rattle.std.specs.String.{string_bytes}
 use Rattle.std.proofs.lemmas.Str.{IsCharBoundary-after_ascii}
-use Rattle.sj_json.specs.Strings.{is_plain}
+use Rattle.sj_base.specs.ByteClasses.{is_plain}
 use Rattle.sj_json.specs.Machine.{run, quoted}
 use Rattle.sj_read.specs.Strings.{FindsEscape, NoEscape}
 use Rattle.sj_read.proofs.Scanned.{no_plain}

@@ -1,5 +1,5 @@
 use Rattle.std.proofs.Common.{◌≡◌, ◌+◌, sym, ap, ◌∙◌, arith, length, take, drop, ◌++◌, length-drop, string_bytes, encode_utf8, rules}
-use Rattle.sj_token.specs.Bytes.{is_plain}
+use Rattle.sj_base.specs.ByteClasses.{is_plain}
 use Rattle.sj_token.specs.Reading.{run}
 use Rattle.sj_token.proofs.Loops.{slice_from, plain_boundary, escape_end, escape_boundary, string_ends, string_goes_on, string_no_escape, string_no_mark, string_no_end, string_no_turn}
 use Rattle.sj_token.proofs.string.string.Goals as goal

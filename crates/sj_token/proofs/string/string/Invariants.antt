@@ -1,7 +1,7 @@
 use Rattle.std.proofs.Common.{◌≡◌, ◌+◌, ◌-◌, length, string_bytes}
 use denote.Shadow.{shadow}
 use denote.Text.{Utf8}
-use Rattle.sj_token.specs.Strings.{◌>>=◌}
+use Rattle.sj_base.specs.Options.{◌>>=◌}
 use Rattle.sj_token.specs.Reading.{inside_from, behind}
 use Rattle.sj_token.proofs.string.string.Given as goal
 

@@ -1,0 +1,10 @@
+-- How deep the tokens of a path or a statement nest.
+use Rattle.std.specs.Prelude.{ℕ, ◌+◌, ◌<◌, Bool, List, take, count_by}
+
+-- the first n tokens leave more than 64 open
+abbrev pub LeavesOpen : {T : Type 0} → (T → Bool) → (T → Bool) → List T → ℕ → Type 0
+LeavesOpen opens closes ts n = count_by closes (take n ts) + 64 < count_by opens (take n ts)
+
+-- some prefix does
+abbrev pub NestsTooDeep : {T : Type 0} → (T → Bool) → (T → Bool) → List T → Type 0
+NestsTooDeep opens closes ts = (n : ℕ) × LeavesOpen opens closes ts n
