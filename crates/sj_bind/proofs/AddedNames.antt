@@ -4,10 +4,10 @@ use Rattle.std.specs.Borrow.{Bor}
 use Rattle.std.specs.List.{list_any, position_or_len}
 use Rattle.std.specs.Str.{bytes_eq}
 use Rattle.std.proofs.lemmas.Slice.Eq.{bytes_eq-Decides}
+use Rattle.sj_base.specs.Names.{is_among}
 use Rattle.sj_path.specs.Vars.{has_name}
 use Rattle.sj_statement.specs.declared.clauses.Passed.{Passed}
 use Rattle.sj_bind.specs.Clauses.{passed}
-use Rattle.sj_bind.specs.Rules.{is_among}
 use Rattle.sj_bind.specs.Variables.{AddsNames}
 use Rattle.sj_bind.proofs.Lists.{any_mapped}
 use Rattle.sj_bind.proofs.NameLists.{bytes_eq-sym, list_any-append}

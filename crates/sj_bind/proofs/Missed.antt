@@ -1,12 +1,13 @@
 -- Paths with a variable that is not passed, by the names that are.
 use Rattle.std.proofs.Common.{◌≡◌, ℕ, not, List, refl, ap}
 use Rattle.std.specs.List.{list_any}
+use Rattle.sj_base.specs.Names.{is_among}
 use Rattle.sj_grammar.specs.Tree.{Path}
 use Rattle.sj_path.specs.Vars.{has_name, names}
 use Rattle.sj_statement.specs.declared.clauses.Passed.{Passed}
 use Rattle.sj_statement.specs.Tree.{ColumnOf, Ordinality, Regular, Formatted, Existence, Nested}
 use Rattle.sj_bind.specs.Clauses.{passed}
-use Rattle.sj_bind.specs.Rules.{is_among, lacks_variable, column_lacks_variable}
+use Rattle.sj_bind.specs.Rules.{lacks_variable, column_lacks_variable}
 use Rattle.sj_bind.specs.Variables.{AreNamesOf, misses, column_misses}
 use Rattle.sj_bind.proofs.Lists.{all_alike, any_alike}
 

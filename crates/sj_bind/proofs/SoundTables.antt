@@ -6,6 +6,7 @@ use Rattle.std.specs.Str.{bytes_eq}
 use Rattle.std.proofs.lemmas.List.Elements.{All-nil, All-cons, All-head, All-tail}
 use Rattle.std.proofs.lemmas.Bool.Decides.{nat_tests}
 use Rattle.std.proofs.lemmas.Slice.Eq.{bytes_eq-Decides}
+use Rattle.sj_base.specs.Names.{is_among}
 use Rattle.sj_grammar.specs.Tree.{Path}
 use Rattle.sj_path.specs.Vars.{covers}
 use Rattle.sj_statement.specs.declared.clauses.Passed.{Passed}
@@ -15,7 +16,7 @@ use Rattle.sj_bind.specs.Meaning.{column_number, bound_column, bound_columns, bo
 use Rattle.sj_bind.specs.Paths.{TablePath, paths_in, table_paths}
 use Rattle.sj_value.specs.Plans.{IsPlanOver}
 use Rattle.sj_bind.specs.Plans.{table_plan}
-use Rattle.sj_bind.specs.Rules.{is_among, text_name, text_names, columns_alone, paths_alone, all_columns, all_paths, lacks_variable, column_lacks_variable, column_default_fails, table_lacks_variable}
+use Rattle.sj_bind.specs.Rules.{text_name, text_names, columns_alone, paths_alone, all_columns, all_paths, lacks_variable, column_lacks_variable, column_default_fails, table_lacks_variable}
 use Rattle.sj_bind.specs.Sound.{IsBindableColumn, IsBindableTable, IsTextColumn, IsSoundColumn, IsSoundTable}
 use Rattle.sj_bind.specs.Tables.{TableColumn, columns_in, columns_below, table_columns, names_in, names_below, column_names, has_twice}
 use Rattle.sj_bind.proofs.Clean.{IsCleanTable, few_columns}

@@ -3,6 +3,7 @@ use Rattle.std.proofs.Common.{◌≡◌, ℕ, ◌<◌, Bool, true, false, not, �
 use Rattle.std.specs.Prelude.{IsSomeAnd}
 use Rattle.std.specs.List.{All, list_any}
 use Rattle.std.proofs.lemmas.List.Elements.{All-head, All-tail}
+use Rattle.sj_base.specs.Names.{is_among}
 use Rattle.sj_grammar.specs.declared.tree.Literal.{Literal}
 use Rattle.sj_grammar.specs.declared.tree.Literal.TheVariants as literal
 use Rattle.sj_grammar.specs.Tree.{Path}
@@ -14,7 +15,7 @@ use Rattle.sj_bind.specs.Bound as b
 use Rattle.sj_bind.specs.Clauses.{passed, sql_type, is_text_type, names_text, default_fails}
 use Rattle.sj_bind.specs.Meaning.{bound_value, bound_values, bound_members, column_number}
 use Rattle.sj_bind.specs.Parts.{Call, calls_in, calls_in_values, calls_in_members, keys_in, keys_in_values, keys_in_members, names_in, names_in_values, names_in_members}
-use Rattle.sj_bind.specs.Rules.{call_lacks_variable, call_default_fails, is_among, is_key, is_key_literal}
+use Rattle.sj_bind.specs.Rules.{call_lacks_variable, call_default_fails, is_key, is_key_literal}
 use Rattle.sj_bind.specs.Sound.{IsBindableCall, IsTextColumn, IsKey, IsSoundValue, AreSoundValues, AreSoundMembers}
 use Rattle.sj_bind.proofs.Fitted.{neither}
 use Rattle.sj_bind.proofs.SoundClauses.{sound_clauses}

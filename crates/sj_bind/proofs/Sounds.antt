@@ -3,6 +3,7 @@ use Rattle.std.proofs.Common.{◌≡◌, ℕ, zero, suc, ◌<◌, ◌≤◌, Boo
 use Rattle.std.specs.Prelude.{IsSomeAnd, IfOk}
 use Rattle.std.specs.List.{All, list_any}
 use Rattle.std.proofs.lemmas.List.Elements.{All-nil, All-cons, All-push}
+use Rattle.sj_base.specs.Names.{is_among}
 use Rattle.sj_grammar.specs.Tree.{Path}
 use Rattle.sj_statement.specs.Tree as t
 use Rattle.sj_sql.specs.View.{svalue_of, svalues_of, smembers_of, tvalue_of, tvalues_of, tmembers_of, item_of, plain_of, items_of, table_of, statement_of}
@@ -26,7 +27,7 @@ use Rattle.sj_bind.specs.declared.bound.Bound.{Bound}
 use Rattle.sj_bind.specs.declared.refusal.BindRefusal.{BindRefusal}
 use Rattle.sj_bind.specs.Meaning.{bound, bound_value, bound_list, bound_item, bound_items, bound_columns, columns_below, column_number}
 use Rattle.sj_bind.specs.Parts.{calls_in, calls_in_values, calls_in_members, calls_in_list, keys_in, keys_in_list, keys_in_item, keys_in_items, names_in, names_in_values, names_in_members, names_in_item, names_in_items}
-use Rattle.sj_bind.specs.Rules.{bind_fault, is_among, is_key, is_aggregate, all_columns, text_names}
+use Rattle.sj_bind.specs.Rules.{bind_fault, is_key, is_aggregate, all_columns, text_names}
 use Rattle.sj_bind.specs.Sound as sound
 use Rattle.sj_bind.specs.Sound.{IsBindable, IsTextColumn, IsSoundItem, IsSound, AreAllAlike}
 use Rattle.sj_bind.specs.Tables.{column_names, table_columns}

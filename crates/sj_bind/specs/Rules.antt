@@ -1,7 +1,7 @@
 -- THE RULES of binding, in their order. Each is true of a statement that breaks it, and the first that is broken is the fault.
 use Rattle.std.specs.Prelude.{ℕ, Bool, true, false, not, ◌&&◌, ◌||◌, List, [], ◌∷◌, ◌++◌, length, nat_lt, Option, Some, None, if◌then◌else◌}
 use Rattle.std.specs.List.{list_any}
-use Rattle.std.specs.Str.{bytes_eq}
+use Rattle.sj_base.specs.Names.{is_among}
 use Rattle.sj_grammar.specs.declared.tree.Literal.{Literal}
 use Rattle.sj_grammar.specs.declared.tree.Literal.TheVariants as literal
 use Rattle.sj_grammar.specs.Tree.{Path}
@@ -124,9 +124,6 @@ abbrev pub default_cast : Statement Path → Bool
 default_cast s = list_any call_default_fails (calls s) || on_table (λ table. list_any column_default_fails (all_columns table)) s
 
 -- ---- names of columns
-
-abbrev pub is_among : List (List ℕ) → List ℕ → Bool
-is_among names name = list_any (bytes_eq name) names
 
 -- a name in the list that is no column of the table
 abbrev pub unknown_column : Statement Path → Bool

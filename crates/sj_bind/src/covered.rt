@@ -2,10 +2,10 @@
 
 ghost use Rattle.std.specs.Prelude.{◌≡◌};
 ghost use Rattle.std.specs.List.{list_all};
+ghost use Rattle.sj_base.specs.Names.{is_among};
 ghost use Rattle.sj_path.specs.Tree.{path_of, expr_of, step_of, sub_of, subs_of, pred_of};
 ghost use Rattle.sj_path.specs.Vars as spec;
 ghost use Rattle.sj_bind.specs.Names.{names_of};
-ghost use Rattle.sj_bind.specs.Rules.{is_among};
 
 use indexmap::IndexSet;
 use sj_path::{Expr, Initial, Path, Pred, Step, Sub, Subs};

@@ -2,6 +2,7 @@
 
 ghost use Rattle.std.specs.Prelude.{◌≡◌, ◌&&◌, not};
 ghost use Rattle.std.specs.List.{list_any};
+ghost use Rattle.sj_base.specs.Names.{is_among};
 ghost use Rattle.sj_sql.specs.View.{item_of, items_of};
 ghost use Rattle.sj_bind.specs.Names.{names_of};
 ghost use Rattle.sj_bind.specs.PartsView.{texts_of};
@@ -13,7 +14,7 @@ use sj_sql::TItem;
 
 /// Whether a name is that of no column.
 pub fn some_name_is_unknown(names: &[&str], columns: &IndexSet<&str>) -> bool
-    ensures { result ≡ list_any (λ name. not (spec.is_among (names_of columns.now) name)) (texts_of names.now) }
+    ensures { result ≡ list_any (λ name. not (is_among (names_of columns.now) name)) (texts_of names.now) }
 {
     for name in names {
         if !has_name(columns, name) {

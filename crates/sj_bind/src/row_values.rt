@@ -1,12 +1,12 @@
 //! The binding of values of a SELECT list with a table.
 
 ghost use Rattle.std.specs.Prelude.{◌≡◌, ◌≤◌, true, IfOk, length};
+ghost use Rattle.sj_base.specs.Names.{is_among};
 ghost use Rattle.sj_sql.specs.View.{tvalue_of, tvalues_of, tmembers_of, item_of};
 ghost use Rattle.sj_bind.specs.View as view;
 ghost use Rattle.sj_bind.specs.Fits.{AreNamed, AreAllNamed, AreMembersNamed, IsItemNamed};
 ghost use Rattle.sj_bind.specs.Meaning.{column_number, bound_value, bound_values, bound_members, bound_item};
 ghost use Rattle.sj_bind.specs.Names.{names_of};
-ghost use Rattle.sj_bind.specs.Rules.{is_among};
 
 use crate::bound::{BoundItem, BoundMembers, BoundValue, BoundValues};
 use crate::chains::{chain_members, chain_values};

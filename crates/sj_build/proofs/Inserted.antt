@@ -3,7 +3,7 @@ use Rattle.std.proofs.Common.{◌≡◌, ℕ, Bool, true, false, not, ◌||◌, 
 use Rattle.std.proofs.lemmas.List.{map-append}
 use Rattle.std.specs.List.{list_any}
 use Rattle.std.specs.Str.{bytes_eq}
-use Rattle.sj_build.specs.Constructors.{is_among}
+use Rattle.sj_base.specs.Names.{is_among}
 
 -- keys that are seen by their texts
 module _ {K : Type 0} (text : K → List ℕ) where

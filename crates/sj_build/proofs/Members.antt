@@ -2,11 +2,12 @@
 use Rattle.std.proofs.Common.{◌≡◌, ℕ, suc, ◌+◌, ◌<◌, add-one, Bool, false, ◌&&◌, List, [], ◌∷◌, ◌++◌, length, take, drop, get_or, Some, None, Ok, sym, ap, ◌∙◌, append_assoc}
 use Rattle.std.proofs.Math.Seq.{drop-cons, take-suc}
 use Rattle.std.proofs.lemmas.List.{take-append-drop}
+use Rattle.sj_base.specs.Names.{is_among}
 use Rattle.sj_value.specs.declared.clauses.Nulls.{Nulls}
 use Rattle.sj_build.specs.declared.field.Field.{Field}
 use Rattle.sj_build.specs.declared.place.Place.{Place}
 use Rattle.sj_build.specs.declared.place.Place.TheVariants.{Later}
-use Rattle.sj_build.specs.Constructors.{is_kept, is_among, kept_key, kept_fields, joined, pair_text, member_text}
+use Rattle.sj_build.specs.Constructors.{is_kept, kept_key, kept_fields, joined, pair_text, member_text}
 use Rattle.sj_build.specs.Growing.{lead}
 use Rattle.sj_build.specs.Held.{AreTaken}
 use Rattle.sj_build.specs.Keys.{noted}

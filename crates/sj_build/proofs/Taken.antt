@@ -4,6 +4,7 @@ use Rattle.std.proofs.lemmas.List.{map-append}
 use Rattle.std.specs.Borrow.{Bor}
 use Rattle.sj_base.specs.declared.state.State.{State}
 use Rattle.sj_base.specs.declared.state.State.TheVariants.{S22030}
+use Rattle.sj_base.specs.Names.{is_among}
 use Rattle.sj_value.specs.declared.clauses.Nulls.{Nulls}
 use Rattle.sj_value.specs.declared.value.SqlValue.{SqlValue}
 use Rattle.sj_build.specs.Answers.{RefusesAs, RefusesNull, RefusesRepeated}
@@ -12,7 +13,7 @@ use Rattle.sj_build.specs.declared.refusal.BuildRefusal.TheVariants as refused
 use Rattle.sj_build.specs.declared.field.Field.{Field}
 use Rattle.sj_build.specs.declared.place.Place.{Place}
 use Rattle.sj_build.specs.declared.place.Place.TheVariants.{Later}
-use Rattle.sj_build.specs.Constructors.{text_of, or_empty, key_text, is_kept, kept_fields, is_among, key_kept, kept_key, key_refusal, refusal, first_of, first_refusal, unless_refused, member_text}
+use Rattle.sj_build.specs.Constructors.{text_of, or_empty, key_text, is_kept, kept_fields, key_kept, kept_key, key_refusal, refusal, first_of, first_refusal, unless_refused, member_text}
 use Rattle.sj_build.specs.Growing.{place_behind}
 use Rattle.sj_build.specs.Held.{AreTaken}
 use Rattle.sj_build.specs.Keys.{noted}

@@ -1,10 +1,10 @@
 -- WHAT THE CONSTRUCTORS AND THE AGGREGATES GIVE, of whole lists of values and members (ISO/IEC 9075-2, JSON object and array constructors,
 -- JSON aggregate functions).
 use Rattle.std.specs.Prelude.{ℕ, List, [], ◌∷◌, ◌++◌, map, filter, Bool as Logical, true, false, not, ◌&&◌, if◌then◌else◌, codes, Option, Some, None, Result, Ok, Err}
-use Rattle.std.specs.List.{join_by, list_any}
-use Rattle.std.specs.Str.{bytes_eq}
+use Rattle.std.specs.List.{join_by}
 use Rattle.sj_base.specs.declared.state.State.{State}
 use Rattle.sj_base.specs.declared.state.State.TheVariants.{S22004, S22030}
+use Rattle.sj_base.specs.Names.{is_among}
 use Rattle.sj_decimal.specs.Text.{decimal_text}
 use Rattle.sj_json.specs.Printing.{printed_string}
 use Rattle.sj_value.specs.declared.clauses.Nulls.{Nulls}
@@ -74,9 +74,6 @@ key_text field = or_empty (text_of field.key)
 
 abbrev pub kept_fields : Nulls → List Field → List Field
 kept_fields choice fields = filter (λ field. is_kept choice field.value) fields
-
-abbrev pub is_among : List (List ℕ) → List ℕ → Logical
-is_among keys key = list_any (bytes_eq key) keys
 
 abbrev pub is_repeated : Nulls → List Field → List ℕ → Logical
 is_repeated choice before key = is_among (map key_text (kept_fields choice before)) key

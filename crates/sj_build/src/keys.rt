@@ -1,9 +1,9 @@
 // The keys of members, in a set where no two may be equal.
 ghost use Rattle.std.specs.Prelude.{◌≡◌, ◌++◌, ◌∷◌, [], ◌&&◌, not, is_some, true, false, IfOk, IfErr, OnOk, OnErr};
 ghost use Rattle.sj_base.specs.declared.state.State.TheVariants.{S22030};
+ghost use Rattle.sj_base.specs.Names.{is_among};
 ghost use Rattle.sj_build.specs.declared.refusal.BuildRefusal.TheVariants as refused;
 ghost use Rattle.sj_build.specs.Answers.{RefusesRepeated};
-ghost use Rattle.sj_build.specs.Constructors.{is_among};
 ghost use Rattle.sj_build.specs.Keys.{lent, lent_keys, owned, owned_keys, noted};
 
 use crate::refusal::BuildRefusal;

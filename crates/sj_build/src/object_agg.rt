@@ -1,8 +1,9 @@
 // JSON_OBJECTAGG.
 ghost use Rattle.std.specs.Prelude.{◌≡◌, ◌++◌, ◌∷◌, ◌&&◌, [], List, ℕ, Ok, is_some, false, IfErr, OnOk, OnErr, codes};
+ghost use Rattle.sj_base.specs.Names.{is_among};
 ghost use Rattle.sj_value.specs.Values.{IsPrintable};
 ghost use Rattle.sj_build.specs.declared.field.Field.{Field};
-ghost use Rattle.sj_build.specs.Constructors.{is_among, pair_text};
+ghost use Rattle.sj_build.specs.Constructors.{pair_text};
 ghost use Rattle.sj_build.specs.Growing as growing;
 ghost use Rattle.sj_build.specs.Growing.{opening, opened, Extends};
 ghost use Rattle.sj_build.specs.Answers.{RefusesAs, RefusesRepeated};

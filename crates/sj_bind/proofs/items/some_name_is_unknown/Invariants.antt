@@ -1,8 +1,8 @@
 use Rattle.std.proofs.Common.{◌≡◌, not, ℕ, List, drop}
 use Rattle.std.specs.List.{list_any}
+use Rattle.sj_base.specs.Names.{is_among}
 use Rattle.sj_bind.specs.Names.{names_of}
 use Rattle.sj_bind.specs.PartsView.{texts_of}
-use Rattle.sj_bind.specs.Rules.{is_among}
 use Rattle.sj_bind.proofs.items.some_name_is_unknown.Given as goal
 
 -- those so far keep the rule

@@ -1,7 +1,8 @@
 use Rattle.std.proofs.Common.{◌≡◌, ◌||◌, ℕ, List, drop}
+use Rattle.sj_base.specs.Names.{is_among}
 use Rattle.sj_bind.specs.Names.{names_of}
 use Rattle.sj_bind.specs.PartsView.{columns_at}
-use Rattle.sj_bind.specs.Rules.{is_among, text_names}
+use Rattle.sj_bind.specs.Rules.{text_names}
 use Rattle.sj_bind.proofs.keys.text_names.Given as goal
 
 -- a name is that of a text column where it is there or is that of one of those left

@@ -1,8 +1,8 @@
 use Rattle.std.proofs.Common.{◌≡◌, ℕ, List, ◌||◌, length}
+use Rattle.sj_base.specs.Names.{is_among}
 use Rattle.sj_path.specs.Vars.{has_name}
 use Rattle.sj_bind.specs.Clauses.{passed}
 use Rattle.sj_bind.specs.Names.{names_of}
-use Rattle.sj_bind.specs.Rules.{is_among}
 use Rattle.sj_bind.proofs.variables.variable_names.Given as goal
 
 -- a name is that of a variable where it is there or is one of those left
