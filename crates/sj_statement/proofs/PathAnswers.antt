@@ -1,8 +1,5 @@
 -- The answer of a text is what sj_grammar says of the text.
-use Rattle.std.proofs.Common.{◌≡◌, ◌⊎◌, inl, inr, ℕ, zero, suc, ◌+◌, ◌<◌, ◌≤◌, nat_lt, nat_le, Bool, true, false, ◌||◌, cond, List, length, take, count_by, Option, Some, None, Result, Ok, Err, refl, sym, ap, subst, ◌∙◌, arith}
-use Rattle.std.proofs.lemmas.Bool.Decides.{nat_tests}
-use Rattle.std.proofs.lemmas.List.{take_all}
-use Rattle.std.proofs.Math.Seq.{take-length}
+use Rattle.std.proofs.Common.{◌≡◌, ℕ, Bool, true, false, cond, List, length, Option, Some, None, Result, Ok, Err, refl, sym, ap, subst, ◌∙◌, arith}
 use Rattle.sj_token.specs.Tokens.{HasTokens}
 use Rattle.sj_token.specs.Reading.{lex}
 use Rattle.sj_token.proofs.Texts.{lex_sound, lex_full}
@@ -11,12 +8,12 @@ use Rattle.sj_grammar.specs.declared.refusal.PathRefusal.TheVariants as r
 use Rattle.sj_grammar.specs.declared.refusal.Name.{Name}
 use Rattle.sj_grammar.specs.Tree.{Path}
 use Rattle.sj_grammar.specs.Grammar.{Tokens}
-use Rattle.sj_grammar.specs.Depth.{is_opening, is_closing, is_counted, IsDeepAt, OpensTooMany, IsTooDeep}
+use Rattle.sj_grammar.specs.Depth.{IsTooDeep}
 use Rattle.sj_grammar.specs.Misplaced.{is_misplaced}
 use Rattle.sj_grammar.specs.Unsupported.{unsupported}
 use Rattle.sj_grammar.specs.Reading.{path_at}
 use Rattle.sj_grammar.specs.Answers.{Spells, Accepts, Refuses}
-use Rattle.sj_grammar.specs.Accepted.{is_deep_at, is_deep_within, is_too_deep}
+use Rattle.sj_grammar.specs.Accepted.{is_too_deep}
 use Rattle.sj_grammar.proofs.Paths.{path_full, path_sound}
 use Rattle.sj_grammar.proofs.Acceptance.{too_deep_found, too_deep_missed, accepted_is}
 use Rattle.sj_grammar.proofs.Laws as laws

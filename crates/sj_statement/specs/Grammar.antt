@@ -1,7 +1,7 @@
 -- The grammar of statements, one constructor for each alternative of a rule. `IsValue s ts v rest` says that the tokens ts
 -- begin with a spelling of the value v, and that rest follows it; the others say the same of theirs. A rule goes from list to list,
 -- phrase by phrase, in the order of the text.
-use Rattle.std.specs.Prelude.{◌≡◌, ℕ, ◌+◌, ◌<◌, ◌≤◌, Bool, true, false, List, [], ◌∷◌, take, Option, Some, None, count_by}
+use Rattle.std.specs.Prelude.{◌≡◌, ℕ, ◌+◌, ◌≤◌, Bool, true, false, List, [], ◌∷◌, Option, Some, None}
 use Rattle.sj_base.specs.Nesting.{LeavesOpen, NestsTooDeep}
 use Rattle.sj_grammar.specs.declared.tree.Literal.{Literal}
 use Rattle.sj_value.specs.declared.types.SqlType.TheVariants as sql

@@ -1,5 +1,5 @@
 -- A walk over the members under a key, by the first of them.
-use Rattle.std.proofs.Common.{◌≡◌, ℕ, suc, ◌-◌, ◌<◌, List, [], ◌∷◌, map, length, Bool, true, false, if◌then◌else◌, Option, Some, None, refl, sym, ap, ◌∙◌, arith}
+use Rattle.std.proofs.Common.{◌≡◌, ℕ, suc, ◌-◌, ◌<◌, List, [], ◌∷◌, map, length, Bool, true, false, if◌then◌else◌, Option, refl, sym, ap, ◌∙◌, arith}
 use Rattle.sj_json.specs.Tree.{Tree}
 use Rattle.sj_doc.specs.Keyed.{is_key, from_key}
 use Rattle.sj_grammar.specs.declared.tree.Mode.{Mode}
