@@ -64,7 +64,8 @@ impl<'d> Cursor<'d> {
         ensures root { IfOk result (λ c. c.root ≡ item_value root.entry) }
         ensures left { IfOk result (λ c. c.left ≡ path_trace (path_of path.now) vars.now (item_value root.entry)) }
     {
-        let mut cell = expr_cell(alloc, &path.expr)?;
+        let made = expr_cell(alloc, &path.expr)?;
+        let mut cell = Box::into_inner(made);
         cell.rewind();
         Ok(Cursor {
             path,
