@@ -13,4 +13,5 @@ pub mod Answers
 pub mod Asked
 pub mod Cells
 pub mod Left
+pub mod Ends
 pub mod Sequel

@@ -1,197 +1,371 @@
 // The cells of a path, made whole: the only place that takes memory.
+//
+// What recurs over a path holds places of cells and no cell, and gives none up: what its frame holds is taken as often as a path
+// is nested. Cells are made, and given up where memory runs out, by functions that do not recur and are kept out of line.
 ghost use Rattle.std.specs.Prelude.{◌≡◌, IfOk};
-ghost use Rattle.sj_grammar.specs.Tree.{Access, Binary as binary_of, Compares as comparing};
+ghost use Rattle.sj_grammar.specs.Tree as tree;
 ghost use Rattle.sj_path.specs.Tree.{expr_of, step_of, sub_of, subs_of, pred_of};
 ghost use Rattle.sj_cursor.specs.Cells.{source_expr, act_on};
-ghost use Rattle.sj_cursor.specs.Left.{core, doing, doing_on, operand_core, part_core, parts_core, test_core};
+ghost use Rattle.sj_cursor.specs.Ends.{ends_core};
+ghost use Rattle.sj_cursor.specs.Left.{core, part_core, parts_core, test_core};
 
 use crate::cells::{
     Act, Acted, Acting, At, Binary, Both, Bounds, Cell, Comparison, Deed, Each, Elements, Filter,
     MoreParts, One, Operand, Part, Parts, Range, Reached, Source, Start, Test,
 };
 use sj_base::Memory;
-use sj_path::{Arith, Compare, Expr, Pred, Step, Sub, Subs};
+use sj_path::{Arith, Compare, Expr, Initial, Pred, Step, Sub, Subs};
 use sj_step::Walk;
 use std::alloc::Global;
 
-fn one<'d>(source: Source<'d>) -> Cell<'d>
-    ensures { core result ≡ source_expr source.entry }
-{
-    Cell::One(One {
-        source,
-        given: false,
-    })
+/// The cells of the subscripts of one part.
+#[derive(Drop)]
+enum Ends<'d> {
+    One(Box<Cell<'d>>),
+    Range(Box<Cell<'d>>, Box<Cell<'d>>),
 }
 
-fn each<'d>(input: Operand<'d>, deed: Deed<'d>) -> Cell<'d>
-    ensures { core result ≡ doing_on (doing deed.entry) (operand_core input.entry) }
-{
-    Cell::Each(Each { input, deed })
-}
-
-#[inline(never)]
-fn binary<'d>(op: Arith, left: Operand<'d>, right: Operand<'d>) -> Cell<'d>
-    ensures { core result ≡ binary_of op (operand_core left.entry) (operand_core right.entry) }
-{
-    Cell::Binary(Binary {
-        op,
-        left,
-        right,
-        reached: Reached::Unasked,
-    })
-}
-
-#[inline(never)]
-fn comparison<'d>(op: Compare, left: Operand<'d>, right: Operand<'d>) -> Test<'d>
-    ensures { test_core result ≡ comparing op (operand_core left.entry) (operand_core right.entry) }
-{
-    Test::Compare(Comparison { op, left, right })
-}
-
-#[inline(never)]
-fn acting<'d>(input: Operand<'d>, act: Act<'d>) -> Cell<'d>
-    ensures { core result ≡ act_on act.entry (operand_core input.entry) }
-{
-    let left = Acted::Walk(Walk::ended());
-    each(input, Deed::Act(Acting { act, left }))
-}
+// ---- expressions
 
 /// The cells of an expression.
 #[cycle(build)]
-pub(crate) fn expr_cell<'d>(alloc: Global, expr: &'d Expr) -> Result<Cell<'d>, Memory>
-    ensures { IfOk result (λ c. core c ≡ expr_of expr.now) }
+pub(crate) fn expr_cell<'d>(alloc: Global, expr: &'d Expr) -> Result<Box<Cell<'d>>, Memory>
+    ensures { IfOk result (λ c. core c.value ≡ expr_of expr.now) }
 {
     match expr {
-        Expr::Root => Ok(one(Source::Root)),
-        Expr::Var(name) => Ok(one(Source::Var(name.as_str()))),
-        Expr::Context => Ok(one(Source::Context)),
-        Expr::Last => Ok(one(Source::Last)),
-        Expr::Lit(literal) => Ok(one(Source::Lit(literal))),
+        Expr::Root => Ok(one(alloc, Source::Root)?),
+        Expr::Var(name) => Ok(one(alloc, Source::Var(name.as_str()))?),
+        Expr::Context => Ok(one(alloc, Source::Context)?),
+        Expr::Last => Ok(one(alloc, Source::Last)?),
+        Expr::Lit(literal) => Ok(one(alloc, Source::Lit(literal))?),
         Expr::Access(inner, step) => {
-            let input = operand(alloc, inner)?;
+            let input = expr_cell(alloc, inner)?;
             Ok(step_cell(alloc, step, input)?)
         }
-        Expr::Plus(inner) => Ok(acting(operand(alloc, inner)?, Act::Plus)),
-        Expr::Minus(inner) => Ok(acting(operand(alloc, inner)?, Act::Minus)),
+        Expr::Plus(inner) => Ok(acting(alloc, expr_cell(alloc, inner)?, Act::Plus)?),
+        Expr::Minus(inner) => Ok(acting(alloc, expr_cell(alloc, inner)?, Act::Minus)?),
         Expr::Binary(op, left, right) => {
-            let left = operand(alloc, left)?;
-            let right = operand(alloc, right)?;
-            Ok(binary(*op, left, right))
+            let left = expr_cell(alloc, left)?;
+            match expr_cell(alloc, right) {
+                Ok(right) => Ok(binary(alloc, *op, left, right)?),
+                Err(memory) => Err(give_up(left, memory)),
+            }
         }
     }
 }
 
-// An expression that something is done with.
-//
-// What recurs over a path is kept out of line, and so is what makes a large cell of parts that are made already: what a
-// frame holds is taken as often as a path is nested.
-#[cycle(build)]
 #[inline(never)]
-fn operand<'d>(alloc: Global, expr: &'d Expr) -> Result<Operand<'d>, Memory>
-    ensures { IfOk result (λ o. operand_core o ≡ expr_of expr.now) }
+fn one<'d>(alloc: Global, source: Source<'d>) -> Result<Box<Cell<'d>>, Memory>
+    ensures { IfOk result (λ c. core c.value ≡ source_expr source.entry) }
 {
-    let cell = expr_cell(alloc, expr)?;
-    Ok(Operand {
-        cell: Box::new(alloc, cell)?,
-        opened: Walk::ended(),
-    })
+    let cell = Cell::One(One {
+        source,
+        given: false,
+    });
+    Ok(Box::new(alloc, cell)?)
 }
+
+// A cell that something is done with.
+fn operand<'d>(cell: Box<Cell<'d>>) -> Operand<'d>
+    ensures { result.cell ≡ cell.entry }
+{
+    Operand {
+        cell,
+        opened: Walk::ended(),
+    }
+}
+
+#[inline(never)]
+fn binary<'d>(
+    alloc: Global,
+    op: Arith,
+    left: Box<Cell<'d>>,
+    right: Box<Cell<'d>>,
+) -> Result<Box<Cell<'d>>, Memory>
+    ensures { IfOk result (λ c. core c.value ≡ tree.Binary op (core left.entry.value) (core right.entry.value)) }
+{
+    let cell = Cell::Binary(Binary {
+        op,
+        left: operand(left),
+        right: operand(right),
+        reached: Reached::Unasked,
+    });
+    Ok(Box::new(alloc, cell)?)
+}
+
+// Where memory runs out, what was made is given up by one call.
+#[inline(never)]
+fn give_up<'d>(_cell: Box<Cell<'d>>, memory: Memory) -> Memory {
+    memory
+}
+
+#[inline(never)]
+fn give_up_ends<'d>(_ends: Ends<'d>, memory: Memory) -> Memory {
+    memory
+}
+
+#[inline(never)]
+fn give_up_test<'d>(_test: Box<Test<'d>>, memory: Memory) -> Memory {
+    memory
+}
+
+// ---- accessors
 
 // An accessor on an expression.
 #[cycle(build)]
 #[inline(never)]
-fn step_cell<'d>(alloc: Global, step: &'d Step, input: Operand<'d>) -> Result<Cell<'d>, Memory>
-    ensures { IfOk result (λ c. core c ≡ Access (operand_core input.entry) (step_of step.now)) }
+fn step_cell<'d>(
+    alloc: Global,
+    step: &'d Step,
+    input: Box<Cell<'d>>,
+) -> Result<Box<Cell<'d>>, Memory>
+    ensures { IfOk result (λ c. core c.value ≡ tree.Access (core input.entry.value) (step_of step.now)) }
 {
     match step {
-        Step::Member(key) => Ok(acting(input, Act::Member(key.as_str()))),
-        Step::AllMembers => Ok(acting(input, Act::AllMembers)),
-        Step::AllElements => Ok(acting(input, Act::AllElements)),
-        Step::Method(method) => Ok(acting(input, Act::Method(*method))),
-        Step::Elements(subs) => {
-            let parts = parts_cell(alloc, subs)?;
-            let parts = Box::new(alloc, parts)?;
-            let at = At::Nothing;
-            Ok(each(input, Deed::Elements(Elements { parts, at })))
-        }
-        Step::Filter(pred) => {
-            let test = test_cell(alloc, pred)?;
-            let test = Box::new(alloc, test)?;
-            Ok(each(input, Deed::Filter(Filter { test })))
-        }
+        Step::Member(key) => Ok(acting(alloc, input, Act::Member(key.as_str()))?),
+        Step::AllMembers => Ok(acting(alloc, input, Act::AllMembers)?),
+        Step::AllElements => Ok(acting(alloc, input, Act::AllElements)?),
+        Step::Method(method) => Ok(acting(alloc, input, Act::Method(*method))?),
+        Step::Elements(subs) => match parts_cell(alloc, subs) {
+            Ok(parts) => Ok(elements(alloc, input, parts)?),
+            Err(memory) => Err(give_up(input, memory)),
+        },
+        Step::Filter(pred) => match test_cell(alloc, pred) {
+            Ok(test) => Ok(filter(alloc, input, test)?),
+            Err(memory) => Err(give_up(input, memory)),
+        },
     }
 }
 
+#[inline(never)]
+fn acting<'d>(alloc: Global, input: Box<Cell<'d>>, act: Act<'d>) -> Result<Box<Cell<'d>>, Memory>
+    ensures { IfOk result (λ c. core c.value ≡ act_on act.entry (core input.entry.value)) }
+{
+    let left = Acted::Walk(Walk::ended());
+    let cell = Cell::Each(Each {
+        input: operand(input),
+        deed: Deed::Act(Acting { act, left }),
+    });
+    Ok(Box::new(alloc, cell)?)
+}
+
+#[inline(never)]
+fn elements<'d>(
+    alloc: Global,
+    input: Box<Cell<'d>>,
+    parts: Box<Parts<'d>>,
+) -> Result<Box<Cell<'d>>, Memory>
+    ensures { IfOk result (λ c. core c.value ≡ tree.Access (core input.entry.value) (tree.Elements (parts_core parts.entry.value))) }
+{
+    let at = At::Nothing;
+    let cell = Cell::Each(Each {
+        input: operand(input),
+        deed: Deed::Elements(Elements { parts, at }),
+    });
+    Ok(Box::new(alloc, cell)?)
+}
+
+#[inline(never)]
+fn filter<'d>(
+    alloc: Global,
+    input: Box<Cell<'d>>,
+    test: Box<Test<'d>>,
+) -> Result<Box<Cell<'d>>, Memory>
+    ensures { IfOk result (λ c. core c.value ≡ tree.Access (core input.entry.value) (tree.Filter (test_core test.entry.value))) }
+{
+    let cell = Cell::Each(Each {
+        input: operand(input),
+        deed: Deed::Filter(Filter { test }),
+    });
+    Ok(Box::new(alloc, cell)?)
+}
+
+// ---- subscripts
+
 #[cycle(build)]
-fn parts_cell<'d>(alloc: Global, subs: &'d Subs) -> Result<Parts<'d>, Memory>
-    ensures { IfOk result (λ p. parts_core p ≡ subs_of subs.now) }
+#[inline(never)]
+fn parts_cell<'d>(alloc: Global, subs: &'d Subs) -> Result<Box<Parts<'d>>, Memory>
+    ensures { IfOk result (λ p. parts_core p.value ≡ subs_of subs.now) }
 {
     match subs {
-        Subs::Only(sub) => Ok(Parts::Only(part_cell(alloc, sub)?)),
+        Subs::Only(sub) => Ok(only(alloc, ends_cell(alloc, sub)?)?),
         Subs::More(sub, others) => {
-            let first = part_cell(alloc, sub)?;
-            let others = parts_cell(alloc, others)?;
-            let others = Box::new(alloc, others)?;
-            Ok(Parts::More(MoreParts { first, others }))
+            let first = ends_cell(alloc, sub)?;
+            match parts_cell(alloc, others) {
+                Ok(others) => Ok(more(alloc, first, others)?),
+                Err(memory) => Err(give_up_ends(first, memory)),
+            }
         }
     }
 }
 
 #[cycle(build)]
-fn part_cell<'d>(alloc: Global, sub: &'d Sub) -> Result<Part<'d>, Memory>
-    ensures { IfOk result (λ p. part_core p ≡ sub_of sub.now) }
+#[inline(never)]
+fn ends_cell<'d>(alloc: Global, sub: &'d Sub) -> Result<Ends<'d>, Memory>
+    ensures { IfOk result (λ e. ends_core e ≡ sub_of sub.now) }
 {
     match sub {
-        Sub::One(index) => Ok(Part {
-            bounds: Bounds::One(operand(alloc, index)?),
-            reached: Reached::Unasked,
+        Sub::One(index) => Ok(Ends::One(expr_cell(alloc, index)?)),
+        Sub::Range(from, to) => {
+            let from = expr_cell(alloc, from)?;
+            match expr_cell(alloc, to) {
+                Ok(to) => Ok(Ends::Range(from, to)),
+                Err(memory) => Err(give_up(from, memory)),
+            }
+        }
+    }
+}
+
+fn part<'d>(ends: Ends<'d>) -> Part<'d>
+    ensures { part_core result ≡ ends_core ends.entry }
+{
+    let bounds = match ends {
+        Ends::One(index) => Bounds::One(operand(index)),
+        Ends::Range(from, to) => Bounds::Range(Range {
+            from: operand(from),
+            to: operand(to),
         }),
-        Sub::Range(from, to) => Ok(Part {
-            bounds: Bounds::Range(Range {
-                from: operand(alloc, from)?,
-                to: operand(alloc, to)?,
-            }),
-            reached: Reached::Unasked,
-        }),
+    };
+    Part {
+        bounds,
+        reached: Reached::Unasked,
+    }
+}
+
+#[inline(never)]
+fn only<'d>(alloc: Global, ends: Ends<'d>) -> Result<Box<Parts<'d>>, Memory>
+    ensures { IfOk result (λ p. parts_core p.value ≡ tree.Only (ends_core ends.entry)) }
+{
+    Ok(Box::new(alloc, Parts::Only(part(ends)))?)
+}
+
+#[inline(never)]
+fn more<'d>(
+    alloc: Global,
+    first: Ends<'d>,
+    others: Box<Parts<'d>>,
+) -> Result<Box<Parts<'d>>, Memory>
+    ensures { IfOk result (λ p. parts_core p.value ≡ tree.More (ends_core first.entry) (parts_core others.entry.value)) }
+{
+    let parts = Parts::More(MoreParts {
+        first: part(first),
+        others,
+    });
+    Ok(Box::new(alloc, parts)?)
+}
+
+// ---- predicates
+
+#[cycle(build)]
+#[inline(never)]
+fn test_cell<'d>(alloc: Global, pred: &'d Pred) -> Result<Box<Test<'d>>, Memory>
+    ensures { IfOk result (λ x. test_core x.value ≡ pred_of pred.now) }
+{
+    match pred {
+        Pred::Compare(op, left, right) => {
+            let left = expr_cell(alloc, left)?;
+            match expr_cell(alloc, right) {
+                Ok(right) => Ok(comparison(alloc, *op, left, right)?),
+                Err(memory) => Err(give_up(left, memory)),
+            }
+        }
+        Pred::And(left, right) => {
+            let left = test_cell(alloc, left)?;
+            match test_cell(alloc, right) {
+                Ok(right) => Ok(both_hold(alloc, left, right)?),
+                Err(memory) => Err(give_up_test(left, memory)),
+            }
+        }
+        Pred::Or(left, right) => {
+            let left = test_cell(alloc, left)?;
+            match test_cell(alloc, right) {
+                Ok(right) => Ok(one_holds(alloc, left, right)?),
+                Err(memory) => Err(give_up_test(left, memory)),
+            }
+        }
+        Pred::Not(inner) => Ok(negation(alloc, test_cell(alloc, inner)?)?),
+        Pred::IsUnknown(inner) => Ok(is_unknown(alloc, test_cell(alloc, inner)?)?),
+        Pred::Exists(expr) => Ok(exists(alloc, expr_cell(alloc, expr)?)?),
+        Pred::StartsWith(expr, initial) => {
+            let text = expr_cell(alloc, expr)?;
+            Ok(starts_with(alloc, text, initial)?)
+        }
     }
 }
 
 // A test in a place of its own.
-#[cycle(build)]
 #[inline(never)]
-fn boxed_test<'d>(alloc: Global, pred: &'d Pred) -> Result<Box<Test<'d>>, Memory>
-    ensures { IfOk result (λ b. test_core b.value ≡ pred_of pred.now) }
+fn boxed<'d>(alloc: Global, test: Test<'d>) -> Result<Box<Test<'d>>, Memory>
+    ensures { IfOk result (λ x. x.value ≡ test.entry) }
 {
-    let test = test_cell(alloc, pred)?;
     Ok(Box::new(alloc, test)?)
 }
 
-#[cycle(build)]
-fn test_cell<'d>(alloc: Global, pred: &'d Pred) -> Result<Test<'d>, Memory>
-    ensures { IfOk result (λ x. test_core x ≡ pred_of pred.now) }
+#[inline(never)]
+fn comparison<'d>(
+    alloc: Global,
+    op: Compare,
+    left: Box<Cell<'d>>,
+    right: Box<Cell<'d>>,
+) -> Result<Box<Test<'d>>, Memory>
+    ensures { IfOk result (λ x. test_core x.value ≡ tree.Compares op (core left.entry.value) (core right.entry.value)) }
 {
-    match pred {
-        Pred::Compare(op, left, right) => {
-            let left = operand(alloc, left)?;
-            let right = operand(alloc, right)?;
-            Ok(comparison(*op, left, right))
-        }
-        Pred::And(left, right) => {
-            let left = boxed_test(alloc, left)?;
-            let right = boxed_test(alloc, right)?;
-            Ok(Test::And(Both { left, right }))
-        }
-        Pred::Or(left, right) => {
-            let left = boxed_test(alloc, left)?;
-            let right = boxed_test(alloc, right)?;
-            Ok(Test::Or(Both { left, right }))
-        }
-        Pred::Not(inner) => Ok(Test::Not(boxed_test(alloc, inner)?)),
-        Pred::IsUnknown(inner) => Ok(Test::IsUnknown(boxed_test(alloc, inner)?)),
-        Pred::Exists(expr) => Ok(Test::Exists(operand(alloc, expr)?)),
-        Pred::StartsWith(expr, initial) => Ok(Test::StartsWith(Start {
-            text: operand(alloc, expr)?,
-            initial,
-        })),
-    }
+    let right = operand(right);
+    let left = operand(left);
+    Ok(boxed(alloc, Test::Compare(Comparison { op, left, right }))?)
+}
+
+#[inline(never)]
+fn both_hold<'d>(
+    alloc: Global,
+    left: Box<Test<'d>>,
+    right: Box<Test<'d>>,
+) -> Result<Box<Test<'d>>, Memory>
+    ensures { IfOk result (λ x. test_core x.value ≡ tree.And (test_core left.entry.value) (test_core right.entry.value)) }
+{
+    Ok(boxed(alloc, Test::And(Both { left, right }))?)
+}
+
+#[inline(never)]
+fn one_holds<'d>(
+    alloc: Global,
+    left: Box<Test<'d>>,
+    right: Box<Test<'d>>,
+) -> Result<Box<Test<'d>>, Memory>
+    ensures { IfOk result (λ x. test_core x.value ≡ tree.Or (test_core left.entry.value) (test_core right.entry.value)) }
+{
+    Ok(boxed(alloc, Test::Or(Both { left, right }))?)
+}
+
+#[inline(never)]
+fn negation<'d>(alloc: Global, inner: Box<Test<'d>>) -> Result<Box<Test<'d>>, Memory>
+    ensures { IfOk result (λ x. test_core x.value ≡ tree.Not (test_core inner.entry.value)) }
+{
+    Ok(boxed(alloc, Test::Not(inner))?)
+}
+
+#[inline(never)]
+fn is_unknown<'d>(alloc: Global, inner: Box<Test<'d>>) -> Result<Box<Test<'d>>, Memory>
+    ensures { IfOk result (λ x. test_core x.value ≡ tree.IsUnknown (test_core inner.entry.value)) }
+{
+    Ok(boxed(alloc, Test::IsUnknown(inner))?)
+}
+
+#[inline(never)]
+fn exists<'d>(alloc: Global, expr: Box<Cell<'d>>) -> Result<Box<Test<'d>>, Memory>
+    ensures { IfOk result (λ x. test_core x.value ≡ tree.Exists (core expr.entry.value)) }
+{
+    Ok(boxed(alloc, Test::Exists(operand(expr)))?)
+}
+
+#[inline(never)]
+fn starts_with<'d>(
+    alloc: Global,
+    expr: Box<Cell<'d>>,
+    initial: &'d Initial,
+) -> Result<Box<Test<'d>>, Memory>
+    ensures { IfOk result (λ x. test_core x.value ≡ tree.StartsWith (core expr.entry.value) initial.now) }
+{
+    let text = operand(expr);
+    Ok(boxed(alloc, Test::StartsWith(Start { text, initial }))?)
 }

@@ -10,7 +10,6 @@ use sj_step::Walk;
 
 /// A cell of an expression.
 #[cycle(cells)]
-#[derive(Drop)]
 pub(crate) enum Cell<'d> {
     /// One item.
     One(One<'d>),
@@ -18,6 +17,32 @@ pub(crate) enum Cell<'d> {
     Each(Each<'d>),
     /// Arithmetic on two operands.
     Binary(Binary<'d>),
+}
+
+// A loop, since a path of some hundred parts is a chain of as many cells: a drop that calls itself would take stack for each.
+impl<'d> Drop for Cell<'d> {
+    #[cycle(cells)]
+    fn drop(mut self) {
+        loop {
+            match self {
+                Cell::One(_) => return,
+                Cell::Each(
+                    Each {
+                        input: Operand { cell, opened: _ },
+                        deed: _,
+                    },
+                ) => self = Box::into_inner(cell),
+                Cell::Binary(
+                    Binary {
+                        op: _,
+                        left: Operand { cell, opened: _ },
+                        right: _,
+                        reached: _,
+                    },
+                ) => self = Box::into_inner(cell),
+            }
+        }
+    }
 }
 
 /// One item, which was given already or not.
@@ -131,10 +156,21 @@ pub(crate) struct Spot<'d> {
 
 /// The parts of a list of subscripts.
 #[cycle(cells)]
-#[derive(Drop)]
 pub(crate) enum Parts<'d> {
     Only(Part<'d>),
     More(MoreParts<'d>),
+}
+
+impl<'d> Drop for Parts<'d> {
+    #[cycle(cells)]
+    fn drop(mut self) {
+        loop {
+            match self {
+                Parts::Only(_) => return,
+                Parts::More(MoreParts { first: _, others }) => self = Box::into_inner(others),
+            }
+        }
+    }
 }
 
 #[cycle(cells)]
@@ -186,7 +222,6 @@ pub(crate) struct Binary<'d> {
 
 /// A predicate.
 #[cycle(cells)]
-#[derive(Drop)]
 pub(crate) enum Test<'d> {
     Compare(Comparison<'d>),
     And(Both<'d>),
@@ -195,6 +230,21 @@ pub(crate) enum Test<'d> {
     IsUnknown(Box<Test<'d>>),
     Exists(Operand<'d>),
     StartsWith(Start<'d>),
+}
+
+impl<'d> Drop for Test<'d> {
+    #[cycle(cells)]
+    fn drop(mut self) {
+        loop {
+            match self {
+                Test::And(Both { left, right: _ }) => self = Box::into_inner(left),
+                Test::Or(Both { left, right: _ }) => self = Box::into_inner(left),
+                Test::Not(inner) => self = Box::into_inner(inner),
+                Test::IsUnknown(inner) => self = Box::into_inner(inner),
+                Test::Compare(_) | Test::Exists(_) | Test::StartsWith(_) => return,
+            }
+        }
+    }
 }
 
 #[cycle(cells)]

@@ -19,7 +19,7 @@ pub struct Cursor<'d> {
     path: &'d Path,
     vars: &'d Vars,
     root: Item<'d>,
-    cell: Cell<'d>,
+    cell: Box<Cell<'d>>,
 }
 
 impl<'d> Model for Cursor<'d> {
@@ -35,9 +35,9 @@ impl<'d> Model for Cursor<'d> {
     ghost use Rattle.sj_cursor.specs.Left.{core, left};
     ghost use Rattle.sj_cursor.specs.Meaning.{start_env};
 
-    ghost view = { λ c. record { path = c.path.now; vars = c.vars.now; root = item_value c.root; left = left c.cell (start_env (path_of c.path.now) c.vars.now (item_value c.root)) } };
+    ghost view = { λ c. record { path = c.path.now; vars = c.vars.now; root = item_value c.root; left = left c.cell.value (start_env (path_of c.path.now) c.vars.now (item_value c.root)) } };
 
-    ghost invariant = { λ c. core c.cell ≡ expr_of c.path.now.expr };
+    ghost invariant = { λ c. core c.cell.value ≡ expr_of c.path.now.expr };
 }
 
 impl<'d> Cursor<'d> {
