@@ -1,16 +1,22 @@
 -- The first statement of a file can be bound.
-use Rattle.std.proofs.Common.{◌≡◌, ℕ, List, ◌∷◌, Option, map, ap, subst}
-use Rattle.std.specs.List.{All}
-use Rattle.std.proofs.lemmas.List.Elements.{All-head}
-use Rattle.sj_sql_token.specs.Tokens.{Lexed}
-use Rattle.sj_statement.specs.declared.refusal.FileKind.{FileKind}
-use Rattle.sj_statement.specs.Answers.{IsFile}
-use Rattle.sj_sql.specs.declared.tree.Statement.{Statement}
+use Rattle.std.proofs.Common.{ℕ, List, Result, Ok}
+use Rattle.sj_grammar.specs.Tree.{Path}
+use Rattle.sj_statement.specs.Tree.{Statement}
+use Rattle.sj_sql.specs.File.{IsFirst, IsNext}
 use Rattle.sj_sql.specs.View.{statement_of}
+use Rattle.sj_sql.specs.declared.file.NextStatement.{NextStatement}
+use Rattle.sj_sql.specs.declared.file.NextStatement.TheVariants.{Statement as Taken, End}
 use Rattle.sj_bind.specs.Sound.{IsBindable}
-use Rattle.sj_bind.proofs.Accepting.{file_bindable}
+use Rattle.sj_bind.proofs.Accepting.{accepted_bindable}
 
-pub first_bindable : (file : Lexed) (all others : List Statement) (x : Statement) (refusal : Option (ℕ × FileKind))
-    → IsFile file (map statement_of all) refusal → all ≡ x ∷ others → IsBindable (statement_of x)
-first_bindable file all others x refusal read first =
-    All-head IsBindable (statement_of x) (map statement_of others) (subst (All IsBindable) (ap (map statement_of) first) (file_bindable file (map statement_of all) refusal read))
+pub first_bindable : (file : List ℕ) (s : Statement Path) (behind : List ℕ) → IsFirst file s behind → IsBindable s
+first_bindable file s behind h = accepted_bindable h.tokens s h.accepted
+
+-- where there is one
+abbrev pub IsBindableNext : NextStatement → Type 0
+IsBindableNext (Taken s behind) = IsBindable (statement_of s)
+IsBindableNext End = Unit {0}
+
+pub next_bindable : (file : List ℕ) (x : NextStatement) → IsNext file (Ok x) → IsBindableNext x
+next_bindable file (Taken s behind) h = first_bindable file (statement_of s) behind.now h
+next_bindable file End h = tt

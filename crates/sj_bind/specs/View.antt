@@ -1,5 +1,6 @@
 -- A bound statement without where its parts lie in memory.
-use Rattle.std.specs.Prelude.{List, [], ◌∷◌, map, Option, Some, None}
+use Rattle.std.specs.Prelude.{List, [], ◌∷◌, map, Option, Some, None, Box}
+use Rattle.std.specs.declared.alloc.Global.{Global}
 use Rattle.sj_grammar.specs.Tree as g
 use Rattle.sj_path.specs.declared.tree.Path.{Path}
 use Rattle.sj_path.specs.Tree.{path_of}
@@ -24,9 +25,9 @@ abbrev mutual
   pub value_of : BoundValue → b.Value
   value_of (Lit x) = b.Lit x
   value_of (Column n) = b.Column n
-  value_of (Exists x on_error) = b.Exists (path_with_of x) on_error
-  value_of (Value x clauses) = b.ValueOf (path_with_of x) clauses
-  value_of (Query x clauses) = b.Query (path_with_of x) clauses
+  value_of (Exists x on_error) = b.Exists (path_with_of x.value) on_error
+  value_of (Value x clauses) = b.ValueOf (path_with_of x.value) clauses.value
+  value_of (Query x clauses) = b.Query (path_with_of x.value) clauses
   value_of (IsJson x) = b.IsJson x
   value_of (Object members nulls unique) = b.Object (members_of members) nulls unique
   value_of (Array values nulls) = b.Array (values_of values) nulls
@@ -41,12 +42,12 @@ abbrev mutual
 
 abbrev pub item_of : BoundItem → b.Item
 item_of (i.Value x) = b.Single (value_of x)
-item_of (i.ArrayAgg x nulls) = b.ArrayAgg (value_of x) nulls
-item_of (i.ObjectAgg x y nulls unique) = b.ObjectAgg (value_of x) (value_of y) nulls unique
+item_of (i.ArrayAgg x nulls) = b.ArrayAgg (value_of x.value) nulls
+item_of (i.ObjectAgg x y nulls unique) = b.ObjectAgg (value_of x.value) (value_of y.value) nulls unique
 
 abbrev pub column_of : BoundColumn → b.ColumnOf
 column_of (c.Ordinality n) = b.Ordinality n
-column_of (c.Regular n path clauses) = b.Regular n (path_of path) clauses
+column_of (c.Regular n path clauses) = b.Regular n (path_of path) clauses.value
 column_of (c.Formatted n path clauses) = b.Formatted n (path_of path) clauses
 column_of (c.Exists n path on_error) = b.Existence n (path_of path) on_error
 
@@ -64,9 +65,9 @@ paths_of xs = map path_of xs
 abbrev pub table_of : BoundTable → b.Table
 table_of x = record { paths = paths_of x.paths; vars = x.vars; plan = plan_tree x.plan; on_error = x.on_error; columns = columns_of x.columns }
 
-abbrev pub table_if_any : Option BoundTable → Option b.Table
+abbrev pub table_if_any : Option (Box BoundTable Global) → Option b.Table
 table_if_any None = None
-table_if_any (Some x) = Some (table_of x)
+table_if_any (Some x) = Some (table_of x.value)
 
 abbrev pub bound_of : Bound → b.Bound
 bound_of x = record { items = items_of x.items; table = table_if_any x.table }

@@ -56,7 +56,7 @@ fn bind_list(alloc: Global, values: Seq<SValue>) -> Result<Seq<BoundItem>, Memor
     requires few { length values ≤ 1000 }
     ensures { IfOk result (λ items. view.items_of items ≡ bound_list (plain_of values)) }
 {
-    let mut items = Seq::new(alloc);
+    let mut items = Seq::with_room(alloc, values.len())?;
     for value in values.into_vec() {
         items.push(BoundItem::Value(bind_value(alloc, value)?))?;
     }
@@ -91,7 +91,7 @@ fn first_columns(alloc: Global, count: u32) -> Result<Seq<BoundItem>, Memory>
     requires { count ≤ 1000 }
     ensures { IfOk result (λ items. view.items_of items ≡ columns_below count) }
 {
-    let mut items = Seq::new(alloc);
+    let mut items = Seq::with_room(alloc, count)?;
     for number in 0..count {
         items.push(BoundItem::Value(BoundValue::Column(number)))?;
     }
@@ -134,7 +134,7 @@ fn bind_items(
     requires few { length items ≤ 1000 }
     ensures { IfOk result (λ bound. view.items_of bound ≡ bound_items (names_of columns.now) (items_of items)) }
 {
-    let mut bound = Seq::new(alloc);
+    let mut bound = Seq::with_room(alloc, items.len())?;
     for item in items.into_vec() {
         bound.push(bind_item(alloc, item, columns)?)?;
     }

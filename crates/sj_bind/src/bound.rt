@@ -1,5 +1,6 @@
 //! Bound statements. Where a type leads back to itself, a repeated part is an enum of linked cells, which is given up by a
-//! loop; any other repeated part is a sequence.
+//! loop; any other repeated part is a sequence. A large part that few statements have stands in a box, since a file may have
+//! very many statements, and all are kept.
 
 use sj_path::{Literal, Path, Vars};
 use sj_sql::Seq;
@@ -12,7 +13,7 @@ pub struct Bound {
     /// The SELECT list, in which `*` stands as all columns.
     pub items: Seq<BoundItem>,
     /// The table, where there is one.
-    pub table: Option<BoundTable>,
+    pub table: Option<Box<BoundTable>>,
 }
 
 impl Bound {
@@ -32,9 +33,9 @@ impl Bound {
 pub enum BoundItem {
     Value(BoundValue),
     /// JSON_ARRAYAGG.
-    ArrayAgg(BoundValue, Nulls),
+    ArrayAgg(Box<BoundValue>, Nulls),
     /// JSON_OBJECTAGG: its key, its value, and whether WITH UNIQUE KEYS stands there.
-    ObjectAgg(BoundValue, BoundValue, Nulls, bool),
+    ObjectAgg(Box<BoundValue>, Box<BoundValue>, Nulls, bool),
 }
 
 /// A value of a SELECT list.
@@ -44,9 +45,9 @@ pub enum BoundValue {
     Lit(Literal),
     /// The column of this number.
     Column(u32),
-    Exists(BoundPath, ExistsAction),
-    Value(BoundPath, ValueSpec),
-    Query(BoundPath, QuerySpec),
+    Exists(Box<BoundPath>, ExistsAction),
+    Value(Box<BoundPath>, Box<ValueSpec>),
+    Query(Box<BoundPath>, QuerySpec),
     IsJson(IsJsonCall),
     /// JSON_OBJECT: its members, and whether WITH UNIQUE KEYS stands there.
     Object(BoundMembers, Nulls, bool),
@@ -117,7 +118,7 @@ pub struct BoundTable {
 pub enum BoundColumn {
     /// FOR ORDINALITY.
     Ordinality(u32),
-    Regular(u32, Path, ValueSpec),
+    Regular(u32, Path, Box<ValueSpec>),
     /// FORMAT JSON.
     Formatted(u32, Path, QuerySpec),
     /// EXISTS: the number of its path, the column's own path, and what an error gives.

@@ -106,12 +106,12 @@ pub fn bind_item(alloc: Global, item: TItem, columns: &IndexSet<&str>) -> Result
             Ok(BoundItem::Value(value))
         }
         TItem::ArrayAgg(value, nulls) => {
-            let value = bind_row_value(alloc, value, columns)?;
+            let value = Box::new(alloc, bind_row_value(alloc, value, columns)?)?;
             Ok(BoundItem::ArrayAgg(value, nulls))
         }
         TItem::ObjectAgg(key, value, nulls, unique) => {
-            let key = bind_row_value(alloc, key, columns)?;
-            let value = bind_row_value(alloc, value, columns)?;
+            let key = Box::new(alloc, bind_row_value(alloc, key, columns)?)?;
+            let value = Box::new(alloc, bind_row_value(alloc, value, columns)?)?;
             Ok(BoundItem::ObjectAgg(key, value, nulls, unique))
         }
     }

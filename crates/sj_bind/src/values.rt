@@ -15,31 +15,37 @@ use sj_base::Memory;
 use sj_sql::{ExistsCall, QueryCall, SMembers, SValue, SValues, ValueCall};
 use std::alloc::Global;
 
-fn bind_exists(alloc: Global, call: ExistsCall) -> Result<BoundValue, Memory>
-    requires { PassesOnce (exists_of call).common }
-    ensures { IfOk result (λ b. value_of b ≡ bound_value [] (t.Exists (exists_of call))) }
+// The functions that have a path are bound apart from the calls that recur over values, which then take little stack.
+#[inline(never)]
+fn bind_exists(alloc: Global, call: Box<ExistsCall>) -> Result<BoundValue, Memory>
+    requires { PassesOnce (exists_of call.value).common }
+    ensures { IfOk result (λ b. value_of b ≡ bound_value [] (t.Exists (exists_of call.value))) }
 {
-    let ExistsCall { common, on_error } = call;
-    Ok(BoundValue::Exists(bound_path(alloc, common)?, on_error))
+    let ExistsCall { common, on_error } = Box::into_inner(call);
+    let path = Box::new(alloc, bound_path(alloc, common)?)?;
+    Ok(BoundValue::Exists(path, on_error))
 }
 
-fn bind_value_call(alloc: Global, call: ValueCall) -> Result<BoundValue, Memory>
-    requires { IsFitCall (value_call_of call) }
-    ensures { IfOk result (λ b. value_of b ≡ bound_value [] (t.ValueOf (value_call_of call))) }
+#[inline(never)]
+fn bind_value_call(alloc: Global, call: Box<ValueCall>) -> Result<BoundValue, Memory>
+    requires { IsFitCall (value_call_of call.value) }
+    ensures { IfOk result (λ b. value_of b ≡ bound_value [] (t.ValueOf (value_call_of call.value))) }
 {
     let ValueCall {
         common,
         ty,
         on_empty,
         on_error,
-    } = call;
-    let clauses = value_clauses(alloc, ty, &on_empty, &on_error)?;
-    Ok(BoundValue::Value(bound_path(alloc, common)?, clauses))
+    } = Box::into_inner(call);
+    let clauses = Box::new(alloc, value_clauses(alloc, ty, &on_empty, &on_error)?)?;
+    let path = Box::new(alloc, bound_path(alloc, common)?)?;
+    Ok(BoundValue::Value(path, clauses))
 }
 
-fn bind_query(alloc: Global, call: QueryCall) -> Result<BoundValue, Memory>
-    requires { PassesOnce (query_of call).common }
-    ensures { IfOk result (λ b. value_of b ≡ bound_value [] (t.Query (query_of call))) }
+#[inline(never)]
+fn bind_query(alloc: Global, call: Box<QueryCall>) -> Result<BoundValue, Memory>
+    requires { PassesOnce (query_of call.value).common }
+    ensures { IfOk result (λ b. value_of b ≡ bound_value [] (t.Query (query_of call.value))) }
 {
     let QueryCall {
         common,
@@ -47,9 +53,10 @@ fn bind_query(alloc: Global, call: QueryCall) -> Result<BoundValue, Memory>
         quotes,
         on_empty,
         on_error,
-    } = call;
+    } = Box::into_inner(call);
     let clauses = query_clauses(wrapper, quotes, on_empty, on_error);
-    Ok(BoundValue::Query(bound_path(alloc, common)?, clauses))
+    let path = Box::new(alloc, bound_path(alloc, common)?)?;
+    Ok(BoundValue::Query(path, clauses))
 }
 
 /// A bound value.

@@ -1,5 +1,5 @@
--- The tokens of one statement after another, and the statements so far.
-use Rattle.std.proofs.Common.{◌≡◌, ℕ, suc, ◌+◌, ◌<◌, ◌≤◌, true, false, List, [], ◌∷◌, ◌++◌, length, map, Option, Some, None, Result, refl, sym, ap, subst, ◌∙◌, arith, append_assoc, append-nil, length-append}
+-- The tokens of one statement, and one statement after another.
+use Rattle.std.proofs.Common.{◌≡◌, ℕ, suc, ◌<◌, ◌≤◌, true, false, List, [], ◌∷◌, ◌++◌, length, Option, Some, None, Err, refl, sym, ap, subst, ◌∙◌, arith, append_assoc, append-nil}
 use Rattle.sj_grammar.specs.Tree.{Path}
 use Rattle.sj_sql_token.specs.declared.token.Token.{Token}
 use Rattle.sj_sql_token.specs.declared.token.Token.TheVariants as k
@@ -8,12 +8,11 @@ use Rattle.sj_statement.specs.declared.refusal.FileKind.{FileKind}
 use Rattle.sj_statement.specs.declared.refusal.FileKind.TheVariants as kind
 use Rattle.sj_statement.specs.Tree as t
 use Rattle.sj_statement.specs.Phrases.{Tokens}
-use Rattle.sj_statement.specs.Answers.{Ending, closed, cut_off, broken, opened, Pieces, before, pieces, Accepted, Forbids, IsScript, done, unended, faulty, refused, accepted, IsFile}
-use Rattle.sj_sql.specs.declared.tree.Statement.{Statement}
-use Rattle.sj_sql.specs.View.{statement_of}
+use Rattle.sj_statement.specs.Answers.{Ending, closed, cut_off, broken, opened, Pieces, before, pieces, Forbids, IsScript, done, unended, faulty, refused, accepted}
 use Rattle.sj_sql.specs.declared.answer.Refused.{Refused}
+use Rattle.sj_sql.specs.declared.answer.Refused.TheVariants.{For, Memory}
 use Rattle.sj_sql.specs.declared.file.Gathered.{Gathered}
-use Rattle.sj_sql.specs.File.{IsAnswered, IsGathered, is_semicolon, EndsBy}
+use Rattle.sj_sql.specs.File.{IsAnswered, IsGathered, IsNext, is_semicolon, EndsBy, IsLeft, IsFirst, RefusesFirst}
 
 -- ---- the tokens of a statement
 
@@ -92,62 +91,38 @@ broken_stays (x ∷ xs) = refl
 pub ends_broken : (file rest : List ℕ) (xs : Tokens) → IsTaken file xs rest → lexed rest ≡ fault → EndsBy file broken
 ends_broken file rest xs h e = h.taken ∙ ap (λ (l : Lexed). put_before xs (pieces l)) e ∙ ap (λ (f : Ending). record { statements = []; ending = f }) (broken_stays xs)
 
--- ---- the statements so far
-
--- from statement k on, what is left of a file is read as these statements and this refusal
-abbrev IsLeft : ℕ → List ℕ → List (t.Statement Path) → Option (ℕ × FileKind) → Type 0
-IsLeft k rest = IsScript k (pieces (lexed rest)).statements (pieces (lexed rest)).ending
-
--- these statements were read from the front of the file, and this is left
-pub record IsRead (file : List ℕ) (xs : List Statement) (rest : List ℕ) : Type 0 where
-  pub goes_on : (ss : List (t.Statement Path)) (r : Option (ℕ × FileKind)) → IsLeft (suc (length xs)) rest ss r → IsFile (lexed file) (map statement_of xs ++ ss) r
-  pub left : length xs + length rest ≤ length file
-
-pub nothing_read : (file : List ℕ) → IsRead file [] file
-nothing_read file = record { goes_on = λ ss r d. d; left = omega arith }
-
-map_last : (xs : List Statement) (x : Statement) (ss : List (t.Statement Path)) → map statement_of xs ++ (statement_of x ∷ ss) ≡ map statement_of (xs ++ x ∷ []) ++ ss
-map_last [] x ss = refl
-map_last (y ∷ xs) x ss = ap (λ (us : List (t.Statement Path)). statement_of y ∷ us) (map_last xs x ss)
+-- ---- one statement after another
 
 -- what a file is read as, by its pieces
 from_pieces : (k : ℕ) (p q : Pieces) (ss : List (t.Statement Path)) (r : Option (ℕ × FileKind)) → p ≡ q → IsScript k q.statements q.ending ss r → IsScript k p.statements p.ending ss r
 from_pieces k p q ss r e d = subst (λ (x : Pieces). IsScript k x.statements x.ending ss r) (sym e) d
 
-pub one_more : (file rest behind : List ℕ) (xs : List Statement) (x : Statement) (ts : Tokens) → IsRead file xs rest
-    → pieces (lexed rest) ≡ record { statements = ts ∷ (pieces (lexed behind)).statements; ending = (pieces (lexed behind)).ending } → length behind < length rest → Accepted ts (statement_of x)
-    → IsRead file (xs ++ x ∷ []) behind
-one_more file rest behind xs x ts h e less a = record {
-  goes_on = λ ss r d.
-      let number : suc (length (xs ++ x ∷ [])) ≡ suc (suc (length xs)) = omega (arith, length-append xs (x ∷ [])) in
-      let others : IsLeft (suc (suc (length xs))) behind ss r = subst (λ (k : ℕ). IsLeft k behind ss r) number d in
-      subst (λ (us : List (t.Statement Path)). IsFile (lexed file) us r) (map_last xs x ss) (h.goes_on (statement_of x ∷ ss) r (from_pieces _ _ _ _ r e (accepted a others)));
-  left = let l = h.left in omega (arith, length-append xs (x ∷ []));
-}
+-- the first statement stands before the others
+pub first_read : (k : ℕ) (file behind : List ℕ) (s : t.Statement Path) (ss : List (t.Statement Path)) (r : Option (ℕ × FileKind)) → IsFirst file s behind → IsLeft (suc k) behind ss r
+    → IsLeft k file (s ∷ ss) r
+first_read k file behind s ss r h d = from_pieces k _ _ (s ∷ ss) r h.is_first (accepted h.accepted d)
 
-stops : (file rest : List ℕ) (xs : List Statement) (r : Option (ℕ × FileKind)) → IsRead file xs rest → IsLeft (suc (length xs)) rest [] r → IsFile (lexed file) (map statement_of xs) r
-stops file rest xs r h d = subst (λ (us : List (t.Statement Path)). IsFile (lexed file) us r) (append-nil (map statement_of xs)) (h.goes_on [] r d)
+-- where there is none, there are no others
+pub none_read : (k : ℕ) (file : List ℕ) → EndsBy file closed → IsLeft k file [] None
+none_read k file e = from_pieces k _ _ [] None e done
 
-pub all_read : (file rest : List ℕ) (xs : List Statement) → IsRead file xs rest → EndsBy rest closed → IsFile (lexed file) (map statement_of xs) None
-all_read file rest xs h e = stops file rest xs None h (from_pieces _ _ _ _ None e done)
+pub cut_off_first : (file : List ℕ) → EndsBy file cut_off → RefusesFirst file kind.Syntax
+cut_off_first file e k = from_pieces k _ _ [] (Some (k, kind.Syntax)) e unended
 
-pub cut_off_read : (file rest : List ℕ) (xs : List Statement) → IsRead file xs rest → EndsBy rest cut_off → IsFile (lexed file) (map statement_of xs) (Some (suc (length xs), kind.Syntax))
-cut_off_read file rest xs h e = stops file rest xs (Some (suc (length xs), kind.Syntax)) h (from_pieces _ _ _ _ _ e unended)
+pub broken_first : (file : List ℕ) → EndsBy file broken → RefusesFirst file kind.Lex
+broken_first file e k = from_pieces k _ _ [] (Some (k, kind.Lex)) e faulty
 
-pub broken_read : (file rest : List ℕ) (xs : List Statement) → IsRead file xs rest → EndsBy rest broken → IsFile (lexed file) (map statement_of xs) (Some (suc (length xs), kind.Lex))
-broken_read file rest xs h e = stops file rest xs (Some (suc (length xs), kind.Lex)) h (from_pieces _ _ _ _ _ e faulty)
+pub refused_first : (file behind : List ℕ) (ts : Tokens) (why : FileKind)
+    → pieces (lexed file) ≡ record { statements = ts ∷ (pieces (lexed behind)).statements; ending = (pieces (lexed behind)).ending } → Forbids ts why → RefusesFirst file why
+refused_first file behind ts why e f k = from_pieces k _ _ [] (Some (k, why)) e (refused f)
 
-pub refused_read : (file rest behind : List ℕ) (xs : List Statement) (ts : Tokens) (why : FileKind) → IsRead file xs rest
-    → pieces (lexed rest) ≡ record { statements = ts ∷ (pieces (lexed behind)).statements; ending = (pieces (lexed behind)).ending } → Forbids ts why
-    → IsFile (lexed file) (map statement_of xs) (Some (suc (length xs), why))
-refused_read file rest behind xs ts why h e f = stops file rest xs (Some (suc (length xs), why)) h (from_pieces _ _ _ _ _ e (refused f))
+-- where the first statement is refused, so is the file
+pub refused_next : (file behind : List ℕ) (ts us : Tokens) (x : Refused)
+    → pieces (lexed file) ≡ record { statements = ts ∷ (pieces (lexed behind)).statements; ending = (pieces (lexed behind)).ending } → us ≡ ts → IsAnswered us (Err x)
+    → IsNext file (Err x)
+refused_next file behind ts us (For why) e same f = refused_first file behind ts why e (subst (λ (v : Tokens). Forbids v why) same f)
+refused_next file behind ts us Memory e same f = tt
 
 -- the same of what is equal
-pub gathered_so : (rest : List ℕ) (ts : Tokens) (g h : Gathered) → g ≡ h → IsGathered rest ts g → IsGathered rest ts h
-gathered_so rest ts g h e d = subst (IsGathered rest ts) e d
-
-pub answered_so : (ts us : Tokens) (x y : Result Statement Refused) → ts ≡ us → x ≡ y → IsAnswered ts x → IsAnswered us y
-answered_so ts us x y e f d = subst (λ (v : Tokens). IsAnswered v y) e (subst (IsAnswered ts) f d)
-
-pub file_so : (file : List ℕ) (xs ys : List Statement) (r q : Option (ℕ × FileKind)) → xs ≡ ys → r ≡ q → IsFile (lexed file) (map statement_of ys) q → IsFile (lexed file) (map statement_of xs) r
-file_so file xs ys r q e f d = subst (λ (v : List Statement). IsFile (lexed file) (map statement_of v) r) (sym e) (subst (IsFile (lexed file) (map statement_of ys)) (sym f) d)
+pub gathered_so : (file : List ℕ) (ts : Tokens) (g h : Gathered) → g ≡ h → IsGathered file ts g → IsGathered file ts h
+gathered_so file ts g h e d = subst (IsGathered file ts) e d

@@ -48,9 +48,9 @@ query_of x = record { common = common_of x.common; wrapper = x.wrapper; quotes =
 abbrev mutual
   pub svalue_of : SValue → t.Value Path
   svalue_of (Lit x) = t.Lit x
-  svalue_of (Exists x) = t.Exists (exists_of x)
-  svalue_of (Value x) = t.ValueOf (value_call_of x)
-  svalue_of (Query x) = t.Query (query_of x)
+  svalue_of (Exists x) = t.Exists (exists_of x.value)
+  svalue_of (Value x) = t.ValueOf (value_call_of x.value)
+  svalue_of (Query x) = t.Query (query_of x.value)
   svalue_of (IsJson x) = t.IsJson x
   svalue_of (Object members nulls unique) = t.Object (smembers_of members) nulls unique
   svalue_of (Array values nulls) = t.Array (svalues_of values) nulls

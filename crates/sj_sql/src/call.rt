@@ -32,7 +32,7 @@ pub fn exists(
     let (common, faults, rest) = common(alloc, faults, rest)?;
     let (on_error, rest) = exists_clause(rest).unwrap_or((ExistsAction::False, rest));
     let rest = close(rest).ok_or(Refusal::Syntax)?;
-    let call = ExistsCall { common, on_error };
+    let call = Box::new(alloc, ExistsCall { common, on_error })?;
     Ok((SValue::Exists(call), faults, rest))
 }
 
@@ -57,6 +57,7 @@ pub fn value(
         on_empty,
         on_error,
     };
+    let call = Box::new(alloc, call)?;
     Ok((SValue::Value(call), faults.with_type(ty), rest))
 }
 
@@ -83,5 +84,6 @@ pub fn query(
         on_empty,
         on_error,
     };
+    let call = Box::new(alloc, call)?;
     Ok((SValue::Query(call), faults, rest))
 }

@@ -1,11 +1,7 @@
-//! Files of statements.
+//! Files of statements, which are read one after the other.
 
-ghost use Rattle.std.specs.Prelude.{◌≡◌, suc, ◌<◌, ◌≤◌, ◌+◌, ◌-◌, ◌^◌, ◌∷◌, ◌++◌, [], length, map, IfOk, OnOk, OnErr, MatchOption, slice_get};
-ghost use Rattle.std.specs.Option.{option_copied};
-ghost use Rattle.sj_sql_token.specs.Tokens.{lexed};
-ghost use Rattle.sj_statement.specs.Answers.{IsFile};
-ghost use Rattle.sj_sql.specs.File.{IsGathered, is_semicolon, fault_of};
-ghost use Rattle.sj_sql.specs.View.{statement_of};
+ghost use Rattle.std.specs.Prelude.{◌≡◌, IfOk};
+ghost use Rattle.sj_sql.specs.File.{IsGathered, IsNext, is_semicolon};
 
 use crate::answer::{Refused, answer};
 use crate::tree::Statement;
@@ -13,95 +9,14 @@ use sj_base::Memory;
 use sj_sql_token::{Next, Token, next_token};
 use sj_statement::FileKind;
 use std::alloc::Global;
-use std::collections::VecDeque;
-use std::marker::Model;
 
-/// The statements of a file in their order, seen as a list.
+/// What a file begins with.
 #[derive(Drop)]
-pub struct Statements {
-    items: VecDeque<Statement>,
-}
-
-impl Model for Statements {
-    ghost use Rattle.std.specs.Prelude.{List, length, ◌<◌, ◌^◌};
-    ghost use Rattle.std.specs.Coded.{codes};
-    ghost use Rattle.sj_sql.specs.declared.tree.Statement.{Statement};
-    ghost use Rattle.sj_sql.specs.contracts.tree.Statement as statement;
-
-    ghost Value = { List Statement };
-
-    ghost coded = { Prim.hlevel (codes, statement.the_row.coded) };
-
-    ghost view = { λ s. s.items.items };
-
-    ghost invariant = { λ s. length s.items.items < 2 ^ 32 };
-}
-
-impl Statements {
-    fn new(alloc: Global) -> Statements
-        ensures { result ≡ [] }
-    {
-        Statements {
-            items: VecDeque::new(alloc),
-        }
-    }
-
-    fn push(&mut self, statement: Statement) -> Result<(), Memory>
-        requires { length self.old < 2 ^ 32 - 1 }
-        ensures { OnOk result (self.new ≡ self.old ++ statement ∷ []) }
-    {
-        self.items.push_back(statement)?;
-        Ok(())
-    }
-
-    /// How many statements there are.
-    pub fn len(&self) -> u32
-        ensures { result ≡ length self.now }
-    {
-        self.items.len() as u32
-    }
-
-    /// The statement of this number, counted from 0, or nothing past the end.
-    pub fn get(&self, i: u32) -> Option<&Statement>
-        ensures { option_copied result ≡ slice_get self.now i }
-    {
-        self.items.get(i as usize)
-    }
-
-    /// Takes the first statement out, or nothing where none is left. It takes the same time whatever is left.
-    pub fn take_first(&mut self) -> Option<Statement>
-        ensures { MatchOption result ((self.old ≡ []) × (self.new ≡ [])) (λ x. self.old ≡ x ∷ self.new) }
-    {
-        self.items.pop_front()
-    }
-}
-
-/// Why a statement of a file is refused.
-#[derive(Clone, Copy, Debug, PartialEq, Eq)]
-pub struct FileFault {
-    /// Which statement it is, counted from 1.
-    pub statement: u32,
-    pub kind: FileKind,
-}
-
-/// What a file is read as.
-///
-/// Its `drop` is written out, so that whoever holds one gives it up by one call, and not part by part at each place
-/// where the holder may return early.
-pub struct Script {
-    /// All statements, or those before the first that is refused.
-    pub statements: Statements,
-    /// Why that one is refused.
-    pub fault: Option<FileFault>,
-}
-
-impl Drop for Script {
-    fn drop(self) {
-        let Script {
-            statements: _statements,
-            fault: _fault,
-        } = self;
-    }
+pub enum NextStatement<'a> {
+    /// A statement, and what is behind its semicolon.
+    Statement(Statement, &'a [u8]),
+    /// Nothing: the file ends.
+    End,
 }
 
 /// What stands at the front of a file.
@@ -148,45 +63,23 @@ fn gather<'a>(file: &'a [u8], tokens: &mut Vec<Token<'a>>) -> Result<Gathered<'a
     }
 }
 
-/// The statements before the one that is refused for this reason.
-fn refused(statements: Statements, kind: FileKind) -> Script
-    requires { length statements < 2 ^ 32 - 1 }
-    ensures statements { result.statements ≡ statements }
-    ensures fault { fault_of result.fault ≡ Some (suc (length statements), kind) }
+/// Takes the first statement of a file, or says why it is refused. Whoever takes what is behind it as a file again, and so
+/// on, reads the file whole, with one statement at a time in memory, in time linear in the file.
+///
+/// # Errors
+/// The first reason to refuse the first statement, or that memory ran out, which says nothing of it.
+pub fn next_statement<'a>(alloc: Global, file: &'a [u8]) -> Result<NextStatement<'a>, Refused>
+    ensures { IsNext file.now result }
 {
-    let statement = statements.len() + 1;
-    Script {
-        statements,
-        fault: Some(FileFault { statement, kind }),
-    }
-}
-
-/// The statements of a file before the first that is refused, and why that one is refused. It takes time linear in the file.
-pub fn parse_file(alloc: Global, bytes: &[u8]) -> Result<Script, Memory>
-    requires { length bytes.now ≤ 1_048_576 }
-    ensures { IfOk result (λ s. IsFile (lexed bytes.now) (map statement_of s.statements) (fault_of s.fault)) }
-{
-    let mut statements = Statements::new(alloc);
     let mut tokens = Vec::new(alloc);
-    let mut rest = bytes;
-    loop {
-        match gather(rest, &mut tokens)? {
-            Gathered::Statement(behind) => {
-                match answer(alloc, tokens.as_slice()) {
-                    Ok(statement) => statements.push(statement)?,
-                    Err(Refused::For(kind)) => return Ok(refused(statements, kind)),
-                    Err(Refused::Memory) => return Err(Memory),
-                }
-                rest = behind;
-            }
-            Gathered::End => {
-                return Ok(Script {
-                    statements,
-                    fault: None,
-                });
-            }
-            Gathered::CutOff => return Ok(refused(statements, FileKind::Syntax)),
-            Gathered::Broken => return Ok(refused(statements, FileKind::Lex)),
-        }
+    match gather(file, &mut tokens) {
+        Ok(Gathered::Statement(behind)) => match answer(alloc, tokens.as_slice()) {
+            Ok(statement) => Ok(NextStatement::Statement(statement, behind)),
+            Err(refused) => Err(refused),
+        },
+        Ok(Gathered::End) => Ok(NextStatement::End),
+        Ok(Gathered::CutOff) => Err(Refused::For(FileKind::Syntax)),
+        Ok(Gathered::Broken) => Err(Refused::For(FileKind::Lex)),
+        Err(Memory) => Err(Refused::Memory),
     }
 }

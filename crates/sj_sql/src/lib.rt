@@ -32,7 +32,8 @@ mod table;
 mod tree;
 mod value;
 
-pub use file::{FileFault, Script, Statements, parse_file};
+pub use answer::Refused;
+pub use file::{NextStatement, next_statement};
 pub use seq::Seq;
 pub use sj_statement::{
     BindKind, Encoding, FileKind, InOut, IsJsonCall, Passed, Quotes, Siblings, TypeName, ValueDo,

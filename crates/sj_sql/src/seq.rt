@@ -1,6 +1,6 @@
 //! Sequences.
 
-ghost use Rattle.std.specs.Prelude.{◌≡◌, ◌<◌, ◌≤◌, ◌-◌, ◌^◌, ◌∷◌, ◌++◌, [], length, OnOk, OnErr, slice_get};
+ghost use Rattle.std.specs.Prelude.{◌≡◌, ◌<◌, ◌≤◌, ◌-◌, ◌^◌, ◌∷◌, ◌++◌, [], length, IfOk, OnOk, OnErr, slice_get};
 ghost use Rattle.std.specs.Option.{option_copied};
 
 use sj_base::Memory;
@@ -36,6 +36,15 @@ impl<T: Drop> Seq<T> {
         Seq {
             items: Vec::new(alloc),
         }
+    }
+
+    /// No values, with memory for so many and no more.
+    pub fn with_room(alloc: Global, count: u32) -> Result<Seq<T>, Memory>
+        ensures { IfOk result (λ s. s ≡ []) }
+    {
+        let mut items = Vec::new(alloc);
+        items.reserve_exact(count as usize)?;
+        Ok(Seq { items })
     }
 
     /// Puts a value at the end. Where memory runs out, the value is given up and nothing changes.

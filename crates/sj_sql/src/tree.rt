@@ -54,14 +54,15 @@ pub struct QueryCall {
     pub on_error: QueryAction,
 }
 
-/// A value of a SELECT list without a table.
+/// A value of a SELECT list without a table. A function stands in a box, so that the calls that recur over values take
+/// little stack.
 #[cycle(values)]
 #[derive(Drop)]
 pub enum SValue {
     Lit(Literal),
-    Exists(ExistsCall),
-    Value(ValueCall),
-    Query(QueryCall),
+    Exists(Box<ExistsCall>),
+    Value(Box<ValueCall>),
+    Query(Box<QueryCall>),
     IsJson(IsJsonCall),
     /// JSON_OBJECT: its members, and whether WITH UNIQUE KEYS stands there.
     Object(SMembers, Nulls, bool),

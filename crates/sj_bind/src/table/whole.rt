@@ -24,14 +24,14 @@ use sj_sql::{Columns, Common, Seq, Table};
 use std::alloc::Global;
 
 /// The table, bound.
-pub fn bind_table(alloc: Global, table: Table) -> Result<BoundTable, Memory>
+pub fn bind_table(alloc: Global, table: Table) -> Result<Box<BoundTable>, Memory>
     requires few { spec.has_too_many (table_of table) ≡ false }
     requires names { spec.has_path_name_twice (table_of table) ≡ false }
     requires matched { has_plan_mismatch (table_of table) ≡ false }
     requires once { passes_twice (table_of table).common ≡ false }
     requires bindable { IsBindableTable (table_of table) }
     requires casts { list_any column_default_fails (all_columns (table_of table)) ≡ false }
-    ensures { IfOk result (λ b. bound.table_of b ≡ bound_table (table_of table)) }
+    ensures { IfOk result (λ b. bound.table_of b.value ≡ bound_table (table_of table)) }
 {
     let plan = table_plan(alloc, &table)?;
     let Table {
@@ -47,13 +47,14 @@ pub fn bind_table(alloc: Global, table: Table) -> Result<BoundTable, Memory>
         passing,
     } = common;
     let Taken { paths, columns } = take_all(alloc, path, columns)?;
-    Ok(BoundTable {
+    let bound = BoundTable {
         paths,
         vars: passed_vars(alloc, passing)?,
         plan,
         on_error,
         columns,
-    })
+    };
+    Ok(Box::new(alloc, bound)?)
 }
 
 /// The row path, and what stands in the columns under it.
