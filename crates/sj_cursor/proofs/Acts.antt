@@ -1,5 +1,5 @@
 -- The pairs of an item, or the fault that stands for them.
-use Rattle.std.proofs.Common.{◌≡◌, Result, Ok, Err, ap, sym, ◌∙◌, refl}
+use Rattle.std.proofs.Common.{◌≡◌, Ok, Err, ap}
 use Rattle.sj_base.specs.declared.state.State.{State}
 use Rattle.sj_item.specs.Items.{ItemValue}
 use Rattle.sj_step.specs.Trace.{Trace, fail}

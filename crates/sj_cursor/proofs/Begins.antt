@@ -1,12 +1,11 @@
 -- A cell that is at its beginning, in the environment of a path's beginning, has the path's trace left.
-use Rattle.std.proofs.Common.{◌≡◌, ℤ, ap, sym, ◌∙◌, refl, pos}
+use Rattle.std.proofs.Common.{◌≡◌, ap, ◌∙◌}
 use Rattle.sj_grammar.specs.Tree as t
-use Rattle.sj_grammar.specs.declared.tree.Mode.{Mode}
 use Rattle.sj_item.specs.Items.{ItemValue}
 use Rattle.sj_path.specs.Tree.{path_of, expr_of}
 use Rattle.sj_path.specs.declared.tree.Path.{Path}
 use Rattle.sj_step.specs.Trace.{Trace}
-use Rattle.sj_cursor.specs.Meaning.{Env, Variables, meaning, start_env, path_trace}
+use Rattle.sj_cursor.specs.Meaning.{Variables, meaning, start_env, path_trace}
 
 pub begins : (path : Path) (vars : Variables) (x : ItemValue) (u : Trace) (k : t.Expr)
     → k ≡ expr_of path.expr → u ≡ meaning k (start_env (path_of path) vars x) → u ≡ path_trace (path_of path) vars x

@@ -1,6 +1,5 @@
 -- Connectives, and the item that a filter keeps.
-use Rattle.std.proofs.Common.{◌≡◌, ℕ, ◌+◌, ◌≤◌, Option, Some, None, ap, sym, ◌∙◌, refl, arith}
-use Rattle.sj_base.specs.Outside.{raised}
+use Rattle.std.proofs.Common.{◌≡◌, ℕ, ap, refl, arith}
 use Rattle.sj_item.specs.Items.{item_value}
 use Rattle.sj_item.specs.declared.item.Item.{Item}
 use Rattle.sj_item.specs.Truths.{conjunction, disjunction, negation}

@@ -1,19 +1,17 @@
 -- What was seen of pairs is the verdict of a comparison.
-use Rattle.std.proofs.Common.{◌≡◌, ℕ, zero, suc, ◌+◌, ◌*◌, ◌≤◌, ◌<◌, max, Bool, true, false, cond, ◌||◌, ◌&&◌, ap, sym, ◌∙◌, refl, arith}
+use Rattle.std.proofs.Common.{◌≡◌, ℕ, suc, ◌+◌, ◌<◌, Bool, true, false, cond, ◌||◌, ◌&&◌, ap, sym, ◌∙◌, refl, arith}
 use Rattle.std.specs.Prelude.{nat_lt}
 use Rattle.std.specs.List.{list_any}
 use Rattle.std.proofs.lemmas.Bool.Decides.{nat_tests}
-use Rattle.sj_base.specs.Outside.{raised}
 use Rattle.sj_grammar.specs.declared.tree.Mode.{Mode}
 use Rattle.sj_grammar.specs.declared.tree.Mode.TheVariants.{Lax, Strict}
 use Rattle.sj_item.specs.Items.{ItemValue}
 use Rattle.sj_item.specs.Truths.{truth_of}
-use Rattle.sj_item.specs.declared.truth.Truth.{Truth}
 use Rattle.sj_item.specs.declared.truth.Truth.TheVariants.{True, False, Unknown}
 use Rattle.sj_step.specs.Trace.{Trace, stop, fail, visit, give, only, items, count, visits}
 use Rattle.sj_cursor.specs.Verdicts.{is_unknown, is_faulty, has_item}
 use Rattle.sj_cursor.specs.Comparisons.{PairTruth, is_true, has_true, has_doubt, compare_truth, compare_allow, compare_verdict}
-use Rattle.sj_cursor.specs.Rows.{ItemTruth, row_true, row_doubt, row_cost, rows_true, rows_doubt, rows_cost}
+use Rattle.sj_cursor.specs.Rows.{row_true, row_doubt, row_cost, rows_true, rows_doubt, rows_cost}
 use Rattle.sj_cursor.specs.RowsSeen.{RowSeen, RowsSeen}
 use Rattle.sj_cursor.specs.Asked.{Asked}
 use Rattle.sj_cursor.specs.Decides.{Decides}

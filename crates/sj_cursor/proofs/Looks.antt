@@ -1,5 +1,5 @@
 -- Going through a trace until enough was found tells whether it has an item, its one item, and its fault.
-use Rattle.std.proofs.Common.{◌≡◌, ℕ, zero, suc, ◌+◌, ◌≤◌, List, [], ◌∷◌, Bool, true, false, cond, Option, Some, None, Ok, ap, sym, ◌∙◌, refl, arith}
+use Rattle.std.proofs.Common.{◌≡◌, ℕ, zero, suc, ◌+◌, ◌≤◌, ◌∷◌, Bool, true, false, cond, Option, Some, None, Ok, ap, sym, ◌∙◌, refl, arith}
 use Rattle.std.specs.Prelude.{is_some, nat_le, nat_lt}
 use Rattle.std.proofs.lemmas.Bool.Decides.{nat_tests}
 use Rattle.sj_base.specs.Outside.{raised}
@@ -10,8 +10,8 @@ use Rattle.sj_item.specs.Items.{ItemValue, gives, ends, faults}
 use Rattle.sj_item.specs.Truths.{truth_of}
 use Rattle.sj_item.specs.declared.truth.Truth.{Truth}
 use Rattle.sj_step.specs.Trace.{Trace, stop, fail, visit, give, pay, items, count, visits, visits_before, fault_of, fore}
-use Rattle.sj_cursor.specs.Single.{need, Single, bad, zero_items, one_item, of_items, unless_fault, single}
-use Rattle.sj_cursor.specs.Verdicts.{Verdict, exists_truth, exists_verdict, is_faulty, has_item}
+use Rattle.sj_cursor.specs.Single.{need, Single, bad, of_items, unless_fault, single}
+use Rattle.sj_cursor.specs.Verdicts.{exists_truth, exists_verdict, is_faulty, has_item}
 use Rattle.sj_cursor.specs.Draws.{Draws}
 use Rattle.sj_cursor.specs.Decides.{Decides}
 use Rattle.sj_cursor.specs.Answers.{unless_faulty, exists_answer, answer_in}

@@ -1,12 +1,12 @@
 -- Pairs, draw by draw.
-use Rattle.std.proofs.Common.{◌≡◌, ℕ, zero, suc, ◌+◌, ◌*◌, ◌≤◌, ◌<◌, max, Bool, true, false, cond, ◌||◌, ◌&&◌, ap, sym, ◌∙◌, refl, arith}
+use Rattle.std.proofs.Common.{◌≡◌, ℕ, zero, suc, ◌+◌, ◌≤◌, Bool, true, false, cond, ◌||◌, ◌&&◌, ap, sym, ◌∙◌, refl, arith}
 use Rattle.std.specs.Prelude.{nat_lt}
 use Rattle.std.proofs.lemmas.Bool.Decides.{nat_tests}
 use Rattle.sj_base.specs.Outside.{raised}
 use Rattle.sj_base.specs.declared.state.State.{State}
 use Rattle.sj_item.specs.Items.{ItemValue, gives, ends, faults}
-use Rattle.sj_step.specs.Trace.{Trace, stop, fail, visit, give, pay, only, count, visits, fore, fault_of}
-use Rattle.sj_cursor.specs.Verdicts.{is_unknown, is_faulty, has_item}
+use Rattle.sj_step.specs.Trace.{Trace, stop, fail, give, pay, count, fore}
+use Rattle.sj_cursor.specs.Verdicts.{is_unknown, has_item}
 use Rattle.sj_cursor.specs.Comparisons.{PairTruth, is_true}
 use Rattle.sj_cursor.specs.Rows.{ItemTruth, row_true, row_doubt, row_cost, rows_true, rows_doubt, rows_cost}
 use Rattle.sj_cursor.specs.RowsSeen.{RowSeen, RowsSeen}

@@ -1,15 +1,15 @@
 -- Operands and subscripts, as they are asked.
-use Rattle.std.proofs.Common.{◌≡◌, ℕ, ◌+◌, ◌≤◌, Result, Ok, Err, ℤ, ap, sym, ◌∙◌, refl, arith}
+use Rattle.std.proofs.Common.{◌≡◌, ℕ, ◌≤◌, Result, Ok, Err, ℤ}
 use Rattle.sj_base.specs.Outside.{raised}
 use Rattle.sj_base.specs.declared.state.State.{State}
 use Rattle.sj_base.specs.declared.state.State.TheVariants.{S22033, S22038}
 use Rattle.sj_grammar.specs.declared.tree.Arith.{Arith}
 use Rattle.sj_grammar.specs.declared.tree.Mode.{Mode}
 use Rattle.sj_item.specs.Items.{ItemValue}
-use Rattle.sj_step.specs.Trace.{Trace, fail, pay}
+use Rattle.sj_step.specs.Trace.{Trace, fail}
 use Rattle.sj_cursor.specs.Draws.{Nears}
 use Rattle.sj_cursor.specs.Single.{need, single}
-use Rattle.sj_cursor.specs.Numbers.{followed, operand_in, subscript_in, binary_trace, element_part, range_part}
+use Rattle.sj_cursor.specs.Numbers.{operand_in, subscript_in, binary_trace, element_part, range_part}
 use Rattle.sj_cursor.specs.Left.{computed, element_at, range_between}
 use Rattle.sj_cursor.proofs.Draws.{paid, nears_trans}
 

@@ -1,12 +1,12 @@
 -- The one item of a trace, and whether it has one, as it is taken item by item.
-use Rattle.std.proofs.Common.{◌≡◌, ℕ, zero, suc, ◌+◌, List, [], ◌∷◌, Bool, true, false, Option, Some, None, ap, sym, ◌∙◌, refl, arith}
+use Rattle.std.proofs.Common.{◌≡◌, ℕ, suc, ◌+◌, List, ◌∷◌, true, Option, ap, sym, ◌∙◌, refl, arith}
 use Rattle.std.specs.Prelude.{nat_le, if◌then◌else◌}
 use Rattle.std.proofs.lemmas.Bool.Decides.{nat_tests}
 use Rattle.sj_base.specs.declared.state.State.{State}
 use Rattle.sj_grammar.specs.declared.tree.Mode.{Mode}
 use Rattle.sj_grammar.specs.declared.tree.Mode.TheVariants.{Lax, Strict}
 use Rattle.sj_item.specs.Items.{ItemValue, gives, ends, faults}
-use Rattle.sj_step.specs.Trace.{Trace, stop, fail, visit, give, pay, items, count, visits, visits_before, fault_of, first, rest, fore}
+use Rattle.sj_step.specs.Trace.{Trace, stop, fail, give, pay, items, count, fault_of, first, rest, fore}
 use Rattle.sj_step.proofs.Traces.{shape_item, shape_end, shape_fault, items-pay, count-pay, fault-pay, visits-pay, visits_before-pay}
 use Rattle.sj_cursor.specs.Single.{need, Single, bad, zero_items, one_item, of_items, unless_fault, single}
 

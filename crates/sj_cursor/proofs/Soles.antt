@@ -10,7 +10,7 @@ use Rattle.sj_cursor.specs.Cells.{source_value, source_expr}
 use Rattle.sj_cursor.specs.Comparisons.{is_true}
 use Rattle.sj_cursor.specs.Left.{operand_whole}
 use Rattle.sj_cursor.specs.Meaning.{Env, meaning}
-use Rattle.sj_cursor.specs.Rows.{ItemTruth, row_true, row_doubt, row_cost}
+use Rattle.sj_cursor.specs.Rows.{ItemTruth}
 use Rattle.sj_cursor.specs.RowsSeen.{RowSeen}
 use Rattle.sj_cursor.specs.Verdicts.{is_unknown}
 use Rattle.sj_cursor.specs.declared.cells.Opening.TheVariants.{Unwrapped}

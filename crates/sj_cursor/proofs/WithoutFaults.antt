@@ -1,7 +1,7 @@
 -- A path whose form rules out a fault ends well on every item.
 use Rattle.std.specs.Prelude.{if◌then◌else◌, slice_range, pos, ◌-ℤ◌, unsigned_abs, int_lt, int_le}
 use Rattle.std.specs.Int.{int_min, int_max}
-use Rattle.std.proofs.Common.{◌≡◌, ℕ, ◌+◌, List, [], ◌∷◌, length, Bool, true, false, ◌&&◌, Some, None, ℤ, ◌∙◌, refl}
+use Rattle.std.proofs.Common.{◌≡◌, ℕ, ◌+◌, List, [], ◌∷◌, length, Bool, true, false, ◌&&◌, None, ℤ, ◌∙◌, refl}
 use Rattle.sj_doc.specs.Keyed.{is_key}
 use Rattle.sj_doc.specs.Kinds.{kind_of}
 use Rattle.sj_doc.specs.declared.node.Kind.{Kind}

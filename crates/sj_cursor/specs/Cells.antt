@@ -1,6 +1,5 @@
 -- What cells are of, and what they have left.
-use Rattle.std.specs.Prelude.{ℕ, ◌+◌, Bool, true, false, if◌then◌else◌, Option, Some, None}
-use Rattle.sj_base.specs.declared.state.State.TheVariants.{S22039}
+use Rattle.std.specs.Prelude.{Bool, true, false, if◌then◌else◌}
 use Rattle.sj_grammar.specs.declared.tree.Mode.{Mode}
 use Rattle.sj_grammar.specs.declared.tree.Mode.TheVariants.{Lax, Strict}
 use Rattle.sj_grammar.specs.declared.tree.Method.{Method}
@@ -8,17 +7,14 @@ use Rattle.sj_grammar.specs.Tree as t
 use Rattle.sj_item.specs.Items.{ItemValue, item_value, made_number}
 use Rattle.sj_item.specs.Truths.{truth_of}
 use Rattle.sj_item.specs.Pairs.{items_compare, item_starts_with}
-use Rattle.sj_item.specs.declared.item.Item.{Item}
 use Rattle.sj_item.specs.declared.truth.Truth.{Truth}
 use Rattle.sj_item.specs.declared.truth.Truth.TheVariants.{Unknown}
-use Rattle.sj_path.specs.Nodes.{expr_nodes, step_nodes, subs_nodes, sub_nodes, pred_nodes}
-use Rattle.sj_step.specs.Trace.{Trace, stop, fail, only, join, each}
-use Rattle.sj_step.specs.Reach.{reach, by_key, all_members, all_elements, unwrap, last}
+use Rattle.sj_step.specs.Trace.{Trace, stop, only}
+use Rattle.sj_step.specs.Reach.{reach, by_key, all_members, all_elements, unwrap}
 use Rattle.sj_step.specs.Walk.{walk_left}
 use Rattle.sj_method.specs.Methods.{method_of, sign_of}
 use Rattle.sj_method.specs.Pairs.{pairs_left}
-use Rattle.sj_cursor.specs.Meaning.{Env, at_item, at_last, literal_value, variable, takes_arrays, where_array, meaning, parts, part, verdict}
-use Rattle.sj_cursor.specs.Verdicts.{filtered}
+use Rattle.sj_cursor.specs.Meaning.{Env, literal_value, variable, takes_arrays}
 use Rattle.sj_cursor.specs.Rows.{ItemTruth}
 use Rattle.sj_cursor.specs.declared.env.Env.{Env as EnvHeld}
 use Rattle.sj_cursor.specs.declared.row.Beside.{Beside}

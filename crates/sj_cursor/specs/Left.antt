@@ -1,12 +1,11 @@
 -- The expression that each cell is of, which never changes, and the trace that it has left.
-use Rattle.std.specs.Prelude.{◌≡◌, ℕ, ◌+◌, if◌then◌else◌, Option, Some, None, Result, Ok, Err, ℤ}
+use Rattle.std.specs.Prelude.{◌≡◌, ℕ, Some, None, Result, ℤ}
 use Rattle.sj_base.specs.declared.state.State.{State}
 use Rattle.sj_base.specs.declared.state.State.TheVariants.{S22039}
 use Rattle.sj_grammar.specs.Tree as t
 use Rattle.sj_grammar.specs.declared.tree.Arith.{Arith}
 use Rattle.sj_grammar.specs.declared.tree.Mode.{Mode}
 use Rattle.sj_item.specs.Items.{ItemValue, item_value, made_number}
-use Rattle.sj_item.specs.declared.item.Item.{Item}
 use Rattle.sj_path.specs.Nodes.{pred_nodes, subs_nodes}
 use Rattle.sj_step.specs.Trace.{Trace, stop, fail, only, join, each}
 use Rattle.sj_step.specs.Reach.{reach, by_range, last}
@@ -20,7 +19,7 @@ use Rattle.sj_step.specs.declared.answer.Answer.TheVariants as answers
 use Rattle.sj_method.specs.Numbers.{binary_of}
 use Rattle.sj_cursor.specs.Numbers.{followed}
 use Rattle.sj_cursor.specs.Verdicts.{filtered, is_unknown}
-use Rattle.sj_cursor.specs.Cells.{env_value, source_expr, one_left, opened, acted, act_opening, act_on, acted_left}
+use Rattle.sj_cursor.specs.Cells.{source_expr, one_left, opened, acted, act_opening, act_on, acted_left}
 use Rattle.sj_cursor.specs.declared.cells.Act.{Act}
 use Rattle.sj_cursor.specs.declared.cells.Opening.{Opening}
 use Rattle.sj_cursor.specs.declared.cells.Opening.TheVariants.{AsItIs, Unwrapped}

@@ -1,6 +1,6 @@
 -- What is found of a trace that is gone through until enough was found. This defines nothing: it is proved to be what `Verdicts` and
 -- `Single` say.
-use Rattle.std.specs.Prelude.{◌≡◌, ◌≤◌, ℕ, suc, Bool, true, false, if◌then◌else◌, Option, Some, None, is_some}
+use Rattle.std.specs.Prelude.{◌≡◌, ◌≤◌, ℕ, suc, Bool, true, false, if◌then◌else◌, Option, Some, None}
 use Rattle.sj_base.specs.Outside.{raised}
 use Rattle.sj_base.specs.declared.state.State.{State}
 use Rattle.sj_grammar.specs.declared.tree.Mode.{Mode}

@@ -1,16 +1,14 @@
 -- What a cursor is seen as: a path with its variables, a root, and the trace that is left.
-use Rattle.std.specs.Prelude.{◌≡◌, ℕ, List, refl, pos}
+use Rattle.std.specs.Prelude.{refl}
 use Rattle.std.specs.Coded.{Coded, code_by, coded×, coded_ℕ, coded_list}
 use Rattle.sj_grammar.specs.contracts.tree.Literal as literal
-use Rattle.sj_grammar.specs.declared.tree.Mode.{Mode}
-use Rattle.sj_item.specs.Items.{ItemValue, item_value}
+use Rattle.sj_item.specs.Items.{ItemValue}
 use Rattle.sj_item.specs.Coding.{item_code}
-use Rattle.sj_path.specs.Tree.{path_of, expr_of}
 use Rattle.sj_path.specs.declared.tree.Path.{Path}
 use Rattle.sj_path.specs.contracts.tree.Path as path
 use Rattle.sj_step.specs.Trace.{Trace}
 use Rattle.sj_step.specs.Coding.{trace_code}
-use Rattle.sj_cursor.specs.Meaning.{Env, Variables, start_env}
+use Rattle.sj_cursor.specs.Meaning.{Variables}
 
 pub record Sequel : Type 0 where
   pub path : Path

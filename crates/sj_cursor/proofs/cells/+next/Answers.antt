@@ -1,16 +1,13 @@
 use Rattle.std.specs.Int.{w128}
-use Rattle.std.proofs.Common.{rules, to_z-of_z, SFits, ◌≡◌, ℕ, ◌+◌, ap, ◌∙◌, sym, refl, arith}
-use Rattle.sj_path.specs.Nodes.{expr_nodes, sub_nodes, subs_nodes, pred_nodes}
-use Rattle.sj_item.specs.Items.{pull_value}
-use Rattle.sj_step.specs.Trace.{count}
+use Rattle.std.proofs.Common.{rules, to_z-of_z, SFits, ◌≡◌, ap, ◌∙◌, sym, refl, arith}
 use Rattle.sj_cursor.specs.Left.{core, left, doing, doing_on, doing_nodes, operand_core, operand_left, each_core, binary_core, comparison_core, parts_core, bounds_core, doing_opening, done}
 use Rattle.sj_cursor.specs.declared.cells.Opening.TheVariants.{Unwrapped}
-use Rattle.sj_cursor.proofs.Draws.{draws_after, draws_takes, join_answer, join_over, nears_none, loop_answer, turn_near, turn_item, turn_begun, turn_over, turn_answer, count_draws, nears_trans}
+use Rattle.sj_cursor.proofs.Draws.{draws_after, draws_takes, join_answer, join_over, nears_none, loop_answer, turn_near, turn_item, turn_begun, turn_over, turn_answer, count_draws}
 use Rattle.sj_cursor.proofs.Pulls.{no_end, no_item}
 use Rattle.sj_cursor.proofs.Looks.{looking_from, looking_on, looking_enough, looking_end, looking_fault, exists_decides, single_answer, single_price, end_answer, end_price}
 use Rattle.sj_cursor.proofs.Pairs.{row_from, row_item, row_stop, row_end, row_fault, rows_from, rows_item, rows_stop, rows_end, rows_fault}
 use Rattle.sj_cursor.proofs.Decided.{compare_early, compare_all, one_early, one_all}
-use Rattle.sj_cursor.proofs.Doings.{as_it_is, doing_below, sub_some, subs_some}
+use Rattle.sj_cursor.proofs.Doings.{as_it_is, sub_some, subs_some}
 use Rattle.sj_cursor.proofs.Parts.{element_goes, range_bad, range_goes, binary_bad, binary_goes}
 use Rattle.sj_cursor.proofs.Connectives.{and_false, and_other, or_true, or_other, not_decides, unknown_decides, filter_draws}
 use Rattle.sj_cursor.proofs.cells.+next.Goals as goal

@@ -1,6 +1,4 @@
-use Rattle.std.proofs.Common.{ap, ◌∙◌}
-use Rattle.sj_step.specs.Trace.{each, join, stop}
-use Rattle.sj_cursor.specs.Left.{doing, done, doing_opening, doing_on, operand_left, operand_core}
+use Rattle.sj_cursor.specs.Left.{doing, doing_opening, operand_core}
 use Rattle.sj_cursor.proofs.Doings.{doing_is}
 use Rattle.sj_cursor.proofs.cells.+rewind.Goals as goal
 
