@@ -23,6 +23,7 @@ from checks.packaging import check_packaging
 from checks.program import Program
 from checks.recipes import check_recipes
 from checks.refusals import check_refusals
+from checks.rows import check_rows
 from checks.tally import Tally
 from checks.texts import check_texts
 
@@ -45,6 +46,7 @@ def main():
     check_definitions(tally, TOP)
     if program.exists():
         check_examples(tally, program, TOP / "examples")
+        check_rows(tally, program, TOP / "checks" / "rows")
         check_guide(tally, program, TOP)
         check_recipes(tally, program, TOP)
         check_companions(tally, program, TOP)
