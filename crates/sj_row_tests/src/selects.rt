@@ -68,11 +68,12 @@ fn expect_lines<'d>(
     rt: &impl Abort,
     alloc: Global,
     bound: &'d Bound,
-    (first, second): (&'d Doc, &'d Doc),
+    docs: (&'d Doc, &'d Doc),
     wants: &str,
 ) -> Result<(), Fail>
     requires { IsSound (bound_of bound.now) }
 {
+    let (first, second) = docs;
     let mut rows = RowsOf::new(alloc, bound, LineDoc::NotJson)?;
     let lines = [
         LineDoc::Json(first),
