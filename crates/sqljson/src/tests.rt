@@ -205,6 +205,22 @@ fn faults_at_each_call_and_sinks_without_room(rt: HostRuntime) -> Result<(), Fai
     Ok(())
 }
 
+#[test]
+fn refusals_without_room_for_the_message(rt: HostRuntime) -> Result<(), Fail> {
+    for (note_room, want) in [
+        (99, r#"Refused(1, Syntax) "" "statement 1: syntax error\n""#),
+        (0, r#"Refused(1, Syntax) "" """#),
+    ] {
+        let setup = Setup {
+            note_room,
+            ..plain(b"SELECT 1", THREE, 0)
+        };
+        let ran = run_on(rt.alloc(), &setup)?;
+        expect(&rt, told(rt.alloc(), &ran)?.as_str(), want, "refused");
+    }
+    Ok(())
+}
+
 // Lines, a blank one and one that is no JSON, with at most so many bytes at each read.
 #[test]
 fn lines_in_any_cut(rt: HostRuntime) -> Result<(), Fail> {
