@@ -59,7 +59,7 @@ fn shown(rt: &impl Abort, alloc: Global, rows: &mut RowsOf<'_>) -> Result<String
 
 /// Two documents, and a statement with what it gives for the first one, for the second one, and for no JSON.
 const STATEMENTS: &str =
-    r#"[1,2] ; [1,"x",3] ; SELECT v FROM JSON_TABLE(doc, '$[*]' COLUMNS (v INTEGER PATH '$' ERROR ON ERROR)) ERROR ON ERROR); => 2 end ; 1 2203G ; 0 22032
+    r#"[1,2] ; [1,"x",3] ; SELECT v FROM JSON_TABLE(doc, '$[*]' COLUMNS (v INTEGER PATH '$' ERROR ON ERROR) ERROR ON ERROR); => 2 end ; 1 2203G ; 0 22032
 [1,2] ; [] ; SELECT JSON_ARRAYAGG(v) FROM JSON_TABLE(doc, '$[*]' COLUMNS (v INTEGER PATH '$')); => 1 end ; 1 end ; 1 end
 {"x":[1,2],"y":[3,4]} ; {"x":[],"y":[3]} ; SELECT * FROM JSON_TABLE(doc, '$' AS r COLUMNS (NESTED '$.x[*]' AS x COLUMNS (a INT PATH '$'), NESTED '$.y[*]' AS y COLUMNS (b INT PATH '$')) PLAN (r OUTER (x CROSS y))); => 4 end ; 1 end ; 0 end
 {"a":1,"b":2} ; {"a":1} ; SELECT JSON_ARRAY(JSON_VALUE(doc,'$.a' ERROR ON EMPTY), 7), JSON_VALUE(doc,'$.b' ERROR ON EMPTY); => 1 end ; 0 22035 ; 1 end"#;

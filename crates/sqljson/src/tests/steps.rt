@@ -158,5 +158,8 @@ SELECT JSON_QUERY(doc, '$'); => = 3
 {"a":[],"a\n":{"b":true,"c":"x"}}
 SELECT JSON_QUERY(doc, '$'); => = 4
 
+{"\t":[1,[2]]}
+SELECT JSON_QUERY(doc, '$.keyvalue()'); => = 4
+
 -1E400
 SELECT JSON_QUERY(doc, '$'); => = 0"##;
