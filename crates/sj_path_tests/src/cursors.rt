@@ -135,11 +135,10 @@ fn expect_in_modes(
     answers: &str,
 ) -> Result<(), Fail> {
     let (lax, strict) = answers.split_once(" ; ").unwrap_or((answers, answers));
-    for (mode, want) in [("lax ", lax), ("strict ", strict)] {
-        let path = format!(in alloc; "{mode}{path}")?;
-        expect_trail(rt, alloc, path.as_str(), vars, doc, 20, want)?;
-    }
-    Ok(())
+    let in_lax = format!(in alloc; "lax {path}")?;
+    expect_trail(rt, alloc, in_lax.as_str(), vars, doc, 20, lax)?;
+    let in_strict = format!(in alloc; "strict {path}")?;
+    expect_trail(rt, alloc, in_strict.as_str(), vars, doc, 20, strict)
 }
 
 #[test]
