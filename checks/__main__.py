@@ -13,6 +13,7 @@ from checks.allocations import check_allocations
 from checks.command import check_command
 from checks.companions import check_companions
 from checks.damage import check_damage
+from checks.decimals import check_decimals
 from checks.definitions import check_definitions
 from checks.edges import check_edges
 from checks.examples import check_examples
@@ -23,6 +24,7 @@ from checks.packaging import check_packaging
 from checks.program import Program
 from checks.recipes import check_recipes
 from checks.refusals import check_refusals
+from checks.rows import check_rows
 from checks.tally import Tally
 from checks.texts import check_texts
 
@@ -45,6 +47,8 @@ def main():
     check_definitions(tally, TOP)
     if program.exists():
         check_examples(tally, program, TOP / "examples")
+        check_rows(tally, program, TOP / "checks" / "rows")
+        check_decimals(tally, program)
         check_guide(tally, program, TOP)
         check_recipes(tally, program, TOP)
         check_companions(tally, program, TOP)

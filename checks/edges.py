@@ -6,7 +6,6 @@ none up, and that rows come while the input is still open, is tried here, on fil
 import os
 import selectors
 import signal
-import socket
 import subprocess
 import tempfile
 import threading
@@ -205,9 +204,9 @@ def check_cuts(tally, program, folder):
     """Input in any pieces gives the same rows, which come while it is open, also to a run that was stopped for a while."""
     given = b'\n{"a":"x"}\r\n \t\n{"a"\n{"b":[{"a":null}]}'
     wanted = Ended(0, TRUE_ROW % 2 + FALSE_ROW % 4 + FALSE_ROW % 5)
-    tally.check("a byte at a time", difference(wanted, in_pieces(program, folder, [bytes([byte]) for byte in given])))
+    tally.check("a byte at a time", difference(wanted, program.run_in_pieces(RUN, [bytes([byte]) for byte in given], folder)))
     for cut in range(1, len(given)):
-        ended = in_pieces(program, folder, [given[:cut], given[cut:]])
+        ended = program.run_in_pieces(RUN, [given[:cut], given[cut:]], folder)
         tally.check(f"a cut before byte {cut}", difference(wanted, ended))
     with program.start(RUN, folder, bufsize=0) as run:
         answers = []
@@ -221,16 +220,6 @@ def check_cuts(tally, program, folder):
         run.communicate()
     wanted = [TRUE_ROW % 1, FALSE_ROW % 2]
     tally.check("rows while the input is open", None if answers == wanted else f"it wrote {answers}, and not {wanted}")
-
-
-def in_pieces(program, folder, pieces):
-    """Runs the program on an input of which each read takes one of these pieces."""
-    ours, theirs = socket.socketpair(socket.AF_UNIX, socket.SOCK_SEQPACKET)
-    with ours, theirs:
-        for piece in pieces:
-            ours.sendall(piece)
-        ours.close()
-        return program.run(RUN, folder=folder, stdin=theirs)
 
 
 def next_row(stream):

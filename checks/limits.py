@@ -40,6 +40,17 @@ def siblings(count, plan=""):
     return f"SELECT * FROM JSON_TABLE(doc, '$' AS p0 COLUMNS ({nested}) {plan});"
 
 
+def named(count, kind, front="", behind=""):
+    """A table with so many columns of a kind behind others, and what stands behind them."""
+    numbered = "".join(f", c{number} {kind}" for number in range(count))
+    return f"SELECT * FROM JSON_TABLE(doc, '$' COLUMNS ({front}a INT{numbered}{behind}));"
+
+
+def paths_below(count):
+    """A table with so many paths behind a column, all below that of its rows."""
+    return "".join(f", NESTED '$' COLUMNS (p{number} INT)" for number in range(count))
+
+
 def union(operators):
     """A table with a plan of so many operators, each between two of its paths."""
     paths = " UNION ".join(f"p{number}" for number in range(1, operators + 2))
@@ -61,7 +72,12 @@ def negations(count):
 # What has a limit, a statement with so many of it, the greatest number, and the reason for which one more is refused.
 LIMITS = [
     ("values in a list", lambda n: "SELECT 1" + ",1" * (n - 1) + ";", 1000, TOO_MANY),
+    ("values in a list over a table", lambda n: "SELECT a" + ",1" * (n - 1) + " FROM JSON_TABLE(doc, '$' COLUMNS (a INT));",
+     1000, TOO_MANY),
     ("columns of a table", columns, 1000, TOO_MANY),
+    ("EXISTS columns of a table", lambda n: named(n - 1, "BOOLEAN EXISTS"), 1000, TOO_MANY),
+    ("columns of two paths", lambda n: named(n - 2, "INT", "b INT, NESTED '$' COLUMNS (", ")"), 1000, TOO_MANY),
+    ("paths beside a column", lambda n: named(0, "", "", paths_below(n - 1)), 64, TOO_MANY),
     ("paths of a table", siblings, 64, TOO_MANY),
     ("open parentheses of arrays", lambda n: "SELECT " + "JSON_ARRAY(" * n + ")" * n + ";", 64, NO_SYNTAX),
     ("open parentheses of objects", lambda n: "SELECT " + "JSON_OBJECT('k':" * n + "1" + ")" * n + ";", 64, NO_SYNTAX),
@@ -106,7 +122,7 @@ def check_statements(tally, program, folder):
 
 
 def check_refused(tally, program, folder):
-    """Numbers below the least of a type, and plans that go beyond two limits at once."""
+    """Numbers below the least of a type, and tables that go beyond two limits at once, or break a later rule too."""
     for statement, reason in [
         (cast("VARCHAR(0)"), NO_SYNTAX),
         (cast("VARCHAR(1.0)"), NO_SYNTAX),
@@ -115,6 +131,11 @@ def check_refused(tally, program, folder):
         (union(62), None),
         (union(63), TOO_MANY),
         (union(64), NO_SYNTAX),
+        (named(998, "INT", "a INT, "), "column named twice"),
+        (named(999, "INT", "a INT, "), TOO_MANY),
+        (named(0, "", "a INT, ", paths_below(64)), TOO_MANY),
+        # about as many columns as a file can have, which are counted in a loop
+        (named(80_000, "INT", "a INT, "), TOO_MANY),
     ]:
         (folder / "refused.sql").write_text(statement)
         ended = program.run(["check", "refused.sql"], folder=folder)

@@ -1,6 +1,7 @@
 """Runs the built program, and says in what way a run differs from what is expected."""
 import os
 import resource
+import socket
 import subprocess
 import threading
 from contextlib import contextmanager
@@ -61,6 +62,20 @@ class Program:
         with self.start(words, folder, **how) as run:
             output, note = run.communicate(given if run.stdin else None)
         return Ended(run.returncode, output or b"", note or b"")
+
+    def run_in_pieces(self, words, pieces, folder):
+        """Runs the program on an input of which each read takes one of these pieces. What it writes has to fit a pipe."""
+        ours, theirs = socket.socketpair(socket.AF_UNIX, socket.SOCK_SEQPACKET)
+        with ours, self.start(words, folder, stdin=theirs) as run:
+            theirs.close()
+            try:
+                for piece in pieces:
+                    ours.sendall(piece)
+            except BrokenPipeError:
+                pass  # (the run has ended)
+            ours.close()
+            output, note = run.communicate()
+        return Ended(run.returncode, output, note)
 
 
 def prepare(closed, limits):

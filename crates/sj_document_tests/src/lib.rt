@@ -1,8 +1,8 @@
-//! The tests of numbers, documents and items: decimals (`sj_decimal`), documents (`sj_doc`) and their reading (`sj_read`), items (`sj_item`) and
-//! their printed texts (`sj_text`).
+//! The tests of numbers and documents, as far as the program does not show it: documents that are built and gone through by hand (`sj_doc`), lines
+//! that are cut at each place (`sj_read`), and the parts of decimals (`sj_decimal`).
 //!
-//! The crate has no code but tests, which call those crates as any caller does. They stand apart since a crate with tests is proved twice, once
-//! with them, and so is a crate below that is dear to prove.
+//! Which texts are JSON and what they are read and printed as, comparisons and casts are in the tables of `checks/rows/`, and arithmetic is in
+//! `checks/decimals.py`. The crate has no code but tests, which call those crates as any caller does.
 #![tactic(auto)]
 
 #[cfg(test)]
@@ -12,8 +12,4 @@ mod decimals;
 #[cfg(test)]
 mod documents;
 #[cfg(test)]
-mod items;
-#[cfg(test)]
 mod reading;
-#[cfg(test)]
-mod texts;

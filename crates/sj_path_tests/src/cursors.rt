@@ -126,18 +126,6 @@ fn expect_trail(
     expect_answers_twice(rt, alloc, &tree, vars, doc, most, want)
 }
 
-fn expect_in_mode(
-    rt: &impl Abort,
-    alloc: Global,
-    (mode, path): (&str, &str),
-    vars: &Vars,
-    doc: &Doc,
-    want: &str,
-) -> Result<(), Fail> {
-    let path = format!(in alloc; "{mode} {path}")?;
-    expect_trail(rt, alloc, path.as_str(), vars, doc, 20, want)
-}
-
 fn expect_in_modes(
     rt: &impl Abort,
     alloc: Global,
@@ -147,8 +135,10 @@ fn expect_in_modes(
     answers: &str,
 ) -> Result<(), Fail> {
     let (lax, strict) = answers.split_once(" ; ").unwrap_or((answers, answers));
-    expect_in_mode(rt, alloc, ("lax", path), vars, doc, lax)?;
-    expect_in_mode(rt, alloc, ("strict", path), vars, doc, strict)
+    let in_lax = format!(in alloc; "lax {path}")?;
+    expect_trail(rt, alloc, in_lax.as_str(), vars, doc, 20, lax)?;
+    let in_strict = format!(in alloc; "strict {path}")?;
+    expect_trail(rt, alloc, in_strict.as_str(), vars, doc, 20, strict)
 }
 
 #[test]
@@ -166,7 +156,7 @@ fn gives_items_and_ends(rt: HostRuntime) -> Result<(), Fail> {
             None => doc = read(rt.alloc(), line.as_bytes())?,
         }
     }
-    assert_eq!(rt; paths, 375);
+    assert!(rt; paths == 379);
     Ok(())
 }
 
@@ -211,24 +201,6 @@ fn asks_no_further_than_it_must(rt: HostRuntime) -> Result<(), Fail> {
         ("strict $[999999]", "1 1000000"),
     ] {
         expect_trail(&rt, alloc, path, &vars, &ones, 1, want)?;
-    }
-    Ok(())
-}
-
-#[test]
-fn meets_no_fault_behind_the_first_item(rt: HostRuntime) -> Result<(), Fail> {
-    let alloc = rt.alloc();
-    let vars = Vars::new(alloc);
-    for (text, path, want) in [
-        ("[1,\"x\"]", "lax $[*].abs()", "1 1"),
-        (
-            "{\"v\":[\"a\",7]}",
-            "lax $ ? (@.v[*] > 5)",
-            "{\"v\":[\"a\",7]} 3",
-        ),
-    ] {
-        let doc = read(alloc, text.as_bytes())?;
-        expect_trail(&rt, alloc, path, &vars, &doc, 1, want)?;
     }
     Ok(())
 }

@@ -2,12 +2,7 @@
 use std::process::Abort;
 
 /// Stops the test where a text is not what it should be. Each place with an assertion of its own takes a proof of how
-/// its message is made, so the tests share these.
+/// its message is made, so the tests share this one.
 pub(crate) fn expect(rt: &impl Abort, found: &str, want: &str, about: &str) {
-    assert_eq!(rt; found, want, "{about}");
-}
-
-/// The same of bytes.
-pub(crate) fn expect_bytes(rt: &impl Abort, found: &[u8], want: &[u8], about: &str) {
     assert_eq!(rt; found, want, "{about}");
 }

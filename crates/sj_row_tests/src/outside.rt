@@ -2,38 +2,12 @@
 // adapters over fakes and a file.
 use sj_base::{
     Bytes, CountSink, Failed, FileShelf, Ledger, MemShelf, MemSink, MemSource, Memory, QuietShelf,
-    QuietSource, Shelf, Sink, Source, State, StderrSink, StdinSource, StdoutSink, Steps, Tally,
-    Text,
+    QuietSource, Shelf, Sink, Source, StderrSink, StdinSource, StdoutSink, Steps, Tally, Text,
 };
 use std::fs;
 use std::io::{self, ErrorKind, Read, Write};
 use std::process::Abort;
 use std::test::Fail;
-
-#[test]
-fn states_have_their_codes(rt: HostRuntime) {
-    for (state, code) in [
-        (State::S22001, "22001"),
-        (State::S22003, "22003"),
-        (State::S22004, "22004"),
-        (State::S22012, "22012"),
-        (State::S22030, "22030"),
-        (State::S22032, "22032"),
-        (State::S22033, "22033"),
-        (State::S22034, "22034"),
-        (State::S22035, "22035"),
-        (State::S22036, "22036"),
-        (State::S22037, "22037"),
-        (State::S22038, "22038"),
-        (State::S22039, "22039"),
-        (State::S2203A, "2203A"),
-        (State::S2203C, "2203C"),
-        (State::S2203F, "2203F"),
-        (State::S2203G, "2203G"),
-    ] {
-        assert_eq!(rt; state.code(), code);
-    }
-}
 
 #[test]
 fn texts_and_bytes_are_what_was_put_in(rt: HostRuntime) -> Result<(), Fail> {

@@ -1,12 +1,9 @@
-// The lines of bytes whatever the cuts between their pieces, the longest line, blank lines, and rows.
-ghost use Rattle.std.specs.Prelude.{◌≡◌, ◌+◌, ◌^◌, ◌≤◌, false, length, All, OnOk, IfOk};
-ghost use Rattle.sj_value.specs.Values.{IsPrintable};
+// The lines of bytes whatever the cuts between their pieces, and the greatest numbers of a row. Lines at their limit, blank
+// lines and printed values are in the tables of `checks/rows/`.
+ghost use Rattle.std.specs.Prelude.{◌≡◌, ◌+◌, ◌^◌, ◌≤◌, false, length, OnOk};
 
-use sj_base::{Bytes, State, Text};
-use sj_item::Item;
-use sj_rows::{Line, Lines, error_text, is_blank, row_text};
-use sj_value::{CastRefusal, SqlType, SqlValue, cast};
-use std::alloc::Global;
+use sj_base::{Bytes, State};
+use sj_rows::{Line, Lines, error_text, row_text};
 use std::process::Abort;
 use std::test::Fail;
 
@@ -68,20 +65,6 @@ fn lines_do_not_depend_on_the_cuts(rt: HostRuntime) -> Result<(), Fail> {
     Ok(())
 }
 
-/// Feeds the longest line without its LF, in 256 pieces.
-fn feed_longest(lines: &mut Lines) -> Result<(), Fail>
-    requires goes_on { lines.old.ended ≡ false }
-    requires limit { lines.old.fed ≤ 2 ^ 30 }
-    ensures goes_on { OnOk result (lines.new.ended ≡ false) }
-    ensures limit { OnOk result (lines.new.fed ≤ lines.old.fed + 2 ^ 24) }
-{
-    let piece = [b'x'; 65_536];
-    'pieces: for i in 0..256u64 {
-        lines.feed(&piece)?;
-    }
-    Ok(())
-}
-
 /// The number of bytes of the next line, where there is one that is not too long.
 fn next_len(lines: &mut Lines) -> Option<Option<usize>>
     ensures goes_on { lines.new.ended ≡ lines.old.ended }
@@ -92,31 +75,6 @@ fn next_len(lines: &mut Lines) -> Option<Option<usize>>
         Some(Line::TooLong) => Some(None),
         Some(Line::Bytes(bytes)) => Some(Some(bytes.len())),
     }
-}
-
-#[test]
-fn a_line_of_the_limit_is_whole_and_one_more_byte_is_too_long(rt: HostRuntime) -> Result<(), Fail> {
-    let mut lines = Lines::new(rt.alloc());
-    feed_longest(&mut lines)?;
-    assert_eq!(rt; next_len(&mut lines), None);
-    lines.feed(b"\n")?;
-    assert_eq!(rt; next_len(&mut lines), Some(Some(16_777_216)));
-
-    feed_longest(&mut lines)?;
-    lines.feed(b"y")?;
-    assert_eq!(rt; next_len(&mut lines), None);
-    lines.feed(b"yy")?;
-    lines.feed(b"y\nab\n")?;
-    assert_eq!(rt; next_len(&mut lines), Some(None));
-    assert_eq!(rt; next_len(&mut lines), Some(Some(2)));
-    assert_eq!(rt; lines.number(), 3);
-
-    feed_longest(&mut lines)?;
-    lines.feed(b"y")?;
-    lines.finish();
-    assert_eq!(rt; next_len(&mut lines), Some(None), "a last line without LF");
-    assert_eq!(rt; next_len(&mut lines), None);
-    Ok(())
 }
 
 /// Feeds four million bytes one at a time, and asks for a line after each.
@@ -139,92 +97,6 @@ fn no_byte_is_searched_twice(rt: HostRuntime) -> Result<(), Fail> {
     feed_singly(&rt, &mut lines)?;
     lines.finish();
     assert_eq!(rt; next_len(&mut lines), Some(Some(4_000_000)));
-    Ok(())
-}
-
-#[test]
-fn blank_lines_have_spaces_tabs_and_returns_only(rt: HostRuntime) {
-    for (line, want) in [
-        (b"".as_slice(), true),
-        (b" \t\r ".as_slice(), true),
-        (b" x".as_slice(), false),
-        (b"\n".as_slice(), false),
-        (b"\x0c".as_slice(), false),
-        (b"\xc2\xa0".as_slice(), false),
-    ] {
-        assert_eq!(rt; is_blank(line), want);
-    }
-}
-
-/// A number with two decimals.
-fn price(alloc: Global, text: &str) -> Result<SqlValue, Fail>
-    ensures { IfOk result IsPrintable }
-{
-    match cast(alloc, Item::Text(text), SqlType::NumericFixed(10, 2)) {
-        Ok(value) => Ok(value),
-        Err(CastRefusal::State(state)) => Err(state.code())?,
-        Err(CastRefusal::Memory) => Err("memory")?,
-    }
-}
-
-/// A word as a value: NULL, a truth value, a text behind an apostrophe, a JSON text behind a colon, or a number with
-/// two decimals.
-fn value(alloc: Global, word: &str) -> Result<SqlValue, Fail>
-    ensures { IfOk result IsPrintable }
-{
-    if let Some(text) = word.strip_prefix('\'') {
-        return Ok(SqlValue::Text(Text::from_str(alloc, text)?));
-    }
-    if let Some(text) = word.strip_prefix(':') {
-        let mut bytes = Bytes::new(alloc);
-        bytes.push(text.as_bytes())?;
-        return Ok(SqlValue::Json(bytes));
-    }
-    match word {
-        "NULL" => Ok(SqlValue::Null),
-        "TRUE" => Ok(SqlValue::Bool(true)),
-        "FALSE" => Ok(SqlValue::Bool(false)),
-        _ => price(alloc, word),
-    }
-}
-
-/// The values of words between bars.
-fn values(alloc: Global, words: &str) -> Result<Vec<SqlValue>, Fail>
-    ensures { IfOk result (λ v. All IsPrintable v.items) }
-{
-    let mut values = Vec::new(alloc);
-    'words: for word in words.split('|') {
-        values.push(value(alloc, word)?)?;
-    }
-    Ok(values)
-}
-
-#[test]
-fn prints_rows(rt: HostRuntime) -> Result<(), Fail> {
-    let table = [
-        ("NULL", "\\N"),
-        ("'\\N", "\\\\N"),
-        ("'N", "N"),
-        ("'", ""),
-        ("'|'", "\t"),
-        ("TRUE|FALSE", "TRUE\tFALSE"),
-        ("'TRUE", "TRUE"),
-        ("9.5|-0.005|12", "9.50\t-0.01\t12.00"),
-        ("'a\tb\nc\rd\\e", "a\\tb\\nc\\rd\\\\e"),
-        ("'\t\t|'\\\\\n", "\\t\\t\t\\\\\\\\\\n"),
-        (
-            "'\u{e9} \u{1f600}\u{7f}\u{b}",
-            "\u{e9} \u{1f600}\u{7f}\u{b}",
-        ),
-        (":[1,\"a\\n\"]", "[1,\"a\\\\n\"]"),
-    ];
-    for (words, want) in table {
-        let mut out = Bytes::new(rt.alloc());
-        out.push(b"before ")?;
-        row_text(&mut out, 7, 12, &values(rt.alloc(), words)?)?;
-        let row = format!(in rt.alloc(); "before 7\t12\tR\t{want}\n")?;
-        assert_eq!(rt; out.as_slice(), row.as_bytes(), "{words}");
-    }
     Ok(())
 }
 

@@ -1,7 +1,8 @@
-//! The tests of statement files: their tokens (`sj_sql_token`), the parser of statements (`sj_sql`), and the rules that a bound statement keeps
-//! (`sj_bind`).
+//! The tests of statement files, as far as the program does not show it: the trees that the parser makes of statements and their paths
+//! (`sj_sql`, `sj_path`), the lists that hold them, and the plan of a bound statement (`sj_bind`).
 //!
-//! The crate has no code but tests, which call those crates as any caller does. They stand apart since a crate with tests is proved twice.
+//! Which files are refused, and why, is in the tables of `checks/rows/`, which need no proof. The crate has no code but tests, which call those
+//! crates as any caller does.
 #![tactic(auto)]
 
 #[cfg(test)]
@@ -10,5 +11,3 @@ mod binding;
 mod cases;
 #[cfg(test)]
 mod statements;
-#[cfg(test)]
-mod tokens;

@@ -325,4 +325,125 @@ SELECT a, 1, JSON_OBJECT('k' VALUE JSON_ARRAY(a)) FROM JSON_TABLE(doc, '$' COLUM
 ! SELECT a, 1, JSON_OBJECT('k' VALUE JSON_ARRAY(a, a)) FROM JSON_TABLE(doc, '$' COLUMNS (a INT));
 ! SELECT a, 1, JSON_OBJECT('k' VALUE JSON_ARRAY(a NULL ON NULL)) FROM JSON_TABLE(doc, '$' COLUMNS (a INT));
 ! SELECT a, 1, JSON_OBJECT('k' VALUE JSON_ARRAY(a) WITH UNIQUE KEYS) FROM JSON_TABLE(doc, '$' COLUMNS (a INT));
+
+SELECT JSON_EXISTS(doc, '$.a - $.b - $.c');
+= SELECT JSON_EXISTS(doc, '(($."a" - $."b") - $."c")');
+! SELECT JSON_EXISTS(doc, '$.a - ($.b - $.c)');
+
+SELECT JSON_EXISTS(doc, '$.a - ($.b - $.c)');
+= SELECT JSON_EXISTS(doc, '($."a" - ($."b" - $."c"))');
+
+SELECT JSON_EXISTS(doc, '$[0to 1]');
+= SELECT JSON_EXISTS(doc, '$[0 to 1]');
+! SELECT JSON_EXISTS(doc, '$[0, 1]');
+
+SELECT JSON_EXISTS(doc, '$ ? (@ == 1) ? (@ > 0)');
+= SELECT JSON_EXISTS(doc, '$?(@ == 1)?(@ > 0)');
+! SELECT JSON_EXISTS(doc, '$ ? (@ == 1 && @ > 0)');
+! SELECT JSON_EXISTS(doc, '$ ? (@ > 0) ? (@ == 1)');
+
+SELECT JSON_EXISTS(doc, 'strict $[*]');
+! SELECT JSON_EXISTS(doc, '$[*]');
+! SELECT JSON_EXISTS(doc, 'strict $.*');
+
+SELECT JSON_EXISTS(doc, 'lax $.a.lax');
+= SELECT JSON_EXISTS(doc, '$."a"."lax"');
+
+SELECT JSON_EXISTS(doc, '$.size + $.size()');
+= SELECT JSON_EXISTS(doc, '($."size" + $.size())');
+! SELECT JSON_EXISTS(doc, '$.size() + $.size');
+
+SELECT JSON_EXISTS(doc, '-$.a * 2');
+= SELECT JSON_EXISTS(doc, '((-$."a") * 2)');
+! SELECT JSON_EXISTS(doc, '-($.a * 2)');
+
+SELECT JSON_EXISTS(doc, '- + $');
+= SELECT JSON_EXISTS(doc, '(-(+$))');
+! SELECT JSON_EXISTS(doc, '+ - $');
+! SELECT JSON_EXISTS(doc, '-$');
+
+SELECT JSON_EXISTS(doc, '1 - 2 * 3 % 4 / 5');
+= SELECT JSON_EXISTS(doc, '(1 - (((2 * 3) % 4) / 5))');
+! SELECT JSON_EXISTS(doc, '((1 - 2) * 3) % 4 / 5');
+! SELECT JSON_EXISTS(doc, '1 - 2 * (3 % 4) / 5');
+! SELECT JSON_EXISTS(doc, '1 - 2 * 3 % (4 / 5)');
+
+SELECT JSON_EXISTS(doc, '$ ? (@.a == 1 && @.b == 2 || !(@.c == 3))');
+= SELECT JSON_EXISTS(doc, '$?(((@."a" == 1) && (@."b" == 2)) || (!(@."c" == 3)))');
+! SELECT JSON_EXISTS(doc, '$ ? (@.a == 1 && (@.b == 2 || !(@.c == 3)))');
+
+SELECT JSON_EXISTS(doc, '$ ? ((@.a + 1) * 2 > 3)');
+= SELECT JSON_EXISTS(doc, '$?(((@."a" + 1) * 2) > 3)');
+! SELECT JSON_EXISTS(doc, '$ ? (@.a + 1 * 2 > 3)');
+
+SELECT JSON_EXISTS(doc, '$ ? (((@.a == 1)))');
+= SELECT JSON_EXISTS(doc, '$?(@."a" == 1)');
+
+SELECT JSON_EXISTS(doc, '$ ? ((@.a == 1) is unknown)');
+= SELECT JSON_EXISTS(doc, '$?((@."a" == 1) is unknown)');
+! SELECT JSON_EXISTS(doc, '$ ? (@.a == 1)');
+
+SELECT JSON_EXISTS(doc, '$ ? (!exists(@.a))');
+= SELECT JSON_EXISTS(doc, '$?(!exists(@."a"))');
+! SELECT JSON_EXISTS(doc, '$ ? (exists(@.a))');
+
+SELECT JSON_EXISTS(doc, '$ ? (@.s starts with $p)');
+= SELECT JSON_EXISTS(doc, '$?(@."s" starts with $p)');
+
+SELECT JSON_EXISTS(doc, '$ ? (@ starts with "a")');
+= SELECT JSON_EXISTS(doc, '$?(@ starts with "a")');
+! SELECT JSON_EXISTS(doc, '$ ? (@ starts with $a)');
+
+SELECT JSON_EXISTS(doc, '$[last - 1 to last, 0]');
+= SELECT JSON_EXISTS(doc, '$[(last - 1) to last, 0]');
+! SELECT JSON_EXISTS(doc, '$[last - 1 to last]');
+! SELECT JSON_EXISTS(doc, '$[0, last - 1 to last]');
+! SELECT JSON_EXISTS(doc, '$[last - 1, last, 0]');
+
+SELECT JSON_EXISTS(doc, '$[$ ? (@ == last)]');
+= SELECT JSON_EXISTS(doc, '$[$?(@ == last)]');
+
+SELECT JSON_EXISTS(doc, '$ ? (@ <> 5)');
+= SELECT JSON_EXISTS(doc, '$?(@ != 5)');
+! SELECT JSON_EXISTS(doc, '$ ? (@ == 5)');
+! SELECT JSON_EXISTS(doc, '$ ? (@ <= 5)');
+
+SELECT JSON_EXISTS(doc, '$x.a');
+= SELECT JSON_EXISTS(doc, '$x."a"');
+
+SELECT JSON_EXISTS(doc, '$ + 1.e5');
+= SELECT JSON_EXISTS(doc, '($ + 1."e5")');
+
+SELECT JSON_EXISTS(doc, '1.50e1');
+= SELECT JSON_EXISTS(doc, '15');
+! SELECT JSON_EXISTS(doc, '1.5');
+! SELECT JSON_EXISTS(doc, '150');
+
+SELECT JSON_EXISTS(doc, '(true)');
+= SELECT JSON_EXISTS(doc, 'true');
+! SELECT JSON_EXISTS(doc, 'false');
+! SELECT JSON_EXISTS(doc, '"true"');
+
+SELECT JSON_EXISTS(doc, '"\"\\\/\b\f\n\r\t\u00e9\uD83D\ude00"');
+= SELECT JSON_EXISTS(doc, '"\u0022\u005c\u002f\u0008\u000c\u000a\u000d\u0009é😀"');
+
+SELECT JSON_EXISTS(doc, '$."é\u0000"');
+= SELECT JSON_EXISTS(doc, '$."\u00e9\u0000"');
+
+SELECT JSON_EXISTS(doc, '$.bigint().boolean().decimal().integer().number().string()');
+= SELECT JSON_EXISTS(doc, '$ . bigint ( ) . boolean() . decimal() . integer() . number() . string()');
+
+SELECT JSON_EXISTS(doc, '$.bigint.boolean.decimal.integer.number.string');
+= SELECT JSON_EXISTS(doc, '$."bigint"."boolean"."decimal"."integer"."number"."string"');
+
+SELECT JSON_EXISTS(doc, 'strict $.string.string ( ) + $.number()');
+= SELECT JSON_EXISTS(doc, 'strict ($."string".string() + $.number())');
+
+SELECT JSON_EXISTS(doc, '-$[*].integer()');
+= SELECT JSON_EXISTS(doc, '(-$[*].integer())');
+! SELECT JSON_EXISTS(doc, '-$.integer()');
+! SELECT JSON_EXISTS(doc, '(-$[*]).integer()');
+
+SELECT JSON_EXISTS(doc, '$ ? (@.string() starts with "a")');
+= SELECT JSON_EXISTS(doc, '$?(@.string() starts with "a")');
 "##;

@@ -61,6 +61,10 @@ fn comments_leave_no_trace(rt: HostRuntime) -> Result<(), Fail> {
         ),
         ("SELECT '--', 1;", "SELECT '--' -- '--'\n, 1;\n--"),
         (
+            "SELECT JSON_EXISTS(doc, '$.a');",
+            "SELECT JSON_EXISTS(doc, '\t$\r\n.a ');",
+        ),
+        (
             "SELECT * FROM JSON_TABLE(doc, '$' COLUMNS (a INT));",
             "SELECT--\n*--\nFROM--\nJSON_TABLE--\n(--\ndoc--\n,--\n'$'--\nCOLUMNS--\n(--\na--\nINT--\n)--\n)--\n;--",
         ),
