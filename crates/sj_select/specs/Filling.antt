@@ -12,13 +12,13 @@ use Rattle.sj_select.specs.declared.columns.FormattedColumn.{FormattedColumn}
 use Rattle.sj_select.specs.declared.columns.RegularColumn.{RegularColumn}
 
 abbrev pub regular_column : RegularColumn → Column
-regular_column c = regular c.path (path_with c.call.cursor) c.call.clauses.now
+regular_column c = regular c.path (path_with c.call.cursor.value) c.call.clauses.now
 
 abbrev pub formatted_column : FormattedColumn → Column
-formatted_column c = formatted c.path (path_with c.call.cursor) c.call.clauses
+formatted_column c = formatted c.path (path_with c.call.cursor.value) c.call.clauses
 
 abbrev pub exists_column : ExistsColumn → Column
-exists_column c = existence c.path (path_with c.call.cursor) c.call.on_error
+exists_column c = existence c.path (path_with c.call.cursor.value) c.call.on_error
 
 -- a column without where its cursor stands
 abbrev pub column_of : ColumnHeld → Column

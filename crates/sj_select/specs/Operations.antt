@@ -34,13 +34,13 @@ abbrev pub path_with : Sequel → PathWith
 path_with c = record { path = path_of c.path; vars = c.vars }
 
 abbrev pub exists_step : ExistsCall → Step
-exists_step call = exists (path_with call.cursor) call.on_error
+exists_step call = exists (path_with call.cursor.value) call.on_error
 
 abbrev pub value_step : ValueCall → Step
-value_step call = value (path_with call.cursor) call.clauses.now
+value_step call = value (path_with call.cursor.value) call.clauses.now
 
 abbrev pub query_step : QueryCall → Step
-query_step call = query (path_with call.cursor) call.clauses
+query_step call = query (path_with call.cursor.value) call.clauses
 
 abbrev pub step_of : Operation → Step
 step_of (o.Literal x) = literal x.now

@@ -9,6 +9,7 @@ use sj_base::Memory;
 use sj_bind::{Bound, BoundItem, BoundMembers, BoundPath, BoundValue, BoundValues};
 use sj_cursor::Cursor;
 use sj_item::Item;
+use sj_path::{Path, Vars};
 use std::alloc::Global;
 
 /// The operations that find the values of a statement's SELECT list. The cursors of its paths take their memory here.
@@ -54,10 +55,27 @@ fn operations_in<'d>(alloc: Global, items: &'d [BoundItem]) -> Result<Vec<Operat
 }
 
 // A cursor of the path, which is to be moved to a line.
-fn cursor_of<'d>(alloc: Global, path: &'d BoundPath) -> Result<Cursor<'d>, Memory>
-    ensures { IfOk result (λ cursor. path_with cursor ≡ path_with_of path.now) }
+fn cursor_of<'d>(alloc: Global, path: &'d BoundPath) -> Result<Box<Cursor<'d>>, Memory>
+    ensures { IfOk result (λ cursor. path_with cursor.value ≡ path_with_of path.now) }
 {
-    Cursor::new(alloc, &path.path, &path.vars, Item::Null)
+    boxed_cursor(alloc, &path.path, &path.vars)
+}
+
+/// A cursor of a path with its variables, on no item yet.
+///
+/// # Errors
+/// [`Memory`] where memory runs out.
+#[inline(never)]
+pub(crate) fn boxed_cursor<'d>(
+    alloc: Global,
+    path: &'d Path,
+    vars: &'d Vars,
+) -> Result<Box<Cursor<'d>>, Memory>
+    ensures path { IfOk result (λ cursor. cursor.value.path ≡ path.now) }
+    ensures vars { IfOk result (λ cursor. cursor.value.vars ≡ vars.now) }
+{
+    let cursor = Cursor::new(alloc, path, vars, Item::Null)?;
+    Ok(Box::new(alloc, cursor)?)
 }
 
 // Appends the operations that find a value: what it is made of first. They are one at least.

@@ -17,12 +17,12 @@ impl<'d> ExistsCall<'d> {
         context: Context<'d>,
         steps: &mut Steps<L>,
     ) -> Outcome
-        ensures outcome { let x = path_with self.old.cursor in result ≡ exists_outcome self.old.on_error x.path.mode (context_value context.entry) (trace_of x) }
+        ensures outcome { let x = path_with self.old.cursor.value in result ≡ exists_outcome self.old.on_error x.path.mode (context_value context.entry) (trace_of x) }
         ensures printed { IsPrinted result }
-        ensures costs { let x = path_with self.old.cursor in steps.new ≤ raised steps.old (exists_cost x.path.mode (context_value context.entry) (trace_of x)) }
+        ensures costs { let x = path_with self.old.cursor.value in steps.new ≤ raised steps.old (exists_cost x.path.mode (context_value context.entry) (trace_of x)) }
         ensures step { exists_step self.new ≡ exists_step self.old }
     {
-        json_exists(&mut self.cursor, context, self.on_error, steps)
+        json_exists(&mut *self.cursor, context, self.on_error, steps)
     }
 }
 
@@ -34,12 +34,12 @@ impl<'d> ValueCall<'d> {
         steps: &mut Steps<L>,
     ) -> Result<Outcome, Memory>
         requires { IsValueSpec self.old.clauses.now }
-        ensures outcome { let x = path_with self.old.cursor in IfOk result (λ o. o ≡ value_outcome self.old.clauses.now x.path.mode (context_value context.entry) (trace_of x)) }
+        ensures outcome { let x = path_with self.old.cursor.value in IfOk result (λ o. o ≡ value_outcome self.old.clauses.now x.path.mode (context_value context.entry) (trace_of x)) }
         ensures printed { IfOk result IsPrinted }
-        ensures costs { let x = path_with self.old.cursor in steps.new ≤ raised steps.old (value_cost x.path.mode (context_value context.entry) (trace_of x)) }
+        ensures costs { let x = path_with self.old.cursor.value in steps.new ≤ raised steps.old (value_cost x.path.mode (context_value context.entry) (trace_of x)) }
         ensures step { value_step self.new ≡ value_step self.old }
     {
-        json_value(alloc, &mut self.cursor, context, self.clauses, steps)
+        json_value(alloc, &mut *self.cursor, context, self.clauses, steps)
     }
 }
 
@@ -50,11 +50,11 @@ impl<'d> QueryCall<'d> {
         context: Context<'d>,
         steps: &mut Steps<L>,
     ) -> Result<Outcome, Memory>
-        ensures outcome { let x = path_with self.old.cursor in IfOk result (λ o. o ≡ query_outcome self.old.clauses x.path.mode (context_value context.entry) (trace_of x)) }
+        ensures outcome { let x = path_with self.old.cursor.value in IfOk result (λ o. o ≡ query_outcome self.old.clauses x.path.mode (context_value context.entry) (trace_of x)) }
         ensures printed { IfOk result IsPrinted }
-        ensures costs { let x = path_with self.old.cursor in steps.new ≤ raised steps.old (query_cost self.old.clauses.wrapper x.path.mode (context_value context.entry) (trace_of x)) }
+        ensures costs { let x = path_with self.old.cursor.value in steps.new ≤ raised steps.old (query_cost self.old.clauses.wrapper x.path.mode (context_value context.entry) (trace_of x)) }
         ensures step { query_step self.new ≡ query_step self.old }
     {
-        json_query(alloc, &mut self.cursor, context, &self.clauses, steps)
+        json_query(alloc, &mut *self.cursor, context, &self.clauses, steps)
     }
 }

@@ -8,10 +8,10 @@ ghost use Rattle.sj_bind.specs.View as bound;
 ghost use Rattle.sj_select.specs.Columns.{column_outcome, column_cost, columns_given, columns_cost, ordinality_of, with_variables};
 ghost use Rattle.sj_select.specs.Filling.{column_of, regular_column, formatted_column, exists_column, CanFill, Gathers};
 
+use crate::build::boxed_cursor;
 use crate::operation::{ExistsCall, QueryCall, ValueCall};
 use sj_base::{Ledger, Memory, State, Steps};
 use sj_bind::{BoundColumn, BoundTable};
-use sj_cursor::Cursor;
 use sj_func::{Context, Outcome};
 use sj_item::Item;
 use sj_path::Vars;
@@ -69,7 +69,7 @@ impl<'d> Column<'d> {
         match column {
             BoundColumn::Ordinality(path) => Ok(Column::Ordinality(*path)),
             BoundColumn::Regular(number, path, clauses) => {
-                let cursor = Cursor::new(alloc, path, vars, Item::Null)?;
+                let cursor = boxed_cursor(alloc, path, vars)?;
                 let call = ValueCall { cursor, clauses };
                 Ok(Column::Regular(RegularColumn {
                     path: *number,
@@ -77,7 +77,7 @@ impl<'d> Column<'d> {
                 }))
             }
             BoundColumn::Formatted(number, path, clauses) => {
-                let cursor = Cursor::new(alloc, path, vars, Item::Null)?;
+                let cursor = boxed_cursor(alloc, path, vars)?;
                 let call = QueryCall {
                     cursor,
                     clauses: *clauses,
@@ -88,7 +88,7 @@ impl<'d> Column<'d> {
                 }))
             }
             BoundColumn::Exists(number, path, on_error) => {
-                let cursor = Cursor::new(alloc, path, vars, Item::Null)?;
+                let cursor = boxed_cursor(alloc, path, vars)?;
                 let call = ExistsCall {
                     cursor,
                     on_error: *on_error,

@@ -40,23 +40,24 @@ impl<'d> Drop for Operation<'d> {
     }
 }
 
-/// JSON_EXISTS. The cursor of its path takes its memory once and is moved from line to line, as in the other two.
+/// JSON_EXISTS. The cursor of its path takes its memory once and is moved from line to line, as in the other two. It is in a place
+/// of its own, so that an operation without a path is small.
 #[derive(Drop)]
 pub(crate) struct ExistsCall<'d> {
-    pub(crate) cursor: Cursor<'d>,
+    pub(crate) cursor: Box<Cursor<'d>>,
     pub(crate) on_error: ExistsAction,
 }
 
 /// JSON_VALUE.
 #[derive(Drop)]
 pub(crate) struct ValueCall<'d> {
-    pub(crate) cursor: Cursor<'d>,
+    pub(crate) cursor: Box<Cursor<'d>>,
     pub(crate) clauses: &'d ValueSpec,
 }
 
 /// JSON_QUERY.
 #[derive(Drop)]
 pub(crate) struct QueryCall<'d> {
-    pub(crate) cursor: Cursor<'d>,
+    pub(crate) cursor: Box<Cursor<'d>>,
     pub(crate) clauses: QuerySpec,
 }

@@ -3,7 +3,7 @@ ghost use Rattle.std.specs.Prelude.{◌≡◌, ◌≤◌, ◌<◌, ℕ, length, 
 ghost use Rattle.sj_path.specs.Tree.{path_of};
 ghost use Rattle.sj_value.specs.Plans.{plan_tree, times};
 ghost use Rattle.sj_table.specs.Cells.{core, path_source};
-ghost use Rattle.sj_table.specs.Rows.{nested as nested_of, source, sourced};
+ghost use Rattle.sj_table.specs.Rows.{single as single_of, nested as nested_of, union as union_of, cross as cross_of, source, sourced};
 
 use crate::cells::{At, Cell, Cross, Hand, Nested, PathCell, Side, Stage, Union};
 use crate::join::Join;
@@ -15,69 +15,10 @@ use sj_value::Plan;
 use std::alloc::Global;
 
 /// The cells of a plan over paths.
-#[cycle(build)]
+///
+/// It recurs over the plan, so it holds nothing but boxes, and what makes a large cell of parts that are made already is kept
+/// out of line: what a frame holds is taken as often as a plan is nested.
 pub(crate) fn plan_cell<'d>(
-    alloc: Global,
-    plan: &'d Plan,
-    paths: &'d [Path],
-    vars: &'d Vars,
-) -> Result<Cell<'d>, Memory>
-    requires { (k : ℕ) → length paths.now ≤ k → times k (plan_tree plan.now) ≡ 0 }
-    ensures { IfOk result (λ c. core c ≡ sourced (map path_of paths.now) vars.now (plan_tree plan.now)) }
-{
-    match plan {
-        Plan::Path(number) => Ok(Cell::Single(path_cell(alloc, *number, paths, vars)?)),
-        Plan::Outer(number, below) => nested(alloc, Join::Outer, *number, below, paths, vars),
-        Plan::Inner(number, below) => nested(alloc, Join::Inner, *number, below, paths, vars),
-        Plan::Union(left, right) => {
-            let left = boxed(alloc, left, paths, vars)?;
-            let right = boxed(alloc, right, paths, vars)?;
-            Ok(Cell::Union(Union {
-                left,
-                right,
-                side: Side::Left,
-            }))
-        }
-        Plan::Cross(left, right) => {
-            let left = boxed(alloc, left, paths, vars)?;
-            let right = boxed(alloc, right, paths, vars)?;
-            Ok(Cell::Cross(Cross {
-                left,
-                right,
-                hand: Hand::Empty,
-            }))
-        }
-    }
-}
-
-// A path with the plan below it.
-#[cycle(build)]
-fn nested<'d>(
-    alloc: Global,
-    join: Join,
-    number: u32,
-    below: &'d Plan,
-    paths: &'d [Path],
-    vars: &'d Vars,
-) -> Result<Cell<'d>, Memory>
-    requires here { number < length paths.now }
-    requires below { (k : ℕ) → length paths.now ≤ k → times k (plan_tree below.now) ≡ 0 }
-    ensures { IfOk result (λ c. core c ≡ nested_of join (source (map path_of paths.now) vars.now number) (sourced (map path_of paths.now) vars.now (plan_tree below.now))) }
-{
-    let below = boxed(alloc, below, paths, vars)?;
-    let parent = path_cell(alloc, number, paths, vars)?;
-    Ok(Cell::Nested(Nested {
-        join,
-        parent,
-        below,
-        at: At::Nothing,
-    }))
-}
-
-// The cells of a plan, in a box. A box that waits for the cells beside it is given up by one call where memory runs out; cells would be
-// given up part by part, which is long to prove.
-#[cycle(build)]
-fn boxed<'d>(
     alloc: Global,
     plan: &'d Plan,
     paths: &'d [Path],
@@ -86,7 +27,96 @@ fn boxed<'d>(
     requires { (k : ℕ) → length paths.now ≤ k → times k (plan_tree plan.now) ≡ 0 }
     ensures { IfOk result (λ c. core c.value ≡ sourced (map path_of paths.now) vars.now (plan_tree plan.now)) }
 {
-    let cell = plan_cell(alloc, plan, paths, vars)?;
+    match plan {
+        Plan::Path(number) => single(alloc, *number, paths, vars),
+        Plan::Outer(number, below) => {
+            let below = plan_cell(alloc, below, paths, vars)?;
+            nested(alloc, Join::Outer, *number, below, paths, vars)
+        }
+        Plan::Inner(number, below) => {
+            let below = plan_cell(alloc, below, paths, vars)?;
+            nested(alloc, Join::Inner, *number, below, paths, vars)
+        }
+        Plan::Union(left, right) => {
+            let left = plan_cell(alloc, left, paths, vars)?;
+            let right = plan_cell(alloc, right, paths, vars)?;
+            union(alloc, left, right)
+        }
+        Plan::Cross(left, right) => {
+            let left = plan_cell(alloc, left, paths, vars)?;
+            let right = plan_cell(alloc, right, paths, vars)?;
+            cross(alloc, left, right)
+        }
+    }
+}
+
+// A path alone.
+#[inline(never)]
+fn single<'d>(
+    alloc: Global,
+    number: u32,
+    paths: &'d [Path],
+    vars: &'d Vars,
+) -> Result<Box<Cell<'d>>, Memory>
+    requires { number < length paths.now }
+    ensures { IfOk result (λ c. core c.value ≡ single_of (source (map path_of paths.now) vars.now number)) }
+{
+    let path = path_cell(alloc, number, paths, vars)?;
+    Ok(Box::new(alloc, Cell::Single(path))?)
+}
+
+// A path with the plan below it.
+#[inline(never)]
+fn nested<'d>(
+    alloc: Global,
+    join: Join,
+    number: u32,
+    below: Box<Cell<'d>>,
+    paths: &'d [Path],
+    vars: &'d Vars,
+) -> Result<Box<Cell<'d>>, Memory>
+    requires { number < length paths.now }
+    ensures { IfOk result (λ c. core c.value ≡ nested_of join (source (map path_of paths.now) vars.now number) (core below.entry.value)) }
+{
+    let parent = path_cell(alloc, number, paths, vars)?;
+    let cell = Cell::Nested(Nested {
+        join,
+        parent,
+        below,
+        at: At::Nothing,
+    });
+    Ok(Box::new(alloc, cell)?)
+}
+
+#[inline(never)]
+fn union<'d>(
+    alloc: Global,
+    left: Box<Cell<'d>>,
+    right: Box<Cell<'d>>,
+) -> Result<Box<Cell<'d>>, Memory>
+    ensures { IfOk result (λ c. core c.value ≡ union_of (core left.entry.value) (core right.entry.value)) }
+{
+    let cell = Cell::Union(Union {
+        left,
+        right,
+        side: Side::Left,
+    });
+    Ok(Box::new(alloc, cell)?)
+}
+
+#[inline(never)]
+fn cross<'d>(
+    alloc: Global,
+    left: Box<Cell<'d>>,
+    right: Box<Cell<'d>>,
+) -> Result<Box<Cell<'d>>, Memory>
+    ensures { IfOk result (λ c. core c.value ≡ cross_of (core left.entry.value) (core right.entry.value)) }
+{
+    let cell = Cell::Cross(Cross {
+        left,
+        right,
+        hand: Hand::Empty,
+    });
     Ok(Box::new(alloc, cell)?)
 }
 

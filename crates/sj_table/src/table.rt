@@ -24,7 +24,7 @@ pub struct TableCursor<'d> {
     vars: &'d Vars,
     on_error: TableAction,
     root: Item<'d>,
-    cell: Cell<'d>,
+    cell: Box<Cell<'d>>,
     // what was answered last
     answered: Option<RowPull>,
 }
@@ -57,9 +57,9 @@ impl<'d> Model for TableCursor<'d> {
     ghost use Rattle.sj_table.specs.Cells.{core, rows_left, rows_due, row_of, answered_left, answered_row, answered_due};
     ghost use Rattle.sj_table.specs.Rows.{sourced};
 
-    ghost view = { λ t. record { plan = t.plan.now; paths = t.paths.now; vars = t.vars.now; on_error = t.on_error; left = answered_left t.answered (rows_left t.on_error t.cell (item_value t.root)); given = answered_row t.answered (row_of t.cell); due = answered_due t.answered (rows_due t.on_error t.cell (item_value t.root)) } };
+    ghost view = { λ t. record { plan = t.plan.now; paths = t.paths.now; vars = t.vars.now; on_error = t.on_error; left = answered_left t.answered (rows_left t.on_error t.cell.value (item_value t.root)); given = answered_row t.answered (row_of t.cell.value); due = answered_due t.answered (rows_due t.on_error t.cell.value (item_value t.root)) } };
 
-    ghost invariant = { λ t. core t.cell ≡ sourced (map path_of t.paths.now) t.vars.now (plan_tree t.plan.now) };
+    ghost invariant = { λ t. core t.cell.value ≡ sourced (map path_of t.paths.now) t.vars.now (plan_tree t.plan.now) };
 }
 
 impl<'d> TableCursor<'d> {
