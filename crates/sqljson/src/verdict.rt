@@ -1,49 +1,70 @@
-// What is made of a file of statements.
+// What is made of a file of statements, which are read and bound one after the other.
 ghost use Rattle.std.specs.Prelude.{◌≡◌, ◌<◌, ◌≤◌, ◌^◌, length, map, IfOk, IfErr};
-ghost use Rattle.sj_sql.specs.View.{statement_of};
-ghost use Rattle.sj_bind.specs.Sound.{IsBindable};
 ghost use Rattle.sj_bind.specs.View.{bound_of};
 ghost use Rattle.sqljson.specs.File.{max_file};
 ghost use Rattle.sqljson.specs.Job.{AreSound};
-ghost use Rattle.sqljson.specs.Verdict.{answer, Accepts};
-ghost use Rattle.sqljson.specs.Refusals.{IsRefused, IsAnswered, refusal_of};
+ghost use Rattle.sqljson.specs.Verdict.{Accepts};
+ghost use Rattle.sqljson.specs.Refusals.{AcceptsSoMany, IsNextBound, IsReadable, IsRefused, refusal_of};
 
 use crate::job::FileRefusal;
+use sj_base::Memory;
 use sj_bind::{BindRefusal, Bound, bind};
-use sj_sql::{FileKind, Statement as Tree, parse_file};
+use sj_sql::{FileKind, NextStatement, Refused, next_statement};
 use std::alloc::Global;
 
-/// Why a statement that has a tree is not taken.
-#[derive(Clone, Copy)]
-pub(crate) enum Untaken {
-    /// It is refused for this reason.
-    For(FileKind),
-    /// Memory ran out. It says nothing of the statement.
-    Memory,
+/// What is left of a file begins with.
+#[derive(Drop)]
+enum NextBound<'a> {
+    /// A statement, and what is behind it.
+    Statement(Bound, &'a [u8]),
+    /// Nothing: the file ends.
+    End,
 }
 
-impl Untaken {
-    /// The refusal of the file whose statement of this number it is.
-    fn of_statement(self, number: u32) -> FileRefusal
-        ensures { result ≡ refusal_of number self }
-    {
-        match self {
-            Untaken::For(kind) => FileRefusal::Refused(number, kind),
-            Untaken::Memory => FileRefusal::Memory,
+/// The refusal of a file whose statement of this number is refused.
+fn refusal_of(number: u32, refused: Refused) -> FileRefusal
+    ensures { result ≡ refusal_of number refused }
+{
+    match refused {
+        Refused::For(kind) => FileRefusal::Refused(number, kind),
+        Refused::Memory => FileRefusal::Memory,
+    }
+}
+
+/// Reads what is left of a file, up to a statement that has no tree, and keeps nothing of it.
+fn read_on(alloc: Global, rest: &[u8]) -> Result<(), Memory>
+    ensures { IfOk result (λ _. IsReadable rest.now) }
+{
+    let mut left = rest;
+    loop {
+        match next_statement(alloc, left) {
+            Ok(NextStatement::Statement(statement, behind)) => {
+                drop(statement);
+                left = behind;
+            }
+            Ok(NextStatement::End) => return Ok(()),
+            Err(Refused::For(_)) => return Ok(()),
+            Err(Refused::Memory) => return Err(Memory),
         }
     }
 }
 
-/// A statement as it is bound.
-#[tactic(auto, using(crate::proofs::Taken::taken, crate::proofs::Taken::refused))]
-fn bound(alloc: Global, statement: Tree) -> Result<Bound, Untaken>
-    requires { IsBindable (statement_of statement) }
-    ensures { IsAnswered (answer (statement_of statement)) result }
+/// The first statement of what is left of a file as it is bound, where it has this number. Where binding refuses it, what is
+/// behind it is read too, since the verdict on a file speaks of all statements that have trees.
+fn next_bound<'a>(alloc: Global, rest: &'a [u8], number: u32) -> Result<NextBound<'a>, FileRefusal>
+    ensures { IsNextBound number rest.now result }
 {
-    match bind(alloc, statement) {
-        Ok(bound) => Ok(bound),
-        Err(BindRefusal::Kind(why)) => Err(Untaken::For(FileKind::Bind(why))),
-        Err(BindRefusal::Memory) => Err(Untaken::Memory),
+    match next_statement(alloc, rest) {
+        Ok(NextStatement::Statement(statement, behind)) => match bind(alloc, statement) {
+            Ok(bound) => Ok(NextBound::Statement(bound, behind)),
+            Err(BindRefusal::Kind(why)) => match read_on(alloc, behind) {
+                Ok(()) => Err(FileRefusal::Refused(number, FileKind::Bind(why))),
+                Err(Memory) => Err(FileRefusal::Memory),
+            },
+            Err(BindRefusal::Memory) => Err(FileRefusal::Memory),
+        },
+        Ok(NextStatement::End) => Ok(NextBound::End),
+        Err(refused) => Err(refusal_of(number, refused)),
     }
 }
 
@@ -55,25 +76,42 @@ pub(crate) fn statements_of(alloc: Global, file: &[u8]) -> Result<Vec<Bound>, Fi
     ensures sound { IfOk result (λ statements. AreSound statements.items) }
     ensures refused { IfErr result (λ refusal. IsRefused file.now refusal) }
 {
-    let Ok(mut script) = parse_file(alloc, file) else {
-        return Err(FileRefusal::Memory);
-    };
-    let count = script.statements.len();
     let mut statements = Vec::new(alloc);
-    let mut number: u32 = 0;
-    while let Some(statement) = script.statements.take_first() {
-        number += 1;
-        let bound = match bound(alloc, statement) {
-            Ok(bound) => bound,
-            Err(untaken) => return Err(untaken.of_statement(number)),
-        };
-        match statements.push(bound) {
-            Ok(()) => {}
-            Err(_) => return Err(FileRefusal::Memory),
+    let mut rest = file;
+    let mut number: u32 = 1;
+    loop {
+        match next_bound(alloc, rest, number) {
+            Ok(NextBound::Statement(bound, behind)) => {
+                match statements.push(bound) {
+                    Ok(()) => {}
+                    Err(_) => return Err(FileRefusal::Memory),
+                }
+                number += 1;
+                rest = behind;
+            }
+            Ok(NextBound::End) => return Ok(statements),
+            Err(refusal) => return Err(refusal),
         }
     }
-    match script.fault {
-        Some(fault) => Err(FileRefusal::Refused(fault.statement, fault.kind)),
-        None => Ok(statements),
+}
+
+/// How many statements a file has, or why it is refused. Each statement is given up before the next is read.
+pub(crate) fn count_of(alloc: Global, file: &[u8]) -> Result<u32, FileRefusal>
+    requires { length file.now ≤ max_file }
+    ensures accepted { IfOk result (λ count. AcceptsSoMany file.now count) }
+    ensures refused { IfErr result (λ refusal. IsRefused file.now refusal) }
+{
+    let mut rest = file;
+    let mut count: u32 = 0;
+    loop {
+        match next_bound(alloc, rest, count + 1) {
+            Ok(NextBound::Statement(bound, behind)) => {
+                drop(bound);
+                count += 1;
+                rest = behind;
+            }
+            Ok(NextBound::End) => return Ok(count),
+            Err(refusal) => return Err(refusal),
+        }
     }
 }
