@@ -10,7 +10,7 @@ use sj_bind::{BindRefusal, Bound, bind};
 use sj_doc::Doc;
 use sj_read::read;
 use sj_select::{LineDoc, RowsOf, Turn};
-use sj_sql::parse_file;
+use sj_sql::{NextStatement, Refused, next_statement};
 use std::alloc::Global;
 use std::process::Abort;
 use std::test::Fail;
@@ -19,19 +19,15 @@ use std::test::Fail;
 fn bound(alloc: Global, text: &str) -> Result<Bound, Fail>
     ensures { IfOk result (λ b. IsSound (bound_of b)) }
 {
-    if text.len() > 1_048_576 {
-        return Err(Fail::from("too long"));
-    }
-    let Ok(mut script) = parse_file(alloc, text.as_bytes()) else {
-        return Err(Fail::from("memory"));
-    };
-    let Some(statement) = script.statements.take_first() else {
-        return Err(Fail::from("no statement"));
-    };
-    match bind(alloc, statement) {
-        Ok(bound) => Ok(bound),
-        Err(BindRefusal::Kind(_)) => Err(Fail::from("refused")),
-        Err(BindRefusal::Memory) => Err(Fail::from("memory")),
+    match next_statement(alloc, text.as_bytes()) {
+        Ok(NextStatement::Statement(statement, _)) => match bind(alloc, statement) {
+            Ok(bound) => Ok(bound),
+            Err(BindRefusal::Kind(_)) => Err(Fail::from("refused")),
+            Err(BindRefusal::Memory) => Err(Fail::from("memory")),
+        },
+        Ok(NextStatement::End) => Err(Fail::from("no statement")),
+        Err(Refused::For(_)) => Err(Fail::from("refused")),
+        Err(Refused::Memory) => Err(Fail::from("memory")),
     }
 }
 

@@ -5,7 +5,7 @@ mod tables;
 use super::cases::expect;
 use sj_bind::{BindRefusal, Bound, BoundColumn, BoundTable, bind};
 use sj_path::nodes;
-use sj_sql::parse_file;
+use sj_sql::{NextStatement, Refused, next_statement};
 use sj_value::Plan;
 use std::alloc::{AllocError, Global};
 use std::process::Abort;
@@ -14,19 +14,15 @@ use tables::TABLES;
 
 /// The statement of a file that has one and is accepted.
 fn bound(alloc: Global, file: &str) -> Result<Bound, Fail> {
-    if file.len() > 1_048_576 {
-        return Err(Fail::from("too long"));
-    }
-    let Ok(mut script) = parse_file(alloc, file.as_bytes()) else {
-        return Err(Fail::from("memory"));
-    };
-    let Some(statement) = script.statements.take_first() else {
-        return Err(Fail::from("no statement"));
-    };
-    match bind(alloc, statement) {
-        Ok(bound) => Ok(bound),
-        Err(BindRefusal::Kind(_)) => Err(Fail::from("refused")),
-        Err(BindRefusal::Memory) => Err(Fail::from("memory")),
+    match next_statement(alloc, file.as_bytes()) {
+        Ok(NextStatement::Statement(statement, _)) => match bind(alloc, statement) {
+            Ok(bound) => Ok(bound),
+            Err(BindRefusal::Kind(_)) => Err(Fail::from("refused")),
+            Err(BindRefusal::Memory) => Err(Fail::from("memory")),
+        },
+        Ok(NextStatement::End) => Err(Fail::from("no statement")),
+        Err(Refused::For(_)) => Err(Fail::from("refused")),
+        Err(Refused::Memory) => Err(Fail::from("memory")),
     }
 }
 

@@ -5,7 +5,9 @@ mod spellings;
 mod trees;
 
 use sj_path::Literal;
-use sj_sql::{SMembers, SValue, SValues, Seq, Statement, parse_file};
+use sj_sql::{
+    FileKind, NextStatement, Refused, SMembers, SValue, SValues, Seq, Statement, next_statement,
+};
 use std::alloc::Global;
 use std::test::Fail;
 
@@ -50,13 +52,15 @@ fn sequences(rt: HostRuntime) -> Result<(), Fail> {
 #[test]
 fn statements_are_taken_in_their_order(rt: HostRuntime) -> Result<(), Fail> {
     let file = "SELECT 1; SELECT * FROM JSON_TABLE(doc, '$' COLUMNS (a INT)); SELECT a";
-    let mut script = parse_file(rt.alloc(), file.as_bytes()).map_err(|_| "memory")?;
-    assert_eq!(rt; script.statements.len(), 2);
-    assert!(rt; matches!(script.statements.get(1), Some(Statement::All(_))));
-    assert!(rt; script.statements.get(2).is_none());
-    assert!(rt; matches!(script.statements.take_first(), Some(Statement::Plain(_))));
-    assert_eq!(rt; script.statements.len(), 1);
-    assert!(rt; matches!(script.statements.take_first(), Some(Statement::All(_))));
-    assert!(rt; script.statements.take_first().is_none());
+    let first = next_statement(rt.alloc(), file.as_bytes());
+    let Ok(NextStatement::Statement(Statement::Plain(_), behind)) = first else {
+        return Err(Fail::from("another statement is the first"));
+    };
+    let second = next_statement(rt.alloc(), behind);
+    let Ok(NextStatement::Statement(Statement::All(_), behind)) = second else {
+        return Err(Fail::from("another statement is the second"));
+    };
+    let third = next_statement(rt.alloc(), behind);
+    assert!(rt; matches!(third, Err(Refused::For(FileKind::Syntax))));
     Ok(())
 }

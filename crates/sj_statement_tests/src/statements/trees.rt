@@ -3,20 +3,22 @@
 use super::super::cases::expect;
 use super::same::same_statement;
 use super::spellings::SPELLINGS;
-use sj_sql::{Statement, parse_file};
+use sj_sql::{NextStatement, Refused, Statement, next_statement};
 use std::alloc::Global;
 use std::test::Fail;
 
 /// The statement of a file that has one and is accepted.
 fn statement_of(alloc: Global, file: &str) -> Result<Option<Statement>, Fail> {
-    if file.len() > 1_048_576 {
-        return Ok(None);
+    let (statement, behind) = match next_statement(alloc, file.as_bytes()) {
+        Ok(NextStatement::Statement(statement, behind)) => (statement, behind),
+        Ok(NextStatement::End) | Err(Refused::For(_)) => return Ok(None),
+        Err(Refused::Memory) => return Err(Fail::from("memory")),
+    };
+    match next_statement(alloc, behind) {
+        Ok(NextStatement::End) => Ok(Some(statement)),
+        Ok(NextStatement::Statement(_, _)) | Err(Refused::For(_)) => Ok(None),
+        Err(Refused::Memory) => Err(Fail::from("memory")),
     }
-    let mut script = parse_file(alloc, file.as_bytes()).map_err(|_| "memory")?;
-    if script.statements.len() != 1 || script.fault.is_some() {
-        return Ok(None);
-    }
-    Ok(script.statements.take_first())
 }
 
 /// `=` where two files of one statement have one tree, and `!` where they do not. There is no other answer where one of
