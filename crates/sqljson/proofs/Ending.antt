@@ -22,6 +22,7 @@ use Rattle.sqljson.specs.Verdict.{Accepts, Refuses}
 use Rattle.sqljson.specs.Summary.{summary_text}
 use Rattle.sqljson.specs.Ran.{Moment, Accepted, RefusedFile, IsUnaccepted, accepted_text, Tells, RanGenerated, Does, Idle, Did, Ran, IsBefore}
 use Rattle.sqljson.specs.Conditions.{IfRuns, IfChecks, IfGenerates, IfNames, IfAccepted, IsOrMemory}
+use Rattle.sqljson.proofs.Steps.{raised_none}
 use Rattle.sqljson.proofs.Streaming.{whole_output-append, output-end, prefix_trans, consumes_none, told, streamed_front}
 use Rattle.sqljson.proofs.Verdicts.{one_accepted, not_both, one_refusal}
 
@@ -243,7 +244,7 @@ ran_least f b a status r =
     (λ d. streamed_least (job keys K) b.input a.input b.out (record { out = a.out; page = d.0 }) status d.1))
 
 idle_within : (K : Job) (i i' : InputSide) → i' ≡ i → StepsWithin K i i'
-idle_within K i i' same = subst (λ (p : InputSide). StepsWithin K i p) (sym same) (record { bytes = []; consumed = consumes_none i.left; costs = omega arith })
+idle_within K i i' same = subst (λ (p : InputSide). StepsWithin K i p) (sym same) (record { bytes = []; consumed = consumes_none i.left; costs = raised_none i.steps (allowed K []) })
 
 -- however a run ended, its steps are within what the lines of the bytes taken allow
 pub ran_within : (f : Option Form) (b a : Moment) (status : Status) → Ran f b a status
@@ -385,7 +386,7 @@ ran_generated_completes f b a status r shelf out =
     (λ idle. inr (only_memory name b.shelf a.shelf status file K shown accepts short shelf idle.why)) (λ d. tells_complete (summary_text number K) b.out a.out status out d.1))
 
 idle_steps : (i i' : InputSide) (n : ℕ) → i' ≡ i → i'.steps ≤ raised i.steps n
-idle_steps i i' n same = omega (arith, ap (λ (p : InputSide). p.steps) same)
+idle_steps i i' n same = subst (λ (p : InputSide). p.steps ≤ raised i.steps n) (sym same) (raised_none i.steps n)
 
 pub ran_generated_within : (f : Option Form) (b a : Moment) (status : Status) → Ran f b a status
     → IfSome (file_shown b.shelf.files (file_generated f)) (λ file. (K : List Bound) → Accepts file K → a.input.steps ≤ raised b.input.steps (allowed (job Any K) (generated (lines_generated f))))
