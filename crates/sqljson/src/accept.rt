@@ -1,8 +1,8 @@
 // The statements of the file that the words name.
-ghost use Rattle.std.specs.Prelude.{◌<◌, ◌^◌, length, map, IfOk, MatchResult};
+ghost use Rattle.std.specs.Prelude.{◌<◌, length, map, IfOk, MatchResult};
 ghost use Rattle.sj_bind.specs.View.{bound_of};
 ghost use Rattle.sqljson.specs.File.{shelf_at};
-ghost use Rattle.sqljson.specs.Job.{AreSound};
+ghost use Rattle.sqljson.specs.Job.{AreSound, statement_limit};
 ghost use Rattle.sqljson.specs.Ran.{Accepted, IsUnaccepted};
 
 use crate::file::load;
@@ -22,7 +22,7 @@ pub(crate) fn accept<H: Shelf>(
     ensures file { let old = shelf_at H.Shelf shelf.old in
         let new = shelf_at H.Shelf shelf.new in
         MatchResult result (λ statements. Accepted name.now old new (map bound_of statements.items)) (λ status. IsUnaccepted name.now old new status) }
-    ensures few { IfOk result (λ statements. length statements.items < 2 ^ 32) }
+    ensures few { IfOk result (λ statements. length statements.items < statement_limit) }
     ensures sound { IfOk result (λ statements. AreSound statements.items) }
 {
     let file = match load(alloc, name, shelf) {
