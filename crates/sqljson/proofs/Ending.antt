@@ -128,21 +128,21 @@ not_before (generating number name) K i i' o o' status d is = tells_not_before (
 -- ---- by the form
 
 for_run : (f : Option Form) (files : Option Files) (P : Keys → List ℕ → Type 0) → ((keys : Keys) (name file : List ℕ) → f ≡ Some (running keys name) → file_shown files (Some name) ≡ Some file → P keys file)
-    → IfSome (file_shown files (file_run f)) (λ file. P (keys_run f) file)
+    → IfRuns f files P
 for_run None files P h = by_some (file_shown files None) _ (λ file shown. absurd (no_name files file shown))
 for_run (Some (running keys name)) files P h = by_some (file_shown files (Some name)) _ (λ file shown. h keys name file refl shown)
 for_run (Some (checking name)) files P h = by_some (file_shown files None) _ (λ file shown. absurd (no_name files file shown))
 for_run (Some (generating number name)) files P h = by_some (file_shown files None) _ (λ file shown. absurd (no_name files file shown))
 
 for_check : (f : Option Form) (files : Option Files) (P : List ℕ → Type 0) → ((name file : List ℕ) → f ≡ Some (checking name) → file_shown files (Some name) ≡ Some file → P file)
-    → IfSome (file_shown files (file_checked f)) P
+    → IfChecks f files P
 for_check None files P h = by_some (file_shown files None) _ (λ file shown. absurd (no_name files file shown))
 for_check (Some (running keys name)) files P h = by_some (file_shown files None) _ (λ file shown. absurd (no_name files file shown))
 for_check (Some (checking name)) files P h = by_some (file_shown files (Some name)) _ (λ file shown. h name file refl shown)
 for_check (Some (generating number name)) files P h = by_some (file_shown files None) _ (λ file shown. absurd (no_name files file shown))
 
 for_generated : (f : Option Form) (files : Option Files) (P : ℕ → List ℕ → Type 0) → ((number : ℕ) (name file : List ℕ) → f ≡ Some (generating number name) → file_shown files (Some name) ≡ Some file → P number file)
-    → IfSome (file_shown files (file_generated f)) (λ file. P (lines_generated f) file)
+    → IfGenerates f files P
 for_generated None files P h = by_some (file_shown files None) _ (λ file shown. absurd (no_name files file shown))
 for_generated (Some (running keys name)) files P h = by_some (file_shown files None) _ (λ file shown. absurd (no_name files file shown))
 for_generated (Some (checking name)) files P h = by_some (file_shown files None) _ (λ file shown. absurd (no_name files file shown))
@@ -154,6 +154,33 @@ either : (f : Form) (b a : Moment) (status : Status) (file : List ℕ) (K : List
 either f b a status file K Q shown accepts (inl idle) h g = h idle
 either f b a status file K Q shown accepts (inr d) h g = g (does_with f b a status file K shown accepts d)
 
+-- What holds where no file was accepted, and where its statements were run, holds of a run. So for the other two forms.
+on_run : (f : Option Form) (b a : Moment) (status : Status) (P : Keys → List Bound → Type 0) → Ran f b a status
+    → ((keys : Keys) (K : List Bound) (name : List ℕ) → Idle name b a status → P keys K)
+    → ((keys : Keys) (K : List Bound) (page : PageSeen) → Streamed (job keys K) b.input a.input b.out (record { out = a.out; page = page }) status → P keys K)
+    → IfRuns f b.shelf.files (λ keys file. IfAccepted file (P keys))
+on_run f b a status P r idle ran =
+    for_run f b.shelf.files (λ keys file. IfAccepted file (P keys))
+    (λ keys name file is shown K accepts.
+    either (running keys name) b a status file K (P keys K) shown accepts (subst (λ (x : Option Form). Ran x b a status) is r) (idle keys K name) (λ d. ran keys K d.0 d.1))
+
+on_check : (f : Option Form) (b a : Moment) (status : Status) (P : List Bound → Type 0) → Ran f b a status
+    → ((K : List Bound) (name : List ℕ) → Idle name b a status → P K) → ((K : List Bound) → Tells (accepted_text K) b.out a.out status → P K)
+    → IfChecks f b.shelf.files (λ file. IfAccepted file P)
+on_check f b a status P r idle told =
+    for_check f b.shelf.files (λ file. IfAccepted file P)
+    (λ name file is shown K accepts.
+    either (checking name) b a status file K (P K) shown accepts (subst (λ (x : Option Form). Ran x b a status) is r) (idle K name) (λ d. told K d.1))
+
+on_generated : (f : Option Form) (b a : Moment) (status : Status) (P : ℕ → List Bound → Type 0) → Ran f b a status
+    → ((number : ℕ) (K : List Bound) (name : List ℕ) → Idle name b a status → P number K)
+    → ((number : ℕ) (K : List Bound) → RanGenerated number K b.input a.input → Tells (summary_text number K) b.out a.out status → P number K)
+    → IfGenerates f b.shelf.files (λ number file. IfAccepted file (P number))
+on_generated f b a status P r idle told =
+    for_generated f b.shelf.files (λ number file. IfAccepted file (P number))
+    (λ number name file is shown K accepts.
+    either (generating number name) b a status file K (P number K) shown accepts (subst (λ (x : Option Form). Ran x b a status) is r) (idle number K name) (λ d. told number K d.0 d.1))
+
 -- ---- runs over the input
 
 pub all_taken : (left left' : Option (List ℕ)) (all bytes : List ℕ) → left ≡ Some all → Consumes left left' bytes → IsAtEnd left' → bytes ≡ all
@@ -164,27 +191,23 @@ all_taken left left' all bytes is took end =
 
 -- what a run that is Done has written
 pub ran_headline : (f : Option Form) (b a : Moment) (status : Status) → Ran f b a status → status ≡ Done
-    → IfSome (file_shown b.shelf.files (file_run f)) (λ file. (K : List Bound) → Accepts file K → IfSome b.input.left (λ all. Grew b.out a.out (output (job (keys_run f) K) all)))
+    → IfRuns f b.shelf.files (λ keys file. IfAccepted file (λ K. IfSome b.input.left (λ all. Grew b.out a.out (output (job keys K) all))))
 ran_headline f b a status r done =
-    for_run f b.shelf.files (λ keys file. (K : List Bound) → Accepts file K → IfSome b.input.left (λ all. Grew b.out a.out (output (job keys K) all)))
-    (λ keys name file is shown K accepts.
-    either (running keys name) b a Done file K _ shown accepts (subst (Ran (Some (running keys name)) b a) done (subst (λ (x : Option Form). Ran x b a status) is r))
-    (λ idle. absurd idle.why)
-    (λ d. by_some b.input.left _ (λ all left.
-    subst (Grew b.out a.out) (d.1.why.0 ∙ ap (output (job keys K)) (all_taken b.input.left a.input.left all d.1.bytes left d.1.consumed d.1.why.1)) d.1.grew)))
+    on_run f b a Done (λ keys K. IfSome b.input.left (λ all. Grew b.out a.out (output (job keys K) all))) (subst (Ran f b a) done r)
+    (λ keys K name idle. absurd idle.why)
+    (λ keys K page s. by_some b.input.left _ (λ all left.
+    subst (Grew b.out a.out) (s.why.0 ∙ ap (output (job keys K)) (all_taken b.input.left a.input.left all s.bytes left s.consumed s.why.1)) s.grew))
 
 idle_front : (whole : List ℕ) (o o' : OutputSide) → o' ≡ o → IsFrontOf whole o o'
 idle_front whole o o' same = record { text = []; grew = subst (λ (p : OutputSide). Grew o p []) (sym same) (grew_none o); front = (whole, refl) }
 
 -- what was written is a front of the output, however the run ended
 pub ran_front : (f : Option Form) (b a : Moment) (status : Status) → Ran f b a status
-    → IfSome (file_shown b.shelf.files (file_run f)) (λ file. (K : List Bound) → Accepts file K → IfSome b.input.left (λ all. IsFrontOf (output (job (keys_run f) K) all) b.out a.out))
+    → IfRuns f b.shelf.files (λ keys file. IfAccepted file (λ K. IfSome b.input.left (λ all. IsFrontOf (output (job keys K) all) b.out a.out)))
 ran_front f b a status r =
-    for_run f b.shelf.files (λ keys file. (K : List Bound) → Accepts file K → IfSome b.input.left (λ all. IsFrontOf (output (job keys K) all) b.out a.out))
-    (λ keys name file is shown K accepts. by_some b.input.left _ (λ all left.
-    either (running keys name) b a status file K _ shown accepts (subst (λ (x : Option Form). Ran x b a status) is r)
-    (λ idle. idle_front (output (job keys K) all) b.out a.out idle.out)
-    (λ d. streamed_front (job keys K) b.input a.input b.out (record { out = a.out; page = d.0 }) status all d.1 left)))
+    on_run f b a status (λ keys K. IfSome b.input.left (λ all. IsFrontOf (output (job keys K) all) b.out a.out)) r
+    (λ keys K name idle. by_some b.input.left _ (λ all left. idle_front (output (job keys K) all) b.out a.out idle.out))
+    (λ keys K page s. by_some b.input.left _ (λ all left. streamed_front (job keys K) b.input a.input b.out (record { out = a.out; page = page }) status all s left))
 
 -- the texts of the whole lines of a front go in front of those of all
 front_whole : (K : Job) (h : List ℕ) (m : ℕ) → IsPrefix (whole_output K (take m h)) (whole_output K h)
@@ -235,45 +258,37 @@ idle_least K i i' o o' input out = record {
 
 -- however a run ended, it had written the lines whose LF stands before the last piece of the bytes taken
 pub ran_least : (f : Option Form) (b a : Moment) (status : Status) → Ran f b a status
-    → IfSome (file_shown b.shelf.files (file_run f)) (λ file. (K : List Bound) → Accepts file K → WroteLeast (job (keys_run f) K) b.input a.input b.out a.out)
+    → IfRuns f b.shelf.files (λ keys file. IfAccepted file (λ K. WroteLeast (job keys K) b.input a.input b.out a.out))
 ran_least f b a status r =
-    for_run f b.shelf.files (λ keys file. (K : List Bound) → Accepts file K → WroteLeast (job keys K) b.input a.input b.out a.out)
-    (λ keys name file is shown K accepts.
-    either (running keys name) b a status file K _ shown accepts (subst (λ (x : Option Form). Ran x b a status) is r)
-    (λ idle. idle_least (job keys K) b.input a.input b.out a.out idle.input idle.out)
-    (λ d. streamed_least (job keys K) b.input a.input b.out (record { out = a.out; page = d.0 }) status d.1))
+    on_run f b a status (λ keys K. WroteLeast (job keys K) b.input a.input b.out a.out) r
+    (λ keys K name idle. idle_least (job keys K) b.input a.input b.out a.out idle.input idle.out)
+    (λ keys K page s. streamed_least (job keys K) b.input a.input b.out (record { out = a.out; page = page }) status s)
 
 idle_within : (K : Job) (i i' : InputSide) → i' ≡ i → StepsWithin K i i'
 idle_within K i i' same = subst (λ (p : InputSide). StepsWithin K i p) (sym same) (record { bytes = []; consumed = consumes_none i.left; costs = raised_none i.steps (allowed K []) })
 
 -- however a run ended, its steps are within what the lines of the bytes taken allow
 pub ran_within : (f : Option Form) (b a : Moment) (status : Status) → Ran f b a status
-    → IfSome (file_shown b.shelf.files (file_run f)) (λ file. (K : List Bound) → Accepts file K → StepsWithin (job (keys_run f) K) b.input a.input)
+    → IfRuns f b.shelf.files (λ keys file. IfAccepted file (λ K. StepsWithin (job keys K) b.input a.input))
 ran_within f b a status r =
-    for_run f b.shelf.files (λ keys file. (K : List Bound) → Accepts file K → StepsWithin (job keys K) b.input a.input)
-    (λ keys name file is shown K accepts.
-    either (running keys name) b a status file K _ shown accepts (subst (λ (x : Option Form). Ran x b a status) is r)
-    (λ idle. idle_within (job keys K) b.input a.input idle.input)
-    (λ d. record { bytes = d.1.bytes; consumed = d.1.consumed; costs = d.1.costs }))
+    on_run f b a status (λ keys K. StepsWithin (job keys K) b.input a.input) r
+    (λ keys K name idle. idle_within (job keys K) b.input a.input idle.input)
+    (λ keys K page s. record { bytes = s.bytes; consumed = s.consumed; costs = s.costs })
 
 -- whole lines alone
 pub ran_read_fault : (f : Option Form) (b a : Moment) (status : Status) → Ran f b a status → status ≡ ReadFault
-    → IfSome (file_shown b.shelf.files (file_run f)) (λ file. (K : List Bound) → Accepts file K → WroteWhole (job (keys_run f) K) b.input a.input b.out a.out)
+    → IfRuns f b.shelf.files (λ keys file. IfAccepted file (λ K. WroteWhole (job keys K) b.input a.input b.out a.out))
 ran_read_fault f b a status r so =
-    for_run f b.shelf.files (λ keys file. (K : List Bound) → Accepts file K → WroteWhole (job keys K) b.input a.input b.out a.out)
-    (λ keys name file is shown K accepts.
-    either (running keys name) b a ReadFault file K _ shown accepts (subst (Ran (Some (running keys name)) b a) so (subst (λ (x : Option Form). Ran x b a status) is r))
-    (λ idle. absurd idle.why)
-    (λ d. record { bytes = d.1.bytes; consumed = d.1.consumed; grew = subst (Grew b.out a.out) d.1.why.0 d.1.grew }))
+    on_run f b a ReadFault (λ keys K. WroteWhole (job keys K) b.input a.input b.out a.out) (subst (Ran f b a) so r)
+    (λ keys K name idle. absurd idle.why)
+    (λ keys K page s. record { bytes = s.bytes; consumed = s.consumed; grew = subst (Grew b.out a.out) s.why.0 s.grew })
 
 pub ran_limit : (f : Option Form) (b a : Moment) (status : Status) → Ran f b a status → status ≡ InputLimit
-    → IfSome (file_shown b.shelf.files (file_run f)) (λ file. (K : List Bound) → Accepts file K → WroteWhole (job (keys_run f) K) b.input a.input b.out a.out)
+    → IfRuns f b.shelf.files (λ keys file. IfAccepted file (λ K. WroteWhole (job keys K) b.input a.input b.out a.out))
 ran_limit f b a status r so =
-    for_run f b.shelf.files (λ keys file. (K : List Bound) → Accepts file K → WroteWhole (job keys K) b.input a.input b.out a.out)
-    (λ keys name file is shown K accepts.
-    either (running keys name) b a InputLimit file K _ shown accepts (subst (Ran (Some (running keys name)) b a) so (subst (λ (x : Option Form). Ran x b a status) is r))
-    (λ idle. absurd idle.why)
-    (λ d. record { bytes = d.1.bytes; consumed = d.1.consumed; grew = subst (Grew b.out a.out) d.1.why.0 d.1.grew }))
+    on_run f b a InputLimit (λ keys K. WroteWhole (job keys K) b.input a.input b.out a.out) (subst (Ran f b a) so r)
+    (λ keys K name idle. absurd idle.why)
+    (λ keys K page s. record { bytes = s.bytes; consumed = s.consumed; grew = subst (Grew b.out a.out) s.why.0 s.grew })
 
 pub ran_to_end : (f : Option Form) (b a : Moment) (status : Status) → Ran f b a status → status ≡ Done → IfSome (file_run f) (λ _. IsAtEnd a.input.left)
 ran_to_end None b a status r so = tt
@@ -305,9 +320,9 @@ streamed_complete K i i' o o' (Refused k kind) all left fits read out s = absurd
 
 pub ran_completes : (f : Option Form) (b a : Moment) (status : Status) → Ran f b a status
     → (Rose b.shelf.faults a.shelf.faults → ⊥) → (Rose b.input.faults a.input.faults → ⊥) → (Rose b.out.faults a.out.faults → ⊥)
-    → IfSome (file_shown b.shelf.files (file_run f)) (λ file. length file ≤ max_file → (K : List Bound) → Accepts file K → IfSome b.input.left (λ all. length all < max_input → IsOrMemory status Done))
+    → IfRuns f b.shelf.files (λ keys file. length file ≤ max_file → IfAccepted file (λ K. IfSome b.input.left (λ all. length all < max_input → IsOrMemory status Done)))
 ran_completes f b a status r shelf read out =
-    for_run f b.shelf.files (λ keys file. length file ≤ max_file → (K : List Bound) → Accepts file K → IfSome b.input.left (λ all. length all < max_input → IsOrMemory status Done))
+    for_run f b.shelf.files (λ keys file. length file ≤ max_file → IfAccepted file (λ K. IfSome b.input.left (λ all. length all < max_input → IsOrMemory status Done)))
     (λ keys name file is shown short K accepts. by_some b.input.left _ (λ all left fits.
     either (running keys name) b a status file K _ shown accepts (subst (λ (x : Option Form). Ran x b a status) is r)
     (λ idle. inr (only_memory name b.shelf a.shelf status file K shown accepts short shelf idle.why))
@@ -338,24 +353,20 @@ tells_front text o o' (Refused k kind) t = absurd t
 -- ---- checks
 
 pub ran_checked : (f : Option Form) (b a : Moment) (status : Status) → Ran f b a status → status ≡ Done
-    → IfSome (file_shown b.shelf.files (file_checked f)) (λ file. (K : List Bound) → Accepts file K → Grew b.out a.out (accepted_text K))
+    → IfChecks f b.shelf.files (λ file. IfAccepted file (λ K. Grew b.out a.out (accepted_text K)))
 ran_checked f b a status r so =
-    for_check f b.shelf.files (λ file. (K : List Bound) → Accepts file K → Grew b.out a.out (accepted_text K))
-    (λ name file is shown K accepts.
-    either (checking name) b a Done file K _ shown accepts (subst (Ran (Some (checking name)) b a) so (subst (λ (x : Option Form). Ran x b a status) is r)) (λ idle. absurd idle.why) (λ d. d.1.0))
+    on_check f b a Done (λ K. Grew b.out a.out (accepted_text K)) (subst (Ran f b a) so r) (λ K name idle. absurd idle.why) (λ K t. t.0)
 
 pub ran_check_front : (f : Option Form) (b a : Moment) (status : Status) → Ran f b a status
-    → IfSome (file_shown b.shelf.files (file_checked f)) (λ file. (K : List Bound) → Accepts file K → IsFrontOf (accepted_text K) b.out a.out)
+    → IfChecks f b.shelf.files (λ file. IfAccepted file (λ K. IsFrontOf (accepted_text K) b.out a.out))
 ran_check_front f b a status r =
-    for_check f b.shelf.files (λ file. (K : List Bound) → Accepts file K → IsFrontOf (accepted_text K) b.out a.out)
-    (λ name file is shown K accepts.
-    either (checking name) b a status file K _ shown accepts (subst (λ (x : Option Form). Ran x b a status) is r)
-    (λ idle. idle_front (accepted_text K) b.out a.out idle.out) (λ d. tells_front (accepted_text K) b.out a.out status d.1))
+    on_check f b a status (λ K. IsFrontOf (accepted_text K) b.out a.out) r
+    (λ K name idle. idle_front (accepted_text K) b.out a.out idle.out) (λ K t. tells_front (accepted_text K) b.out a.out status t)
 
 pub ran_check_completes : (f : Option Form) (b a : Moment) (status : Status) → Ran f b a status → (Rose b.shelf.faults a.shelf.faults → ⊥) → (Rose b.out.faults a.out.faults → ⊥)
-    → IfSome (file_shown b.shelf.files (file_checked f)) (λ file. length file ≤ max_file → (K : List Bound) → Accepts file K → IsOrMemory status Done)
+    → IfChecks f b.shelf.files (λ file. length file ≤ max_file → IfAccepted file (λ K. IsOrMemory status Done))
 ran_check_completes f b a status r shelf out =
-    for_check f b.shelf.files (λ file. length file ≤ max_file → (K : List Bound) → Accepts file K → IsOrMemory status Done)
+    for_check f b.shelf.files (λ file. length file ≤ max_file → IfAccepted file (λ K. IsOrMemory status Done))
     (λ name file is shown short K accepts.
     either (checking name) b a status file K _ shown accepts (subst (λ (x : Option Form). Ran x b a status) is r)
     (λ idle. inr (only_memory name b.shelf a.shelf status file K shown accepts short shelf idle.why)) (λ d. tells_complete (accepted_text K) b.out a.out status out d.1))
@@ -363,24 +374,20 @@ ran_check_completes f b a status r shelf out =
 -- ---- runs over generated lines
 
 pub ran_generated : (f : Option Form) (b a : Moment) (status : Status) → Ran f b a status → status ≡ Done
-    → IfSome (file_shown b.shelf.files (file_generated f)) (λ file. (K : List Bound) → Accepts file K → Grew b.out a.out (summary_text (lines_generated f) K))
+    → IfGenerates f b.shelf.files (λ number file. IfAccepted file (λ K. Grew b.out a.out (summary_text number K)))
 ran_generated f b a status r so =
-    for_generated f b.shelf.files (λ number file. (K : List Bound) → Accepts file K → Grew b.out a.out (summary_text number K))
-    (λ number name file is shown K accepts.
-    either (generating number name) b a Done file K _ shown accepts (subst (Ran (Some (generating number name)) b a) so (subst (λ (x : Option Form). Ran x b a status) is r)) (λ idle. absurd idle.why) (λ d. d.1.0))
+    on_generated f b a Done (λ number K. Grew b.out a.out (summary_text number K)) (subst (Ran f b a) so r) (λ number K name idle. absurd idle.why) (λ number K g t. t.0)
 
 pub ran_generated_front : (f : Option Form) (b a : Moment) (status : Status) → Ran f b a status
-    → IfSome (file_shown b.shelf.files (file_generated f)) (λ file. (K : List Bound) → Accepts file K → IsFrontOf (summary_text (lines_generated f) K) b.out a.out)
+    → IfGenerates f b.shelf.files (λ number file. IfAccepted file (λ K. IsFrontOf (summary_text number K) b.out a.out))
 ran_generated_front f b a status r =
-    for_generated f b.shelf.files (λ number file. (K : List Bound) → Accepts file K → IsFrontOf (summary_text number K) b.out a.out)
-    (λ number name file is shown K accepts.
-    either (generating number name) b a status file K _ shown accepts (subst (λ (x : Option Form). Ran x b a status) is r)
-    (λ idle. idle_front (summary_text number K) b.out a.out idle.out) (λ d. tells_front (summary_text number K) b.out a.out status d.1))
+    on_generated f b a status (λ number K. IsFrontOf (summary_text number K) b.out a.out) r
+    (λ number K name idle. idle_front (summary_text number K) b.out a.out idle.out) (λ number K g t. tells_front (summary_text number K) b.out a.out status t)
 
 pub ran_generated_completes : (f : Option Form) (b a : Moment) (status : Status) → Ran f b a status → (Rose b.shelf.faults a.shelf.faults → ⊥) → (Rose b.out.faults a.out.faults → ⊥)
-    → IfSome (file_shown b.shelf.files (file_generated f)) (λ file. length file ≤ max_file → (K : List Bound) → Accepts file K → IsOrMemory status Done)
+    → IfGenerates f b.shelf.files (λ number file. length file ≤ max_file → IfAccepted file (λ K. IsOrMemory status Done))
 ran_generated_completes f b a status r shelf out =
-    for_generated f b.shelf.files (λ number file. length file ≤ max_file → (K : List Bound) → Accepts file K → IsOrMemory status Done)
+    for_generated f b.shelf.files (λ number file. length file ≤ max_file → IfAccepted file (λ K. IsOrMemory status Done))
     (λ number name file is shown short K accepts.
     either (generating number name) b a status file K _ shown accepts (subst (λ (x : Option Form). Ran x b a status) is r)
     (λ idle. inr (only_memory name b.shelf a.shelf status file K shown accepts short shelf idle.why)) (λ d. tells_complete (summary_text number K) b.out a.out status out d.1))
@@ -389,12 +396,10 @@ idle_steps : (i i' : InputSide) (n : ℕ) → i' ≡ i → i'.steps ≤ raised i
 idle_steps i i' n same = subst (λ (p : InputSide). p.steps ≤ raised i.steps n) (sym same) (raised_none i.steps n)
 
 pub ran_generated_within : (f : Option Form) (b a : Moment) (status : Status) → Ran f b a status
-    → IfSome (file_shown b.shelf.files (file_generated f)) (λ file. (K : List Bound) → Accepts file K → a.input.steps ≤ raised b.input.steps (allowed (job Any K) (generated (lines_generated f))))
+    → IfGenerates f b.shelf.files (λ number file. IfAccepted file (λ K. a.input.steps ≤ raised b.input.steps (allowed (job Any K) (generated number))))
 ran_generated_within f b a status r =
-    for_generated f b.shelf.files (λ number file. (K : List Bound) → Accepts file K → a.input.steps ≤ raised b.input.steps (allowed (job Any K) (generated number)))
-    (λ number name file is shown K accepts.
-    either (generating number name) b a status file K _ shown accepts (subst (λ (x : Option Form). Ran x b a status) is r)
-    (λ idle. idle_steps b.input a.input (allowed (job Any K) (generated number)) idle.input) (λ d. d.0.costs))
+    on_generated f b a status (λ number K. a.input.steps ≤ raised b.input.steps (allowed (job Any K) (generated number))) r
+    (λ number K name idle. idle_steps b.input a.input (allowed (job Any K) (generated number)) idle.input) (λ number K g t. g.costs)
 
 -- ---- refusals
 
@@ -414,7 +419,7 @@ this_refusal name s s' WriteFault file n other shown short bad shelf why = absur
 this_refusal name s s' InputLimit file n other shown short bad shelf why = absurd why
 
 pub ran_refuses : (f : Option Form) (b a : Moment) (status : Status) → Ran f b a status → (Rose b.shelf.faults a.shelf.faults → ⊥)
-    → IfSome (file_shown b.shelf.files (file_named f)) (λ file. length file ≤ max_file → (n : ℕ) (other : FileKind) → Refuses file n other → IsOrMemory status (Refused n other))
+    → IfNames f b.shelf.files (λ file. length file ≤ max_file → (n : ℕ) (other : FileKind) → Refuses file n other → IsOrMemory status (Refused n other))
 ran_refuses None b a status r shelf = by_some (file_shown b.shelf.files None) _ (λ file shown. absurd (no_name b.shelf.files file shown))
 ran_refuses (Some f) b a status (inl idle) shelf =
     by_some (file_shown b.shelf.files (Some (name_in f))) _ (λ file shown short n other bad. this_refusal (name_in f) b.shelf a.shelf status file n other shown short bad shelf idle.why)
@@ -423,22 +428,22 @@ ran_refuses (Some f) b a status (inr d) shelf =
 
 -- a refusal is that of the file
 pub ran_refused : (f : Option Form) (b a : Moment) (status : Status) → Ran f b a status → (k : ℕ) (kind : FileKind) → status ≡ Refused k kind
-    → (a.shelf.faults ≡ b.shelf.faults) × IfSome (file_shown b.shelf.files (file_named f)) (λ file. (length file ≤ max_file) × Refuses file k kind)
+    → (a.shelf.faults ≡ b.shelf.faults) × IfNames f b.shelf.files (λ file. (length file ≤ max_file) × Refuses file k kind)
 ran_refused None b a status r k kind is = absurd (cc (r.0, is))
 ran_refused (Some f) b a status r k kind is = by_refusal (subst (Ran (Some f) b a) is r)
   where
-    by_refusal : Ran (Some f) b a (Refused k kind) → (a.shelf.faults ≡ b.shelf.faults) × IfSome (file_shown b.shelf.files (Some (name_in f))) (λ file. (length file ≤ max_file) × Refuses file k kind)
+    by_refusal : Ran (Some f) b a (Refused k kind) → (a.shelf.faults ≡ b.shelf.faults) × IfNames (Some f) b.shelf.files (λ file. (length file ≤ max_file) × Refuses file k kind)
     by_refusal (inl idle) = (idle.why.holds.no_fault, by_some (file_shown b.shelf.files (Some (name_in f))) _ (λ file shown. refused_as (name_in f) b.shelf a.shelf k kind file shown idle.why))
     by_refusal (inr d) = absurd (not_before f d.statements b.input a.input b.out a.out (Refused k kind) d.does tt)
 
 -- ---- files that are too long or absent
 
 pub ran_too_long : (f : Option Form) (b a : Moment) (status : Status) → Ran f b a status → status ≡ FileTooLong
-    → (a.shelf.faults ≡ b.shelf.faults) × IfSome (file_shown b.shelf.files (file_named f)) (λ file. max_file < length file)
+    → (a.shelf.faults ≡ b.shelf.faults) × IfNames f b.shelf.files (λ file. max_file < length file)
 ran_too_long None b a status r is = absurd (cc (r.0, is))
 ran_too_long (Some f) b a status r is = by_length (subst (Ran (Some f) b a) is r)
   where
-    by_length : Ran (Some f) b a FileTooLong → (a.shelf.faults ≡ b.shelf.faults) × IfSome (file_shown b.shelf.files (Some (name_in f))) (λ file. max_file < length file)
+    by_length : Ran (Some f) b a FileTooLong → (a.shelf.faults ≡ b.shelf.faults) × IfNames (Some f) b.shelf.files (λ file. max_file < length file)
     by_length (inl idle) = (idle.why.1, by_some (file_shown b.shelf.files (Some (name_in f))) _ (λ file shown. long_file b.shelf.files (name_in f) file a.shelf.left shown idle.why.0))
     by_length (inr d) = absurd (not_before f d.statements b.input a.input b.out a.out FileTooLong d.does tt)
 
@@ -464,7 +469,7 @@ too_long_alone name s s' WriteFault file shown long shelf why = absurd why
 too_long_alone name s s' InputLimit file shown long shelf why = absurd why
 
 pub ran_finds_too_long : (f : Option Form) (b a : Moment) (status : Status) → Ran f b a status → (Rose b.shelf.faults a.shelf.faults → ⊥)
-    → IfSome (file_shown b.shelf.files (file_named f)) (λ file. max_file < length file → IsOrMemory status FileTooLong)
+    → IfNames f b.shelf.files (λ file. max_file < length file → IsOrMemory status FileTooLong)
 ran_finds_too_long None b a status r shelf = by_some (file_shown b.shelf.files None) _ (λ file shown. absurd (no_name b.shelf.files file shown))
 ran_finds_too_long (Some f) b a status (inl idle) shelf =
     by_some (file_shown b.shelf.files (Some (name_in f))) _ (λ file shown long. too_long_alone (name_in f) b.shelf a.shelf status file shown long shelf idle.why)
