@@ -1,5 +1,5 @@
 -- What follows of how a command ended.
-use Rattle.std.proofs.Common.{◌≡◌, ◌≢◌, ◌⊎◌, inl, inr, ◌↔◌, ℕ, ◌+◌, ◌-◌, ◌<◌, ◌≤◌, List, [], ◌++◌, length, take, drop, Option, None, Some, Result, Ok, Err, IsOk, IsTrue, IfSome, refl, sym, ◌∙◌, ap, subst, arith, length-append}
+use Rattle.std.proofs.Common.{◌≡◌, inl, inr, ◌↔◌, ℕ, ◌+◌, ◌-◌, ◌<◌, ◌≤◌, List, [], ◌++◌, length, take, drop, Option, None, Some, IsTrue, IfSome, refl, sym, ◌∙◌, ap, subst, arith, length-append}
 use Rattle.std.proofs.lemmas.List.{take-append-drop, append-nil}
 use Rattle.std.specs.Io.KnownBytes.{Consumes, IsAtEnd}
 use Rattle.sj_base.specs.Outside.{Files, HasFile, Rose, raised}
@@ -17,7 +17,7 @@ use Rattle.sqljson.specs.Job.{Job, job}
 use Rattle.sqljson.specs.Input.{InputSide}
 use Rattle.sqljson.specs.Output.{output, whole_output, allowed}
 use Rattle.sqljson.specs.Stream.{IsPrefix, IsWhy, Streamed, IsFrontOf, WroteLeast, WroteWhole, StepsWithin, max_piece, max_input, TookMost}
-use Rattle.sqljson.specs.File.{ShelfSide, Form, running, checking, generating, name_in, file_named, file_run, keys_run, file_checked, file_generated, lines_generated, file_shown, IsFile, IsTooLong, max_file}
+use Rattle.sqljson.specs.File.{ShelfSide, Form, running, checking, generating, name_in, file_named, file_run, file_shown, IsFile, IsTooLong, max_file}
 use Rattle.sqljson.specs.Verdict.{Accepts, Refuses}
 use Rattle.sqljson.specs.Summary.{summary_text}
 use Rattle.sqljson.specs.Ran.{Moment, Accepted, RefusedFile, IsUnaccepted, accepted_text, Tells, RanGenerated, Does, Idle, Did, Ran, IsBefore}

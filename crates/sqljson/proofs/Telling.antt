@@ -1,5 +1,5 @@
 -- Commands that tell a text.
-use Rattle.std.proofs.Common.{◌≡◌, ◌≢◌, ◌⊎◌, inl, inr, ℕ, ◌+◌, ◌≤◌, List, [], ◌∷◌, ◌++◌, length, map, Option, None, Some, Result, Ok, Err, IsOk, codes, decimal, refl, sym, ◌∙◌, ap, subst, arith}
+use Rattle.std.proofs.Common.{◌≡◌, ◌≢◌, ◌⊎◌, inl, inr, ℕ, ◌≤◌, List, [], ◌∷◌, ◌++◌, length, map, Option, None, Some, Result, Ok, Err, IsOk, codes, decimal, refl, sym, ◌∙◌, ap, subst, arith}
 use Rattle.std.proofs.lemmas.List.{append-nil, length-map}
 use Rattle.sj_base.specs.Outside.{raised}
 use Rattle.sj_bind.specs.Bound.{Bound}
@@ -8,17 +8,17 @@ use Rattle.sj_bind.specs.declared.bound.Bound.{Bound as BoundHeld}
 use Rattle.sj_generated.specs.Lines.{most_lines, generated}
 use Rattle.sj_generated.proofs.Lengths.{generated_short}
 use Rattle.sj_page.specs.Sides.{OutputSide, Grew, Wrote, joined}
-use Rattle.sj_page.specs.Pages.{PageSeen, PrintState}
+use Rattle.sj_page.specs.Pages.{PageSeen}
 use Rattle.sqljson.specs.declared.job.Keys.TheVariants.{Any}
 use Rattle.sqljson.specs.declared.status.Status.{Status}
 use Rattle.sqljson.specs.declared.status.Status.TheVariants.{Done, Memory, WriteFault}
-use Rattle.sqljson.specs.Job.{Job, job}
+use Rattle.sqljson.specs.Job.{job}
 use Rattle.sqljson.specs.Input.{InputSide}
 use Rattle.sqljson.specs.Output.{asked, rows_in, errors_in, output, allowed}
 use Rattle.sqljson.specs.Stream.{Streamed}
 use Rattle.sqljson.specs.Summary.{capped, counts_text, summary_text}
 use Rattle.sqljson.specs.File.{ShelfSide, checking, generating}
-use Rattle.sqljson.specs.Ran.{moment, Accepted, accepted_text, Tells, RanGenerated, Ran}
+use Rattle.sqljson.specs.Ran.{moment, Accepted, accepted_text, Tells, Ran}
 use Rattle.sqljson.proofs.Steps.{counted_is}
 use Rattle.sqljson.proofs.Streaming.{told}
 use Rattle.sqljson.proofs.Ending.{all_taken, streamed_complete}

@@ -4,8 +4,8 @@ use Rattle.sj_bind.specs.Bound.{Bound}
 use Rattle.sj_generated.specs.Lines.{generated}
 use Rattle.sj_page.specs.Sides.{joined}
 use Rattle.sqljson.specs.declared.job.Keys.TheVariants.{Any}
-use Rattle.sqljson.specs.Job.{Job, job}
-use Rattle.sqljson.specs.Output.{Asked, asked, rows_in, errors_in, output}
+use Rattle.sqljson.specs.Job.{job}
+use Rattle.sqljson.specs.Output.{asked, rows_in, errors_in, output}
 
 -- the last value of a count, which has 64 bits
 abbrev pub last_count : ℕ
