@@ -1,4 +1,6 @@
 use Rattle.std.proofs.Common.{rules, ap, arith, sym, ◌∙◌}
+use Rattle.sj_bind.specs.View.{bound_of}
+use Rattle.sj_select.specs.Line.{line_of}
 use Rattle.sj_page.proofs.Printing.{printing_more, printing_done, printing_ends, printing_stops, printing_memory}
 use Rattle.sj_page.specs.Pages.{followed_by, row_print}
 use Rattle.sqljson.specs.Output.{rows_print}
@@ -7,8 +9,8 @@ use Rattle.sqljson.proofs.rows.print_statement.Goals as goal
 
 pub loop-turn-init : goal.loop-turn-init
 loop-turn-init g c = record {
-  printing = begins _ _ _ (ap (rows_print c.args.number c.args.statement) (rows_start _ _ _ c.rewind.ensures.left));
-  costs = omega (arith, costs_start _ _ _ c.rewind.ensures.due);
+  printing = begins _ _ _ (ap (rows_print c.args.number c.args.statement) (rows_start (bound_of c.args.rows.now.bound) (line_of c.args.line) c.rewind.new.self.left c.rewind.ensures.left));
+  costs = omega (arith, costs_start (bound_of c.args.rows.now.bound) (line_of c.args.line) c.rewind.new.self.due c.rewind.ensures.due);
   bound = c.rewind.ensures.bound;
 }
 
