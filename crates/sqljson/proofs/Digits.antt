@@ -1,5 +1,5 @@
 -- A number of decimal digits, read from the left.
-use Rattle.std.proofs.Common.{◌≡◌, ℕ, ◌^◌, ◌<◌, ◌≤◌, List, length, arith}
+use Rattle.std.proofs.Common.{◌≡◌, ℕ, ◌^◌, ◌<◌, ◌≤◌, List, arith}
 use Rattle.std.specs.Str.{all_ascii_digits}
 use Rattle.sj_decimal.proofs.Powers.{power_le}
 use Rattle.sqljson.specs.File.{number_from}

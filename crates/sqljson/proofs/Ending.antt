@@ -1,5 +1,5 @@
 -- What follows of how a command ended.
-use Rattle.std.proofs.Common.{◌≡◌, ◌≢◌, ◌⊎◌, inl, inr, ◌↔◌, ℕ, ◌+◌, ◌-◌, ◌<◌, ◌≤◌, List, [], ◌++◌, length, take, drop, Option, None, Some, Result, Ok, Err, IsOk, IsTrue, IfSome, refl, sym, ◌∙◌, ap, subst, arith, length-append}
+use Rattle.std.proofs.Common.{◌≡◌, inl, inr, ◌↔◌, ℕ, ◌+◌, ◌-◌, ◌<◌, ◌≤◌, List, [], ◌++◌, length, take, drop, Option, None, Some, IsTrue, IfSome, refl, sym, ◌∙◌, ap, subst, arith, length-append}
 use Rattle.std.proofs.lemmas.List.{take-append-drop, append-nil}
 use Rattle.std.specs.Io.KnownBytes.{Consumes, IsAtEnd}
 use Rattle.sj_base.specs.Outside.{Files, HasFile, Rose, raised}
@@ -16,11 +16,13 @@ use Rattle.sqljson.specs.declared.status.Status.TheVariants.{Done, Usage, Refuse
 use Rattle.sqljson.specs.Job.{Job, job}
 use Rattle.sqljson.specs.Input.{InputSide}
 use Rattle.sqljson.specs.Output.{output, whole_output, allowed}
-use Rattle.sqljson.specs.Stream.{IsPrefix, IsWhy, Streamed, IsFrontOf, WroteLeast, WroteWhole, StepsWithin, max_piece, max_input}
-use Rattle.sqljson.specs.File.{ShelfSide, Form, running, checking, generating, name_in, file_named, file_run, keys_run, file_checked, file_generated, lines_generated, file_shown, IsFile, IsTooLong, max_file}
+use Rattle.sqljson.specs.Stream.{IsPrefix, IsWhy, Streamed, IsFrontOf, WroteLeast, WroteWhole, StepsWithin, max_piece, max_input, TookMost}
+use Rattle.sqljson.specs.File.{ShelfSide, Form, running, checking, generating, name_in, file_named, file_run, file_shown, IsFile, IsTooLong, max_file}
 use Rattle.sqljson.specs.Verdict.{Accepts, Refuses}
 use Rattle.sqljson.specs.Summary.{summary_text}
 use Rattle.sqljson.specs.Ran.{Moment, Accepted, RefusedFile, IsUnaccepted, accepted_text, Tells, RanGenerated, Does, Idle, Did, Ran, IsBefore}
+use Rattle.sqljson.specs.Conditions.{IfRuns, IfChecks, IfGenerates, IfNames, IfAccepted, IsOrMemory}
+use Rattle.sqljson.proofs.Steps.{raised_none}
 use Rattle.sqljson.proofs.Streaming.{whole_output-append, output-end, prefix_trans, consumes_none, told, streamed_front}
 use Rattle.sqljson.proofs.Verdicts.{one_accepted, not_both, one_refusal}
 
@@ -39,8 +41,29 @@ same_file : (files : Option Files) (name file file' : List ℕ) → file_shown f
 same_file None name file file' shown is = absurd (cc shown)
 same_file (Some files) name file file' shown is = cc (shown, is)
 
-long_file : (files : Option Files) (name file : List ℕ) → file_shown files (Some name) ≡ Some file → IsTooLong files name → max_file < length file
-long_file files name file shown long = subst (λ (f : List ℕ). max_file < length f) (same_file files name file long.0 shown long.1) long.2
+-- Of a file that is too long no more was read than the first byte past the limit.
+abbrev pub IsPast : List ℕ → Option (List ℕ) → Type 0
+IsPast file left = (front : List ℕ) × (length front ≡ max_file + 1) × Consumes (Some file) left front
+
+past_limit : (files : Option Files) (name file : List ℕ) (left : Option (List ℕ)) → file_shown files (Some name) ≡ Some file → IsTooLong files name left → IsPast file left
+past_limit None name file left shown long = absurd (cc shown)
+past_limit (Some files) name file left shown long =
+    let same : long.0 ≡ file = cc (shown, long.1) in
+    subst (λ (f : List ℕ). IsPast f left) same (long.2, long.3, long.4)
+
+longer : (file : List ℕ) (left : Option (List ℕ)) → IsPast file left → max_file < length file
+longer file None past = absurd past.2
+longer file (Some rest) past = omega (arith, ap length past.2, length-append past.0 rest, past.1)
+
+long_file : (files : Option Files) (name file : List ℕ) (left : Option (List ℕ)) → file_shown files (Some name) ≡ Some file → IsTooLong files name left → max_file < length file
+long_file files name file left shown long = longer file left (past_limit files name file left shown long)
+
+-- and the others are left
+left_of : (file : List ℕ) (left : Option (List ℕ)) (rest : List ℕ) → left ≡ Some rest → IsPast file left → length file ≡ max_file + 1 + length rest
+left_of file None rest is past = absurd past.2
+left_of file (Some all) rest is past =
+    let same : all ≡ rest = cc is in
+    omega (arith, ap length past.2, length-append past.0 all, past.1, ap length same)
 
 accepted_as : (name : List ℕ) (s s' : ShelfSide) (K : List Bound) (file : List ℕ) → file_shown s.files (Some name) ≡ Some file → Accepted name s s' K → Accepts file K
 accepted_as name s s' K file shown a = subst (λ (f : List ℕ). Accepts f K) (same_file s.files name file a.file shown a.holds.is) a.accepted
@@ -56,7 +79,7 @@ refused_as name s s' k kind file shown r =
 only_memory : (name : List ℕ) (s s' : ShelfSide) (status : Status) (file : List ℕ) (K : List Bound) → file_shown s.files (Some name) ≡ Some file → Accepts file K → length file ≤ max_file → (Rose s.faults s'.faults → ⊥)
     → IsUnaccepted name s s' status → status ≡ Memory
 only_memory name s s' ShelfFault file K shown accepts short shelf why = absurd (shelf why.0)
-only_memory name s s' FileTooLong file K shown accepts short shelf why = absurd (omega (arith, short, long_file s.files name file shown why.0))
+only_memory name s s' FileTooLong file K shown accepts short shelf why = absurd (omega (arith, short, long_file s.files name file s'.left shown why.0))
 only_memory name s s' (Refused k kind) file K shown accepts short shelf why = absurd (not_both file K k kind accepts (refused_as name s s' k kind file shown why).1)
 only_memory name s s' Memory file K shown accepts short shelf why = refl
 only_memory name s s' Done file K shown accepts short shelf why = absurd why
@@ -105,21 +128,21 @@ not_before (generating number name) K i i' o o' status d is = tells_not_before (
 -- ---- by the form
 
 for_run : (f : Option Form) (files : Option Files) (P : Keys → List ℕ → Type 0) → ((keys : Keys) (name file : List ℕ) → f ≡ Some (running keys name) → file_shown files (Some name) ≡ Some file → P keys file)
-    → IfSome (file_shown files (file_run f)) (λ file. P (keys_run f) file)
+    → IfRuns f files P
 for_run None files P h = by_some (file_shown files None) _ (λ file shown. absurd (no_name files file shown))
 for_run (Some (running keys name)) files P h = by_some (file_shown files (Some name)) _ (λ file shown. h keys name file refl shown)
 for_run (Some (checking name)) files P h = by_some (file_shown files None) _ (λ file shown. absurd (no_name files file shown))
 for_run (Some (generating number name)) files P h = by_some (file_shown files None) _ (λ file shown. absurd (no_name files file shown))
 
 for_check : (f : Option Form) (files : Option Files) (P : List ℕ → Type 0) → ((name file : List ℕ) → f ≡ Some (checking name) → file_shown files (Some name) ≡ Some file → P file)
-    → IfSome (file_shown files (file_checked f)) P
+    → IfChecks f files P
 for_check None files P h = by_some (file_shown files None) _ (λ file shown. absurd (no_name files file shown))
 for_check (Some (running keys name)) files P h = by_some (file_shown files None) _ (λ file shown. absurd (no_name files file shown))
 for_check (Some (checking name)) files P h = by_some (file_shown files (Some name)) _ (λ file shown. h name file refl shown)
 for_check (Some (generating number name)) files P h = by_some (file_shown files None) _ (λ file shown. absurd (no_name files file shown))
 
 for_generated : (f : Option Form) (files : Option Files) (P : ℕ → List ℕ → Type 0) → ((number : ℕ) (name file : List ℕ) → f ≡ Some (generating number name) → file_shown files (Some name) ≡ Some file → P number file)
-    → IfSome (file_shown files (file_generated f)) (λ file. P (lines_generated f) file)
+    → IfGenerates f files P
 for_generated None files P h = by_some (file_shown files None) _ (λ file shown. absurd (no_name files file shown))
 for_generated (Some (running keys name)) files P h = by_some (file_shown files None) _ (λ file shown. absurd (no_name files file shown))
 for_generated (Some (checking name)) files P h = by_some (file_shown files None) _ (λ file shown. absurd (no_name files file shown))
@@ -131,6 +154,33 @@ either : (f : Form) (b a : Moment) (status : Status) (file : List ℕ) (K : List
 either f b a status file K Q shown accepts (inl idle) h g = h idle
 either f b a status file K Q shown accepts (inr d) h g = g (does_with f b a status file K shown accepts d)
 
+-- What holds where no file was accepted, and where its statements were run, holds of a run. So for the other two forms.
+on_run : (f : Option Form) (b a : Moment) (status : Status) (P : Keys → List Bound → Type 0) → Ran f b a status
+    → ((keys : Keys) (K : List Bound) (name : List ℕ) → Idle name b a status → P keys K)
+    → ((keys : Keys) (K : List Bound) (page : PageSeen) → Streamed (job keys K) b.input a.input b.out (record { out = a.out; page = page }) status → P keys K)
+    → IfRuns f b.shelf.files (λ keys file. IfAccepted file (P keys))
+on_run f b a status P r idle ran =
+    for_run f b.shelf.files (λ keys file. IfAccepted file (P keys))
+    (λ keys name file is shown K accepts.
+    either (running keys name) b a status file K (P keys K) shown accepts (subst (λ (x : Option Form). Ran x b a status) is r) (idle keys K name) (λ d. ran keys K d.0 d.1))
+
+on_check : (f : Option Form) (b a : Moment) (status : Status) (P : List Bound → Type 0) → Ran f b a status
+    → ((K : List Bound) (name : List ℕ) → Idle name b a status → P K) → ((K : List Bound) → Tells (accepted_text K) b.out a.out status → P K)
+    → IfChecks f b.shelf.files (λ file. IfAccepted file P)
+on_check f b a status P r idle told =
+    for_check f b.shelf.files (λ file. IfAccepted file P)
+    (λ name file is shown K accepts.
+    either (checking name) b a status file K (P K) shown accepts (subst (λ (x : Option Form). Ran x b a status) is r) (idle K name) (λ d. told K d.1))
+
+on_generated : (f : Option Form) (b a : Moment) (status : Status) (P : ℕ → List Bound → Type 0) → Ran f b a status
+    → ((number : ℕ) (K : List Bound) (name : List ℕ) → Idle name b a status → P number K)
+    → ((number : ℕ) (K : List Bound) → RanGenerated number K b.input a.input → Tells (summary_text number K) b.out a.out status → P number K)
+    → IfGenerates f b.shelf.files (λ number file. IfAccepted file (P number))
+on_generated f b a status P r idle told =
+    for_generated f b.shelf.files (λ number file. IfAccepted file (P number))
+    (λ number name file is shown K accepts.
+    either (generating number name) b a status file K (P number K) shown accepts (subst (λ (x : Option Form). Ran x b a status) is r) (idle number K name) (λ d. told number K d.0 d.1))
+
 -- ---- runs over the input
 
 pub all_taken : (left left' : Option (List ℕ)) (all bytes : List ℕ) → left ≡ Some all → Consumes left left' bytes → IsAtEnd left' → bytes ≡ all
@@ -141,27 +191,23 @@ all_taken left left' all bytes is took end =
 
 -- what a run that is Done has written
 pub ran_headline : (f : Option Form) (b a : Moment) (status : Status) → Ran f b a status → status ≡ Done
-    → IfSome (file_shown b.shelf.files (file_run f)) (λ file. (K : List Bound) → Accepts file K → IfSome b.input.left (λ all. Grew b.out a.out (output (job (keys_run f) K) all)))
+    → IfRuns f b.shelf.files (λ keys file. IfAccepted file (λ K. IfSome b.input.left (λ all. Grew b.out a.out (output (job keys K) all))))
 ran_headline f b a status r done =
-    for_run f b.shelf.files (λ keys file. (K : List Bound) → Accepts file K → IfSome b.input.left (λ all. Grew b.out a.out (output (job keys K) all)))
-    (λ keys name file is shown K accepts.
-    either (running keys name) b a Done file K _ shown accepts (subst (Ran (Some (running keys name)) b a) done (subst (λ (x : Option Form). Ran x b a status) is r))
-    (λ idle. absurd idle.why)
-    (λ d. by_some b.input.left _ (λ all left.
-    subst (Grew b.out a.out) (d.1.why.0 ∙ ap (output (job keys K)) (all_taken b.input.left a.input.left all d.1.bytes left d.1.consumed d.1.why.1)) d.1.grew)))
+    on_run f b a Done (λ keys K. IfSome b.input.left (λ all. Grew b.out a.out (output (job keys K) all))) (subst (Ran f b a) done r)
+    (λ keys K name idle. absurd idle.why)
+    (λ keys K page s. by_some b.input.left _ (λ all left.
+    subst (Grew b.out a.out) (s.why.0 ∙ ap (output (job keys K)) (all_taken b.input.left a.input.left all s.bytes left s.consumed s.why.1)) s.grew))
 
 idle_front : (whole : List ℕ) (o o' : OutputSide) → o' ≡ o → IsFrontOf whole o o'
 idle_front whole o o' same = record { text = []; grew = subst (λ (p : OutputSide). Grew o p []) (sym same) (grew_none o); front = (whole, refl) }
 
 -- what was written is a front of the output, however the run ended
 pub ran_front : (f : Option Form) (b a : Moment) (status : Status) → Ran f b a status
-    → IfSome (file_shown b.shelf.files (file_run f)) (λ file. (K : List Bound) → Accepts file K → IfSome b.input.left (λ all. IsFrontOf (output (job (keys_run f) K) all) b.out a.out))
+    → IfRuns f b.shelf.files (λ keys file. IfAccepted file (λ K. IfSome b.input.left (λ all. IsFrontOf (output (job keys K) all) b.out a.out)))
 ran_front f b a status r =
-    for_run f b.shelf.files (λ keys file. (K : List Bound) → Accepts file K → IfSome b.input.left (λ all. IsFrontOf (output (job keys K) all) b.out a.out))
-    (λ keys name file is shown K accepts. by_some b.input.left _ (λ all left.
-    either (running keys name) b a status file K _ shown accepts (subst (λ (x : Option Form). Ran x b a status) is r)
-    (λ idle. idle_front (output (job keys K) all) b.out a.out idle.out)
-    (λ d. streamed_front (job keys K) b.input a.input b.out (record { out = a.out; page = d.0 }) status all d.1 left)))
+    on_run f b a status (λ keys K. IfSome b.input.left (λ all. IsFrontOf (output (job keys K) all) b.out a.out)) r
+    (λ keys K name idle. by_some b.input.left _ (λ all left. idle_front (output (job keys K) all) b.out a.out idle.out))
+    (λ keys K page s. by_some b.input.left _ (λ all left. streamed_front (job keys K) b.input a.input b.out (record { out = a.out; page = page }) status all s left))
 
 -- the texts of the whole lines of a front go in front of those of all
 front_whole : (K : Job) (h : List ℕ) (m : ℕ) → IsPrefix (whole_output K (take m h)) (whole_output K h)
@@ -212,45 +258,37 @@ idle_least K i i' o o' input out = record {
 
 -- however a run ended, it had written the lines whose LF stands before the last piece of the bytes taken
 pub ran_least : (f : Option Form) (b a : Moment) (status : Status) → Ran f b a status
-    → IfSome (file_shown b.shelf.files (file_run f)) (λ file. (K : List Bound) → Accepts file K → WroteLeast (job (keys_run f) K) b.input a.input b.out a.out)
+    → IfRuns f b.shelf.files (λ keys file. IfAccepted file (λ K. WroteLeast (job keys K) b.input a.input b.out a.out))
 ran_least f b a status r =
-    for_run f b.shelf.files (λ keys file. (K : List Bound) → Accepts file K → WroteLeast (job keys K) b.input a.input b.out a.out)
-    (λ keys name file is shown K accepts.
-    either (running keys name) b a status file K _ shown accepts (subst (λ (x : Option Form). Ran x b a status) is r)
-    (λ idle. idle_least (job keys K) b.input a.input b.out a.out idle.input idle.out)
-    (λ d. streamed_least (job keys K) b.input a.input b.out (record { out = a.out; page = d.0 }) status d.1))
+    on_run f b a status (λ keys K. WroteLeast (job keys K) b.input a.input b.out a.out) r
+    (λ keys K name idle. idle_least (job keys K) b.input a.input b.out a.out idle.input idle.out)
+    (λ keys K page s. streamed_least (job keys K) b.input a.input b.out (record { out = a.out; page = page }) status s)
 
 idle_within : (K : Job) (i i' : InputSide) → i' ≡ i → StepsWithin K i i'
-idle_within K i i' same = subst (λ (p : InputSide). StepsWithin K i p) (sym same) (record { bytes = []; consumed = consumes_none i.left; costs = omega arith })
+idle_within K i i' same = subst (λ (p : InputSide). StepsWithin K i p) (sym same) (record { bytes = []; consumed = consumes_none i.left; costs = raised_none i.steps (allowed K []) })
 
 -- however a run ended, its steps are within what the lines of the bytes taken allow
 pub ran_within : (f : Option Form) (b a : Moment) (status : Status) → Ran f b a status
-    → IfSome (file_shown b.shelf.files (file_run f)) (λ file. (K : List Bound) → Accepts file K → StepsWithin (job (keys_run f) K) b.input a.input)
+    → IfRuns f b.shelf.files (λ keys file. IfAccepted file (λ K. StepsWithin (job keys K) b.input a.input))
 ran_within f b a status r =
-    for_run f b.shelf.files (λ keys file. (K : List Bound) → Accepts file K → StepsWithin (job keys K) b.input a.input)
-    (λ keys name file is shown K accepts.
-    either (running keys name) b a status file K _ shown accepts (subst (λ (x : Option Form). Ran x b a status) is r)
-    (λ idle. idle_within (job keys K) b.input a.input idle.input)
-    (λ d. record { bytes = d.1.bytes; consumed = d.1.consumed; costs = d.1.costs }))
+    on_run f b a status (λ keys K. StepsWithin (job keys K) b.input a.input) r
+    (λ keys K name idle. idle_within (job keys K) b.input a.input idle.input)
+    (λ keys K page s. record { bytes = s.bytes; consumed = s.consumed; costs = s.costs })
 
 -- whole lines alone
 pub ran_read_fault : (f : Option Form) (b a : Moment) (status : Status) → Ran f b a status → status ≡ ReadFault
-    → IfSome (file_shown b.shelf.files (file_run f)) (λ file. (K : List Bound) → Accepts file K → WroteWhole (job (keys_run f) K) b.input a.input b.out a.out)
+    → IfRuns f b.shelf.files (λ keys file. IfAccepted file (λ K. WroteWhole (job keys K) b.input a.input b.out a.out))
 ran_read_fault f b a status r so =
-    for_run f b.shelf.files (λ keys file. (K : List Bound) → Accepts file K → WroteWhole (job keys K) b.input a.input b.out a.out)
-    (λ keys name file is shown K accepts.
-    either (running keys name) b a ReadFault file K _ shown accepts (subst (Ran (Some (running keys name)) b a) so (subst (λ (x : Option Form). Ran x b a status) is r))
-    (λ idle. absurd idle.why)
-    (λ d. record { bytes = d.1.bytes; consumed = d.1.consumed; grew = subst (Grew b.out a.out) d.1.why.0 d.1.grew }))
+    on_run f b a ReadFault (λ keys K. WroteWhole (job keys K) b.input a.input b.out a.out) (subst (Ran f b a) so r)
+    (λ keys K name idle. absurd idle.why)
+    (λ keys K page s. record { bytes = s.bytes; consumed = s.consumed; grew = subst (Grew b.out a.out) s.why.0 s.grew })
 
 pub ran_limit : (f : Option Form) (b a : Moment) (status : Status) → Ran f b a status → status ≡ InputLimit
-    → IfSome (file_shown b.shelf.files (file_run f)) (λ file. (K : List Bound) → Accepts file K → WroteWhole (job (keys_run f) K) b.input a.input b.out a.out)
+    → IfRuns f b.shelf.files (λ keys file. IfAccepted file (λ K. WroteWhole (job keys K) b.input a.input b.out a.out))
 ran_limit f b a status r so =
-    for_run f b.shelf.files (λ keys file. (K : List Bound) → Accepts file K → WroteWhole (job keys K) b.input a.input b.out a.out)
-    (λ keys name file is shown K accepts.
-    either (running keys name) b a InputLimit file K _ shown accepts (subst (Ran (Some (running keys name)) b a) so (subst (λ (x : Option Form). Ran x b a status) is r))
-    (λ idle. absurd idle.why)
-    (λ d. record { bytes = d.1.bytes; consumed = d.1.consumed; grew = subst (Grew b.out a.out) d.1.why.0 d.1.grew }))
+    on_run f b a InputLimit (λ keys K. WroteWhole (job keys K) b.input a.input b.out a.out) (subst (Ran f b a) so r)
+    (λ keys K name idle. absurd idle.why)
+    (λ keys K page s. record { bytes = s.bytes; consumed = s.consumed; grew = subst (Grew b.out a.out) s.why.0 s.grew })
 
 pub ran_to_end : (f : Option Form) (b a : Moment) (status : Status) → Ran f b a status → status ≡ Done → IfSome (file_run f) (λ _. IsAtEnd a.input.left)
 ran_to_end None b a status r so = tt
@@ -264,15 +302,12 @@ ran_to_end (Some (generating number name)) b a status r so = tt
 
 -- ---- when a command is done
 
-abbrev pub IsDoneOrMemory : Status → Type 0
-IsDoneOrMemory status = (status ≡ Done) ⊎ (status ≡ Memory)
-
 below_limit : (i i' : InputSide) (all bytes : List ℕ) → i.left ≡ Some all → Consumes i.left i'.left bytes → length all < max_input → length bytes ≡ max_input → ⊥
 below_limit i i' all bytes is took fits long =
     let t = told i.left i'.left all bytes is took in
     omega (arith, ap length t.2, length-append bytes t.0, fits, long)
 
-pub streamed_complete : (K : Job) (i i' : InputSide) (o : OutputSide) (o' : PrintState) (status : Status) (all : List ℕ) → i.left ≡ Some all → length all < max_input → (Rose i.faults i'.faults → ⊥) → (Rose o.faults o'.out.faults → ⊥) → Streamed K i i' o o' status → IsDoneOrMemory status
+pub streamed_complete : (K : Job) (i i' : InputSide) (o : OutputSide) (o' : PrintState) (status : Status) (all : List ℕ) → i.left ≡ Some all → length all < max_input → (Rose i.faults i'.faults → ⊥) → (Rose o.faults o'.out.faults → ⊥) → Streamed K i i' o o' status → IsOrMemory status Done
 streamed_complete K i i' o o' Done all left fits read out s = inl refl
 streamed_complete K i i' o o' Memory all left fits read out s = inr refl
 streamed_complete K i i' o o' ReadFault all left fits read out s = absurd (read s.why.1)
@@ -285,15 +320,15 @@ streamed_complete K i i' o o' (Refused k kind) all left fits read out s = absurd
 
 pub ran_completes : (f : Option Form) (b a : Moment) (status : Status) → Ran f b a status
     → (Rose b.shelf.faults a.shelf.faults → ⊥) → (Rose b.input.faults a.input.faults → ⊥) → (Rose b.out.faults a.out.faults → ⊥)
-    → IfSome (file_shown b.shelf.files (file_run f)) (λ file. length file ≤ max_file → (K : List Bound) → Accepts file K → IfSome b.input.left (λ all. length all < max_input → IsDoneOrMemory status))
+    → IfRuns f b.shelf.files (λ keys file. length file ≤ max_file → IfAccepted file (λ K. IfSome b.input.left (λ all. length all < max_input → IsOrMemory status Done)))
 ran_completes f b a status r shelf read out =
-    for_run f b.shelf.files (λ keys file. length file ≤ max_file → (K : List Bound) → Accepts file K → IfSome b.input.left (λ all. length all < max_input → IsDoneOrMemory status))
+    for_run f b.shelf.files (λ keys file. length file ≤ max_file → IfAccepted file (λ K. IfSome b.input.left (λ all. length all < max_input → IsOrMemory status Done)))
     (λ keys name file is shown short K accepts. by_some b.input.left _ (λ all left fits.
     either (running keys name) b a status file K _ shown accepts (subst (λ (x : Option Form). Ran x b a status) is r)
     (λ idle. inr (only_memory name b.shelf a.shelf status file K shown accepts short shelf idle.why))
     (λ d. streamed_complete (job keys K) b.input a.input b.out (record { out = a.out; page = d.0 }) status all left fits read out d.1)))
 
-tells_complete : (text : List ℕ) (o o' : OutputSide) (status : Status) → (Rose o.faults o'.faults → ⊥) → Tells text o o' status → IsDoneOrMemory status
+tells_complete : (text : List ℕ) (o o' : OutputSide) (status : Status) → (Rose o.faults o'.faults → ⊥) → Tells text o o' status → IsOrMemory status Done
 tells_complete text o o' Done out t = inl refl
 tells_complete text o o' Memory out t = inr refl
 tells_complete text o o' WriteFault out t = absurd (out t.1)
@@ -318,24 +353,20 @@ tells_front text o o' (Refused k kind) t = absurd t
 -- ---- checks
 
 pub ran_checked : (f : Option Form) (b a : Moment) (status : Status) → Ran f b a status → status ≡ Done
-    → IfSome (file_shown b.shelf.files (file_checked f)) (λ file. (K : List Bound) → Accepts file K → Grew b.out a.out (accepted_text K))
+    → IfChecks f b.shelf.files (λ file. IfAccepted file (λ K. Grew b.out a.out (accepted_text K)))
 ran_checked f b a status r so =
-    for_check f b.shelf.files (λ file. (K : List Bound) → Accepts file K → Grew b.out a.out (accepted_text K))
-    (λ name file is shown K accepts.
-    either (checking name) b a Done file K _ shown accepts (subst (Ran (Some (checking name)) b a) so (subst (λ (x : Option Form). Ran x b a status) is r)) (λ idle. absurd idle.why) (λ d. d.1.0))
+    on_check f b a Done (λ K. Grew b.out a.out (accepted_text K)) (subst (Ran f b a) so r) (λ K name idle. absurd idle.why) (λ K t. t.0)
 
 pub ran_check_front : (f : Option Form) (b a : Moment) (status : Status) → Ran f b a status
-    → IfSome (file_shown b.shelf.files (file_checked f)) (λ file. (K : List Bound) → Accepts file K → IsFrontOf (accepted_text K) b.out a.out)
+    → IfChecks f b.shelf.files (λ file. IfAccepted file (λ K. IsFrontOf (accepted_text K) b.out a.out))
 ran_check_front f b a status r =
-    for_check f b.shelf.files (λ file. (K : List Bound) → Accepts file K → IsFrontOf (accepted_text K) b.out a.out)
-    (λ name file is shown K accepts.
-    either (checking name) b a status file K _ shown accepts (subst (λ (x : Option Form). Ran x b a status) is r)
-    (λ idle. idle_front (accepted_text K) b.out a.out idle.out) (λ d. tells_front (accepted_text K) b.out a.out status d.1))
+    on_check f b a status (λ K. IsFrontOf (accepted_text K) b.out a.out) r
+    (λ K name idle. idle_front (accepted_text K) b.out a.out idle.out) (λ K t. tells_front (accepted_text K) b.out a.out status t)
 
 pub ran_check_completes : (f : Option Form) (b a : Moment) (status : Status) → Ran f b a status → (Rose b.shelf.faults a.shelf.faults → ⊥) → (Rose b.out.faults a.out.faults → ⊥)
-    → IfSome (file_shown b.shelf.files (file_checked f)) (λ file. length file ≤ max_file → (K : List Bound) → Accepts file K → IsDoneOrMemory status)
+    → IfChecks f b.shelf.files (λ file. length file ≤ max_file → IfAccepted file (λ K. IsOrMemory status Done))
 ran_check_completes f b a status r shelf out =
-    for_check f b.shelf.files (λ file. length file ≤ max_file → (K : List Bound) → Accepts file K → IsDoneOrMemory status)
+    for_check f b.shelf.files (λ file. length file ≤ max_file → IfAccepted file (λ K. IsOrMemory status Done))
     (λ name file is shown short K accepts.
     either (checking name) b a status file K _ shown accepts (subst (λ (x : Option Form). Ran x b a status) is r)
     (λ idle. inr (only_memory name b.shelf a.shelf status file K shown accepts short shelf idle.why)) (λ d. tells_complete (accepted_text K) b.out a.out status out d.1))
@@ -343,51 +374,42 @@ ran_check_completes f b a status r shelf out =
 -- ---- runs over generated lines
 
 pub ran_generated : (f : Option Form) (b a : Moment) (status : Status) → Ran f b a status → status ≡ Done
-    → IfSome (file_shown b.shelf.files (file_generated f)) (λ file. (K : List Bound) → Accepts file K → Grew b.out a.out (summary_text (lines_generated f) K))
+    → IfGenerates f b.shelf.files (λ number file. IfAccepted file (λ K. Grew b.out a.out (summary_text number K)))
 ran_generated f b a status r so =
-    for_generated f b.shelf.files (λ number file. (K : List Bound) → Accepts file K → Grew b.out a.out (summary_text number K))
-    (λ number name file is shown K accepts.
-    either (generating number name) b a Done file K _ shown accepts (subst (Ran (Some (generating number name)) b a) so (subst (λ (x : Option Form). Ran x b a status) is r)) (λ idle. absurd idle.why) (λ d. d.1.0))
+    on_generated f b a Done (λ number K. Grew b.out a.out (summary_text number K)) (subst (Ran f b a) so r) (λ number K name idle. absurd idle.why) (λ number K g t. t.0)
 
 pub ran_generated_front : (f : Option Form) (b a : Moment) (status : Status) → Ran f b a status
-    → IfSome (file_shown b.shelf.files (file_generated f)) (λ file. (K : List Bound) → Accepts file K → IsFrontOf (summary_text (lines_generated f) K) b.out a.out)
+    → IfGenerates f b.shelf.files (λ number file. IfAccepted file (λ K. IsFrontOf (summary_text number K) b.out a.out))
 ran_generated_front f b a status r =
-    for_generated f b.shelf.files (λ number file. (K : List Bound) → Accepts file K → IsFrontOf (summary_text number K) b.out a.out)
-    (λ number name file is shown K accepts.
-    either (generating number name) b a status file K _ shown accepts (subst (λ (x : Option Form). Ran x b a status) is r)
-    (λ idle. idle_front (summary_text number K) b.out a.out idle.out) (λ d. tells_front (summary_text number K) b.out a.out status d.1))
+    on_generated f b a status (λ number K. IsFrontOf (summary_text number K) b.out a.out) r
+    (λ number K name idle. idle_front (summary_text number K) b.out a.out idle.out) (λ number K g t. tells_front (summary_text number K) b.out a.out status t)
 
 pub ran_generated_completes : (f : Option Form) (b a : Moment) (status : Status) → Ran f b a status → (Rose b.shelf.faults a.shelf.faults → ⊥) → (Rose b.out.faults a.out.faults → ⊥)
-    → IfSome (file_shown b.shelf.files (file_generated f)) (λ file. length file ≤ max_file → (K : List Bound) → Accepts file K → IsDoneOrMemory status)
+    → IfGenerates f b.shelf.files (λ number file. length file ≤ max_file → IfAccepted file (λ K. IsOrMemory status Done))
 ran_generated_completes f b a status r shelf out =
-    for_generated f b.shelf.files (λ number file. length file ≤ max_file → (K : List Bound) → Accepts file K → IsDoneOrMemory status)
+    for_generated f b.shelf.files (λ number file. length file ≤ max_file → IfAccepted file (λ K. IsOrMemory status Done))
     (λ number name file is shown short K accepts.
     either (generating number name) b a status file K _ shown accepts (subst (λ (x : Option Form). Ran x b a status) is r)
     (λ idle. inr (only_memory name b.shelf a.shelf status file K shown accepts short shelf idle.why)) (λ d. tells_complete (summary_text number K) b.out a.out status out d.1))
 
 idle_steps : (i i' : InputSide) (n : ℕ) → i' ≡ i → i'.steps ≤ raised i.steps n
-idle_steps i i' n same = omega (arith, ap (λ (p : InputSide). p.steps) same)
+idle_steps i i' n same = subst (λ (p : InputSide). p.steps ≤ raised i.steps n) (sym same) (raised_none i.steps n)
 
 pub ran_generated_within : (f : Option Form) (b a : Moment) (status : Status) → Ran f b a status
-    → IfSome (file_shown b.shelf.files (file_generated f)) (λ file. (K : List Bound) → Accepts file K → a.input.steps ≤ raised b.input.steps (allowed (job Any K) (generated (lines_generated f))))
+    → IfGenerates f b.shelf.files (λ number file. IfAccepted file (λ K. a.input.steps ≤ raised b.input.steps (allowed (job Any K) (generated number))))
 ran_generated_within f b a status r =
-    for_generated f b.shelf.files (λ number file. (K : List Bound) → Accepts file K → a.input.steps ≤ raised b.input.steps (allowed (job Any K) (generated number)))
-    (λ number name file is shown K accepts.
-    either (generating number name) b a status file K _ shown accepts (subst (λ (x : Option Form). Ran x b a status) is r)
-    (λ idle. idle_steps b.input a.input (allowed (job Any K) (generated number)) idle.input) (λ d. d.0.costs))
+    on_generated f b a status (λ number K. a.input.steps ≤ raised b.input.steps (allowed (job Any K) (generated number))) r
+    (λ number K name idle. idle_steps b.input a.input (allowed (job Any K) (generated number)) idle.input) (λ number K g t. g.costs)
 
 -- ---- refusals
-
-abbrev pub IsThisOrMemory : Status → ℕ → FileKind → Type 0
-IsThisOrMemory status k kind = (status ≡ Refused k kind) ⊎ (status ≡ Memory)
 
 same_refusal : (k n : ℕ) (kind other : FileKind) → ◌≡◌ {A = ℕ × FileKind} (k, kind) (n, other) → Refused k kind ≡ Refused n other
 same_refusal k n kind other is = ap (λ (e : ℕ × FileKind). Refused e.0 e.1) is
 
 this_refusal : (name : List ℕ) (s s' : ShelfSide) (status : Status) (file : List ℕ) (n : ℕ) (other : FileKind) → file_shown s.files (Some name) ≡ Some file → length file ≤ max_file → Refuses file n other → (Rose s.faults s'.faults → ⊥)
-    → IsUnaccepted name s s' status → IsThisOrMemory status n other
+    → IsUnaccepted name s s' status → IsOrMemory status (Refused n other)
 this_refusal name s s' ShelfFault file n other shown short bad shelf why = absurd (shelf why.0)
-this_refusal name s s' FileTooLong file n other shown short bad shelf why = absurd (omega (arith, short, long_file s.files name file shown why.0))
+this_refusal name s s' FileTooLong file n other shown short bad shelf why = absurd (omega (arith, short, long_file s.files name file s'.left shown why.0))
 this_refusal name s s' (Refused k kind) file n other shown short bad shelf why = inl (same_refusal k n kind other (one_refusal file k n kind other (refused_as name s s' k kind file shown why).1 bad))
 this_refusal name s s' Memory file n other shown short bad shelf why = inr refl
 this_refusal name s s' Done file n other shown short bad shelf why = absurd why
@@ -397,7 +419,7 @@ this_refusal name s s' WriteFault file n other shown short bad shelf why = absur
 this_refusal name s s' InputLimit file n other shown short bad shelf why = absurd why
 
 pub ran_refuses : (f : Option Form) (b a : Moment) (status : Status) → Ran f b a status → (Rose b.shelf.faults a.shelf.faults → ⊥)
-    → IfSome (file_shown b.shelf.files (file_named f)) (λ file. length file ≤ max_file → (n : ℕ) (other : FileKind) → Refuses file n other → IsThisOrMemory status n other)
+    → IfNames f b.shelf.files (λ file. length file ≤ max_file → (n : ℕ) (other : FileKind) → Refuses file n other → IsOrMemory status (Refused n other))
 ran_refuses None b a status r shelf = by_some (file_shown b.shelf.files None) _ (λ file shown. absurd (no_name b.shelf.files file shown))
 ran_refuses (Some f) b a status (inl idle) shelf =
     by_some (file_shown b.shelf.files (Some (name_in f))) _ (λ file shown short n other bad. this_refusal (name_in f) b.shelf a.shelf status file n other shown short bad shelf idle.why)
@@ -406,29 +428,36 @@ ran_refuses (Some f) b a status (inr d) shelf =
 
 -- a refusal is that of the file
 pub ran_refused : (f : Option Form) (b a : Moment) (status : Status) → Ran f b a status → (k : ℕ) (kind : FileKind) → status ≡ Refused k kind
-    → (a.shelf.faults ≡ b.shelf.faults) × IfSome (file_shown b.shelf.files (file_named f)) (λ file. (length file ≤ max_file) × Refuses file k kind)
+    → (a.shelf.faults ≡ b.shelf.faults) × IfNames f b.shelf.files (λ file. (length file ≤ max_file) × Refuses file k kind)
 ran_refused None b a status r k kind is = absurd (cc (r.0, is))
 ran_refused (Some f) b a status r k kind is = by_refusal (subst (Ran (Some f) b a) is r)
   where
-    by_refusal : Ran (Some f) b a (Refused k kind) → (a.shelf.faults ≡ b.shelf.faults) × IfSome (file_shown b.shelf.files (Some (name_in f))) (λ file. (length file ≤ max_file) × Refuses file k kind)
+    by_refusal : Ran (Some f) b a (Refused k kind) → (a.shelf.faults ≡ b.shelf.faults) × IfNames (Some f) b.shelf.files (λ file. (length file ≤ max_file) × Refuses file k kind)
     by_refusal (inl idle) = (idle.why.holds.no_fault, by_some (file_shown b.shelf.files (Some (name_in f))) _ (λ file shown. refused_as (name_in f) b.shelf a.shelf k kind file shown idle.why))
     by_refusal (inr d) = absurd (not_before f d.statements b.input a.input b.out a.out (Refused k kind) d.does tt)
 
 -- ---- files that are too long or absent
 
 pub ran_too_long : (f : Option Form) (b a : Moment) (status : Status) → Ran f b a status → status ≡ FileTooLong
-    → (a.shelf.faults ≡ b.shelf.faults) × IfSome (file_shown b.shelf.files (file_named f)) (λ file. max_file < length file)
+    → (a.shelf.faults ≡ b.shelf.faults) × IfNames f b.shelf.files (λ file. max_file < length file)
 ran_too_long None b a status r is = absurd (cc (r.0, is))
 ran_too_long (Some f) b a status r is = by_length (subst (Ran (Some f) b a) is r)
   where
-    by_length : Ran (Some f) b a FileTooLong → (a.shelf.faults ≡ b.shelf.faults) × IfSome (file_shown b.shelf.files (Some (name_in f))) (λ file. max_file < length file)
-    by_length (inl idle) = (idle.why.1, by_some (file_shown b.shelf.files (Some (name_in f))) _ (λ file shown. long_file b.shelf.files (name_in f) file shown idle.why.0))
+    by_length : Ran (Some f) b a FileTooLong → (a.shelf.faults ≡ b.shelf.faults) × IfNames (Some f) b.shelf.files (λ file. max_file < length file)
+    by_length (inl idle) = (idle.why.1, by_some (file_shown b.shelf.files (Some (name_in f))) _ (λ file shown. long_file b.shelf.files (name_in f) file a.shelf.left shown idle.why.0))
     by_length (inr d) = absurd (not_before f d.statements b.input a.input b.out a.out FileTooLong d.does tt)
 
-abbrev pub IsLongOrMemory : Status → Type 0
-IsLongOrMemory status = (status ≡ FileTooLong) ⊎ (status ≡ Memory)
+-- no more of it was read than the first byte past the limit
+pub ran_too_long_reads : (f : Option Form) (b a : Moment) (status : Status) → Ran f b a status → status ≡ FileTooLong
+    → IfNames f b.shelf.files (λ file. IfSome a.shelf.left (λ rest. length file ≡ max_file + 1 + length rest))
+ran_too_long_reads None b a status r is = absurd (cc (r.0, is))
+ran_too_long_reads (Some f) b a status r is = by_length (subst (Ran (Some f) b a) is r)
+  where
+    by_length : Ran (Some f) b a FileTooLong → IfNames (Some f) b.shelf.files (λ file. IfSome a.shelf.left (λ rest. length file ≡ max_file + 1 + length rest))
+    by_length (inl idle) = by_some (file_shown b.shelf.files (Some (name_in f))) _ (λ file shown. by_some a.shelf.left _ (λ rest left. left_of file a.shelf.left rest left (past_limit b.shelf.files (name_in f) file a.shelf.left shown idle.why.0)))
+    by_length (inr d) = absurd (not_before f d.statements b.input a.input b.out a.out FileTooLong d.does tt)
 
-too_long_alone : (name : List ℕ) (s s' : ShelfSide) (status : Status) (file : List ℕ) → file_shown s.files (Some name) ≡ Some file → max_file < length file → (Rose s.faults s'.faults → ⊥) → IsUnaccepted name s s' status → IsLongOrMemory status
+too_long_alone : (name : List ℕ) (s s' : ShelfSide) (status : Status) (file : List ℕ) → file_shown s.files (Some name) ≡ Some file → max_file < length file → (Rose s.faults s'.faults → ⊥) → IsUnaccepted name s s' status → IsOrMemory status FileTooLong
 too_long_alone name s s' ShelfFault file shown long shelf why = absurd (shelf why.0)
 too_long_alone name s s' FileTooLong file shown long shelf why = inl refl
 too_long_alone name s s' (Refused k kind) file shown long shelf why = absurd (omega (arith, long, (refused_as name s s' k kind file shown why).0))
@@ -440,15 +469,12 @@ too_long_alone name s s' WriteFault file shown long shelf why = absurd why
 too_long_alone name s s' InputLimit file shown long shelf why = absurd why
 
 pub ran_finds_too_long : (f : Option Form) (b a : Moment) (status : Status) → Ran f b a status → (Rose b.shelf.faults a.shelf.faults → ⊥)
-    → IfSome (file_shown b.shelf.files (file_named f)) (λ file. max_file < length file → IsLongOrMemory status)
+    → IfNames f b.shelf.files (λ file. max_file < length file → IsOrMemory status FileTooLong)
 ran_finds_too_long None b a status r shelf = by_some (file_shown b.shelf.files None) _ (λ file shown. absurd (no_name b.shelf.files file shown))
 ran_finds_too_long (Some f) b a status (inl idle) shelf =
     by_some (file_shown b.shelf.files (Some (name_in f))) _ (λ file shown long. too_long_alone (name_in f) b.shelf a.shelf status file shown long shelf idle.why)
 ran_finds_too_long (Some f) b a status (inr d) shelf =
     by_some (file_shown b.shelf.files (Some (name_in f))) _ (λ file shown long. absurd (omega (arith, long, accepted_short (name_in f) b.shelf a.shelf d.statements file shown d.accepted)))
-
-abbrev pub IsFaultOrMemory : Status → Type 0
-IsFaultOrMemory status = (status ≡ ShelfFault) ⊎ (status ≡ Memory)
 
 no_file : (files : Option Files) (fs : Files) (name file : List ℕ) → files ≡ Some fs → fs name ≡ None → IsFile files name file → ⊥
 no_file None fs name file is none here = absurd (cc is)
@@ -457,9 +483,13 @@ no_file (Some gs) fs name file is none here =
     let told : gs name ≡ fs name = ap (λ (x : Files). x name) same in
     absurd (cc (told, none, here))
 
-absent_alone : (name : List ℕ) (s s' : ShelfSide) (status : Status) (fs : Files) → s.files ≡ Some fs → fs name ≡ None → IsUnaccepted name s s' status → IsFaultOrMemory status
+no_long_file : (files : Option Files) (fs : Files) (name : List ℕ) (left : Option (List ℕ)) → files ≡ Some fs → fs name ≡ None → IsTooLong files name left → ⊥
+no_long_file None fs name left is none long = absurd (cc is)
+no_long_file (Some gs) fs name left is none long = no_file (Some gs) fs name long.0 is none long.1
+
+absent_alone : (name : List ℕ) (s s' : ShelfSide) (status : Status) (fs : Files) → s.files ≡ Some fs → fs name ≡ None → IsUnaccepted name s s' status → IsOrMemory status ShelfFault
 absent_alone name s s' ShelfFault fs is none why = inl refl
-absent_alone name s s' FileTooLong fs is none why = absurd (no_file s.files fs name why.0.0 is none why.0.1)
+absent_alone name s s' FileTooLong fs is none why = absurd (no_long_file s.files fs name s'.left is none why.0)
 absent_alone name s s' (Refused k kind) fs is none why = absurd (no_file s.files fs name why.file is none why.holds.is)
 absent_alone name s s' Memory fs is none why = inr refl
 absent_alone name s s' Done fs is none why = absurd why
@@ -469,7 +499,7 @@ absent_alone name s s' WriteFault fs is none why = absurd why
 absent_alone name s s' InputLimit fs is none why = absurd why
 
 pub ran_absent : (f : Option Form) (b a : Moment) (status : Status) → Ran f b a status
-    → IfSome b.shelf.files (λ files. IfSome (file_named f) (λ name. files name ≡ None → IsFaultOrMemory status))
+    → IfSome b.shelf.files (λ files. IfSome (file_named f) (λ name. files name ≡ None → IsOrMemory status ShelfFault))
 ran_absent None b a status r = by_some b.shelf.files _ (λ files is. tt)
 ran_absent (Some f) b a status (inl idle) = by_some b.shelf.files _ (λ files is none. absent_alone (name_in f) b.shelf a.shelf status files is none idle.why)
 ran_absent (Some f) b a status (inr d) = by_some b.shelf.files _ (λ files is none. absurd (no_file b.shelf.files files (name_in f) d.accepted.file is none d.accepted.holds.is))
@@ -558,24 +588,18 @@ ran_memory (Some f) b a status r is = by_end (subst (Ran (Some f) b a) is r)
 
 -- ---- the limit of an input
 
-abbrev pub TookMost : Moment → Moment → Type 0
-TookMost b a = (bytes : List ℕ) × Consumes b.input.left a.input.left bytes × (length bytes ≡ max_input)
-
-took_most : (f : Form) (K : List Bound) (b a : Moment) → Does f K b.input a.input b.out a.out InputLimit → (a.input.faults ≡ b.input.faults) × (a.out.faults ≡ b.out.faults) × TookMost b a
+took_most : (f : Form) (K : List Bound) (b a : Moment) → Does f K b.input a.input b.out a.out InputLimit → (a.input.faults ≡ b.input.faults) × (a.out.faults ≡ b.out.faults) × TookMost b.input.left a.input.left
 took_most (running keys name) K b a d = (d.1.why.2, d.1.why.3, (d.1.bytes, d.1.consumed, d.1.why.1))
 took_most (checking name) K b a d = absurd d.1
 took_most (generating number name) K b a d = absurd d.1
 
-pub ran_input_limit : (f : Option Form) (b a : Moment) (status : Status) → Ran f b a status → status ≡ InputLimit → (a.input.faults ≡ b.input.faults) × (a.out.faults ≡ b.out.faults) × TookMost b a
+pub ran_input_limit : (f : Option Form) (b a : Moment) (status : Status) → Ran f b a status → status ≡ InputLimit → (a.input.faults ≡ b.input.faults) × (a.out.faults ≡ b.out.faults) × TookMost b.input.left a.input.left
 ran_input_limit None b a status r is = absurd (cc (r.0, is))
 ran_input_limit (Some f) b a status r is = by_limit (subst (Ran (Some f) b a) is r)
   where
-    by_limit : Ran (Some f) b a InputLimit → (a.input.faults ≡ b.input.faults) × (a.out.faults ≡ b.out.faults) × TookMost b a
+    by_limit : Ran (Some f) b a InputLimit → (a.input.faults ≡ b.input.faults) × (a.out.faults ≡ b.out.faults) × TookMost b.input.left a.input.left
     by_limit (inl idle) = absurd idle.why
     by_limit (inr d) = took_most f d.statements b a d.does
-
-abbrev pub IsLimitOrMemory : Status → Type 0
-IsLimitOrMemory status = (status ≡ InputLimit) ⊎ (status ≡ Memory)
 
 -- where nothing is taken, the limit is not reached
 same_below : (i i' : InputSide) (all rest : List ℕ) → i'.left ≡ i.left → i.left ≡ Some all → i'.left ≡ Some rest → length all ≡ length rest + max_input → ⊥
@@ -591,7 +615,7 @@ taken a b all rest bytes is is' c =
     ap length t.2 ∙ length-append bytes t.0 ∙ ap (λ (l : List ℕ). length bytes + length l) same
 
 limit_by_why : (K : Job) (i i' : InputSide) (o : OutputSide) (o' : PrintState) (status : Status) (all rest : List ℕ) → (s : Streamed K i i' o o' status) → i.left ≡ Some all → i'.left ≡ Some rest
-    → length all ≡ length rest + max_input → (Rose i.faults i'.faults → ⊥) → (Rose o.faults o'.out.faults → ⊥) → IsLimitOrMemory status
+    → length all ≡ length rest + max_input → (Rose i.faults i'.faults → ⊥) → (Rose o.faults o'.out.faults → ⊥) → IsOrMemory status InputLimit
 limit_by_why K i i' o o' Done all rest s is is' len read write = absurd (omega (arith, s.why.2, taken i.left i'.left all rest s.bytes is is' s.consumed, len))
 limit_by_why K i i' o o' ReadFault all rest s is is' len read write = absurd (read s.why.1)
 limit_by_why K i i' o o' WriteFault all rest s is is' len read write = absurd (write s.why.1)
@@ -603,19 +627,19 @@ limit_by_why K i i' o o' FileTooLong all rest s is is' len read write = absurd s
 limit_by_why K i i' o o' (Refused k kind) all rest s is is' len read write = absurd s.why
 
 does_limit : (f : Form) (K : List Bound) (i i' : InputSide) (o o' : OutputSide) (status : Status) (all rest : List ℕ) → Does f K i i' o o' status → i.left ≡ Some all → i'.left ≡ Some rest
-    → length all ≡ length rest + max_input → (Rose i.faults i'.faults → ⊥) → (Rose o.faults o'.faults → ⊥) → IsLimitOrMemory status
+    → length all ≡ length rest + max_input → (Rose i.faults i'.faults → ⊥) → (Rose o.faults o'.faults → ⊥) → IsOrMemory status InputLimit
 does_limit (running keys name) K i i' o o' status all rest d is is' len read write = limit_by_why (job keys K) i i' o (record { out = o'; page = d.0 }) status all rest d.1 is is' len read write
 does_limit (checking name) K i i' o o' status all rest d is is' len read write = absurd (same_below i i' all rest (ap (λ (p : InputSide). p.left) d.0) is is' len)
 does_limit (generating number name) K i i' o o' status all rest d is is' len read write = absurd (same_below i i' all rest d.0.left is is' len)
 
 ends_limit : (f : Option Form) (b a : Moment) (status : Status) (all rest : List ℕ) → Ran f b a status → b.input.left ≡ Some all → a.input.left ≡ Some rest
-    → length all ≡ length rest + max_input → (Rose b.input.faults a.input.faults → ⊥) → (Rose b.out.faults a.out.faults → ⊥) → IsLimitOrMemory status
+    → length all ≡ length rest + max_input → (Rose b.input.faults a.input.faults → ⊥) → (Rose b.out.faults a.out.faults → ⊥) → IsOrMemory status InputLimit
 ends_limit None b a status all rest r is is' len read write = absurd (same_below b.input a.input all rest (ap (λ (m : Moment). m.input.left) r.1) is is' len)
 ends_limit (Some f) b a status all rest (inl idle) is is' len read write = absurd (same_below b.input a.input all rest (ap (λ (p : InputSide). p.left) idle.input) is is' len)
 ends_limit (Some f) b a status all rest (inr d) is is' len read write = does_limit f d.statements b.input a.input b.out a.out status all rest d.does is is' len read write
 
 -- where as many bytes were taken as an input may have, and no call failed, the run stops at the limit
 pub ran_finds_limit : (f : Option Form) (b a : Moment) (status : Status) → Ran f b a status → (Rose b.input.faults a.input.faults → ⊥) → (Rose b.out.faults a.out.faults → ⊥)
-    → IfSome b.input.left (λ all. IfSome a.input.left (λ rest. length all ≡ length rest + max_input → IsLimitOrMemory status))
+    → IfSome b.input.left (λ all. IfSome a.input.left (λ rest. length all ≡ length rest + max_input → IsOrMemory status InputLimit))
 ran_finds_limit f b a status r read write =
     by_some b.input.left _ (λ all is. by_some a.input.left _ (λ rest is' len. ends_limit f b a status all rest r is is' len read write))

@@ -1,5 +1,5 @@
 -- Commands that tell a text.
-use Rattle.std.proofs.Common.{◌≡◌, ◌≢◌, ◌⊎◌, inl, inr, ℕ, ◌+◌, ◌≤◌, List, [], ◌∷◌, ◌++◌, length, map, Option, None, Some, Result, Ok, Err, IsOk, codes, decimal, refl, sym, ◌∙◌, ap, subst, arith}
+use Rattle.std.proofs.Common.{◌≡◌, ◌≢◌, ◌⊎◌, inl, inr, ℕ, ◌≤◌, List, [], ◌∷◌, ◌++◌, length, map, Option, None, Some, Result, Ok, Err, IsOk, codes, decimal, refl, sym, ◌∙◌, ap, subst, arith}
 use Rattle.std.proofs.lemmas.List.{append-nil, length-map}
 use Rattle.sj_base.specs.Outside.{raised}
 use Rattle.sj_bind.specs.Bound.{Bound}
@@ -8,17 +8,18 @@ use Rattle.sj_bind.specs.declared.bound.Bound.{Bound as BoundHeld}
 use Rattle.sj_generated.specs.Lines.{most_lines, generated}
 use Rattle.sj_generated.proofs.Lengths.{generated_short}
 use Rattle.sj_page.specs.Sides.{OutputSide, Grew, Wrote, joined}
-use Rattle.sj_page.specs.Pages.{PageSeen, PrintState}
+use Rattle.sj_page.specs.Pages.{PageSeen}
 use Rattle.sqljson.specs.declared.job.Keys.TheVariants.{Any}
 use Rattle.sqljson.specs.declared.status.Status.{Status}
 use Rattle.sqljson.specs.declared.status.Status.TheVariants.{Done, Memory, WriteFault}
-use Rattle.sqljson.specs.Job.{Job, job}
+use Rattle.sqljson.specs.Job.{job}
 use Rattle.sqljson.specs.Input.{InputSide}
 use Rattle.sqljson.specs.Output.{asked, rows_in, errors_in, output, allowed}
 use Rattle.sqljson.specs.Stream.{Streamed}
 use Rattle.sqljson.specs.Summary.{capped, counts_text, summary_text}
 use Rattle.sqljson.specs.File.{ShelfSide, checking, generating}
-use Rattle.sqljson.specs.Ran.{moment, Accepted, accepted_text, Tells, RanGenerated, Ran}
+use Rattle.sqljson.specs.Ran.{moment, Accepted, accepted_text, Tells, Ran}
+use Rattle.sqljson.proofs.Steps.{counted_is}
 use Rattle.sqljson.proofs.Streaming.{told}
 use Rattle.sqljson.proofs.Ending.{all_taken, streamed_complete}
 
@@ -65,7 +66,7 @@ over_lines number K lines rest steps steps' start size page status these none s 
 steps_over : (number : ℕ) (K : List Bound) (rest : List ℕ) (steps steps' size : ℕ) (page : PageSeen) (status : Status) → OverLines number K rest steps steps' size page status → steps' ≤ raised steps (allowed (job Any K) (generated number))
 steps_over number K rest steps steps' size page status s =
     let t = told (Some (generated number)) (Some rest) (generated number) s.bytes refl s.consumed in
-    omega (arith, s.costs_of_all t.0 t.1, ap (allowed (job Any K)) t.2)
+    subst (λ (l : List ℕ). steps' ≤ raised steps (allowed (job Any K) l)) (sym t.2) (s.costs_of_all t.0 t.1)
 
 -- the numbers are those of the output
 summed : (number : ℕ) (K : List Bound) (rest : List ℕ) (steps steps' size : ℕ) (page : PageSeen) → OverLines number K rest steps steps' size page Done → counts_text number page.rows page.errors size ≡ summary_text number K
@@ -74,7 +75,7 @@ summed number K rest steps steps' size page s =
     let rows : page.rows ≡ capped (rows_in (asked (job Any K) (generated number))) = s.why.5.rows ∙ ap (λ (b : List ℕ). capped (rows_in (asked (job Any K) b))) bytes in
     let errors : page.errors ≡ capped (errors_in (asked (job Any K) (generated number))) = s.why.5.errors ∙ ap (λ (b : List ℕ). capped (errors_in (asked (job Any K) b))) bytes in
     let text : length s.text ≡ length (output (job Any K) (generated number)) = ap length (s.why.0 ∙ ap (output (job Any K)) bytes) in
-    let all : size ≡ capped (length (output (job Any K) (generated number))) = omega (arith, s.grew.number_is, text) in
+    let all : size ≡ capped (length (output (job Any K) (generated number))) = counted_is size (length s.text) s.grew.number_is ∙ ap capped text in
     ap (λ (n : ℕ). counts_text number n page.errors size) rows ∙ ap (λ (n : ℕ). counts_text number (capped (rows_in (asked (job Any K) (generated number)))) n size) errors
     ∙ ap (λ (n : ℕ). counts_text number (capped (rows_in (asked (job Any K) (generated number)))) (capped (errors_in (asked (job Any K) (generated number)))) n) all
 

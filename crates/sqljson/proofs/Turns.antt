@@ -15,7 +15,7 @@ use Rattle.sj_select.specs.declared.rows.Turn.TheVariants as turn
 use Rattle.sj_rows.specs.RowText.{row_bytes, error_bytes}
 use Rattle.sj_page.specs.Pages.{Print, PrintState, nothing, followed_by, row_print, error_print}
 use Rattle.sj_page.proofs.Printing.{Printing, same_print, printing_starts}
-use Rattle.sqljson.specs.Output.{rows_text, row_count, error_count, rows_print, asked_from, prints, cost}
+use Rattle.sqljson.specs.Output.{rows_text, row_count, error_count, rows_given, rows_print, asked_from, prints, cost_given, cost}
 
 -- ---- one answer
 
@@ -51,6 +51,16 @@ spent_on due due' steps later start whole s all = omega (arith, s.falls, s.costs
 pub spent_last : (due due' steps later start whole : ℕ) → Spends due due' steps later → raised steps due ≤ raised start whole → later ≤ raised start whole
 spent_last due due' steps later start whole s all = omega (arith, s.falls, s.costs, all)
 
+-- ---- the rows begin
+
+pub rows_start : (s : Bound) (line : Line) (left : Series (List SqlValue)) → left ≡ statement_rows s line → left ≡ rows_given s line
+unfolding rows_given
+rows_start s line left is = is
+
+pub costs_start : (s : Bound) (line : Line) (due : ℕ) → due ≡ statement_cost s line → due ≡ cost_given s line
+unfolding cost_given
+costs_start s line due is = is
+
 -- ---- the rows go to the next
 
 pub turn_row : (line k : ℕ) (old new : Seen) (t : Turn) (fields : List SqlValue) → Gives old new t → t ≡ turn.Row → fields ≡ new.row → rows_print line k old.left ≡ followed_by (row_print line k fields) (rows_print line k new.left)
@@ -73,14 +83,14 @@ begins whole left a is = subst (λ (p : Print). Printing whole p a a) (sym is) (
 -- ---- one statement
 
 pub statement_first : (P : List Bound) (i n l : ℕ) (line seen : Line) (p : Bound) → drop i P ≡ p ∷ drop (i + 1) P → seen ≡ line
-    → prints (asked_from n (drop i P) l line) ≡ followed_by (rows_print l n (statement_rows p seen)) (prints (asked_from (n + 1) (drop (i + 1) P) l line))
+    → prints (asked_from n (drop i P) l line) ≡ followed_by (rows_print l n (rows_given p seen)) (prints (asked_from (n + 1) (drop (i + 1) P) l line))
 statement_first P i n l line seen p is same =
-    ap (λ (q : List Bound). prints (asked_from n q l line)) is ∙ ap (λ (x : Line). followed_by (rows_print l n (statement_rows p x)) (prints (asked_from (n + 1) (drop (i + 1) P) l line))) (sym same)
+    ap (λ (q : List Bound). prints (asked_from n q l line)) is ∙ ap (λ (x : Line). followed_by (rows_print l n (rows_given p x)) (prints (asked_from (n + 1) (drop (i + 1) P) l line))) (sym same)
 
 pub statement_cost_first : (P : List Bound) (i n l : ℕ) (line seen : Line) (p : Bound) → drop i P ≡ p ∷ drop (i + 1) P → seen ≡ line
-    → cost (asked_from n (drop i P) l line) ≡ statement_cost p seen + cost (asked_from (n + 1) (drop (i + 1) P) l line)
+    → cost (asked_from n (drop i P) l line) ≡ cost_given p seen + cost (asked_from (n + 1) (drop (i + 1) P) l line)
 statement_cost_first P i n l line seen p is same =
-    ap (λ (q : List Bound). cost (asked_from n q l line)) is ∙ ap (λ (x : Line). statement_cost p x + cost (asked_from (n + 1) (drop (i + 1) P) l line)) (sym same)
+    ap (λ (q : List Bound). cost (asked_from n q l line)) is ∙ ap (λ (x : Line). cost_given p x + cost (asked_from (n + 1) (drop (i + 1) P) l line)) (sym same)
 
 -- ---- steps
 

@@ -1,5 +1,6 @@
 -- The input of a run, as it is seen at one moment.
 use Rattle.std.specs.Prelude.{ℕ, List, Option}
+use Rattle.sj_base.specs.declared.outside.Source.{Ghosts}
 
 -- with the steps that were counted so far
 pub record InputSide : Type 0 where
@@ -7,6 +8,6 @@ pub record InputSide : Type 0 where
   pub faults : ℕ
   pub steps : ℕ
 
--- from the members of a source
-abbrev pub input_side : {I : Type 0} → (I → Option (List ℕ)) → (I → ℕ) → I → ℕ → InputSide
-input_side left faults input steps = record { left = left input; faults = faults input; steps = steps }
+-- by what a source tells and counts
+abbrev pub input_at : {I : Type 0} → Ghosts I → I → ℕ → InputSide
+input_at tells input steps = record { left = tells.left input; faults = tells.faults input; steps = steps }

@@ -1,5 +1,5 @@
 -- What is run over the lines of an input.
-use Rattle.std.specs.Prelude.{◌<◌, ◌^◌, List, length, map, All}
+use Rattle.std.specs.Prelude.{ℕ, ◌<◌, ◌^◌, List, length, map, All}
 use Rattle.sj_bind.specs.Bound.{Bound}
 use Rattle.sj_bind.specs.Sound.{IsSound}
 use Rattle.sj_bind.specs.View.{bound_of}
@@ -18,11 +18,15 @@ job keys statements = record { keys = keys; statements = statements }
 abbrev pub job_of : JobHeld → Job
 job_of x = job x.keys (map bound_of x.statements.items)
 
+-- A file has fewer statements than this, since their numbers have 32 bits.
+abbrev pub statement_limit : ℕ
+statement_limit = 2 ^ 32
+
 -- statements as they are bound
 abbrev pub AreSound : List BoundHeld → Type 0
 AreSound statements = All (λ s. IsSound (bound_of s)) statements
 
 -- they are bound, and few enough to be numbered
 pub record IsReady (x : JobHeld) : Type 0 where
-  pub few : length x.statements.items < 2 ^ 32
+  pub few : length x.statements.items < statement_limit
   pub sound : AreSound x.statements.items

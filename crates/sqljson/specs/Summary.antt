@@ -4,12 +4,16 @@ use Rattle.sj_bind.specs.Bound.{Bound}
 use Rattle.sj_generated.specs.Lines.{generated}
 use Rattle.sj_page.specs.Sides.{joined}
 use Rattle.sqljson.specs.declared.job.Keys.TheVariants.{Any}
-use Rattle.sqljson.specs.Job.{Job, job}
-use Rattle.sqljson.specs.Output.{Asked, asked, rows_in, errors_in, output}
+use Rattle.sqljson.specs.Job.{job}
+use Rattle.sqljson.specs.Output.{asked, rows_in, errors_in, output}
+
+-- the last value of a count, which has 64 bits
+abbrev pub last_count : ℕ
+last_count = 2 ^ 64 - 1
 
 -- a count as it is told: it stays at its last value
 abbrev pub capped : ℕ → ℕ
-capped n = min n (2 ^ 64 - 1)
+capped n = min n last_count
 
 abbrev pub counts_text : ℕ → ℕ → ℕ → ℕ → List ℕ
 counts_text lines rows errors bytes =

@@ -1,8 +1,8 @@
 // The statements of the file that the words name.
-ghost use Rattle.std.specs.Prelude.{◌<◌, ◌^◌, length, map, IfOk, MatchResult};
+ghost use Rattle.std.specs.Prelude.{◌<◌, length, map, IfOk, MatchResult};
 ghost use Rattle.sj_bind.specs.View.{bound_of};
-ghost use Rattle.sqljson.specs.File.{shelf_side};
-ghost use Rattle.sqljson.specs.Job.{AreSound};
+ghost use Rattle.sqljson.specs.File.{shelf_at};
+ghost use Rattle.sqljson.specs.Job.{AreSound, statement_limit};
 ghost use Rattle.sqljson.specs.Ran.{Accepted, IsUnaccepted};
 
 use crate::file::load;
@@ -19,10 +19,10 @@ pub(crate) fn accept<H: Shelf>(
     name: &str,
     shelf: &mut H,
 ) -> Result<Vec<Bound>, Status>
-    ensures file { let old = shelf_side H.files H.faults H.quiet shelf.old in
-        let new = shelf_side H.files H.faults H.quiet shelf.new in
+    ensures file { let old = shelf_at H.Shelf shelf.old in
+        let new = shelf_at H.Shelf shelf.new in
         MatchResult result (λ statements. Accepted name.now old new (map bound_of statements.items)) (λ status. IsUnaccepted name.now old new status) }
-    ensures few { IfOk result (λ statements. length statements.items < 2 ^ 32) }
+    ensures few { IfOk result (λ statements. length statements.items < statement_limit) }
     ensures sound { IfOk result (λ statements. AreSound statements.items) }
 {
     let file = match load(alloc, name, shelf) {

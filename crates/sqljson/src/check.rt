@@ -1,9 +1,9 @@
 // The check of a file.
 ghost use Rattle.std.specs.Prelude.{◌≡◌, ◌∷◌, [], Some, codes, decimal};
-ghost use Rattle.sj_page.specs.Sides.{output_side, Wrote, joined};
-ghost use Rattle.sqljson.specs.File.{checking, shelf_side};
+ghost use Rattle.sj_page.specs.Sides.{Wrote, joined};
+ghost use Rattle.sqljson.specs.File.{checking, shelf_at};
 ghost use Rattle.sqljson.specs.Input.{InputSide};
-ghost use Rattle.sqljson.specs.Ran.{IsBefore, Ran, moment};
+ghost use Rattle.sqljson.specs.Ran.{IsBefore, Ran, moment, out_at};
 
 use crate::accept::accept;
 use crate::status::Status;
@@ -14,7 +14,7 @@ use std::alloc::Global;
 
 /// Writes that so many statements are accepted.
 fn write_count<O: Sink>(out: &mut O, count: usize) -> Result<(), Failed>
-    ensures { Wrote (output_side O.taken O.size O.faults out.old) (output_side O.taken O.size O.faults out.new)
+    ensures { Wrote (out_at O.Sink out.old) (out_at O.Sink out.new)
         (joined (codes "accepted " ∷ decimal count ∷ codes "\n" ∷ [])) result }
 {
     let mut buffer = Buffer::new();
@@ -30,8 +30,8 @@ pub(crate) fn check_file<H: Shelf, O: Sink>(
     out: &mut O,
 ) -> Status
     ensures ran { (from : InputSide) → Ran (Some (checking name.now))
-        (moment (shelf_side H.files H.faults H.quiet shelf.old) from (output_side O.taken O.size O.faults out.old))
-        (moment (shelf_side H.files H.faults H.quiet shelf.new) from (output_side O.taken O.size O.faults out.new)) result }
+        (moment (shelf_at H.Shelf shelf.old) from (out_at O.Sink out.old))
+        (moment (shelf_at H.Shelf shelf.new) from (out_at O.Sink out.new)) result }
     ensures untouched { IsBefore result → out.new ≡ out.old }
 {
     let statements = match accept(alloc, name, shelf) {

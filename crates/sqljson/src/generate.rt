@@ -1,10 +1,10 @@
 // The run over generated lines.
 ghost use Rattle.std.specs.Prelude.{◌≡◌, ◌≤◌, ℕ, List, Option, Some};
 ghost use Rattle.sj_generated.specs.Lines.{most_lines};
-ghost use Rattle.sj_page.specs.Sides.{output_side, Wrote};
-ghost use Rattle.sqljson.specs.File.{generating, shelf_side};
+ghost use Rattle.sj_page.specs.Sides.{Wrote};
+ghost use Rattle.sqljson.specs.File.{generating, shelf_at};
 ghost use Rattle.sqljson.specs.Summary.{counts_text};
-ghost use Rattle.sqljson.specs.Ran.{IsBefore, Ran, moment};
+ghost use Rattle.sqljson.specs.Ran.{IsBefore, Ran, moment, out_at};
 
 use crate::accept::accept;
 use crate::job::{Job, Keys};
@@ -18,7 +18,7 @@ use std::alloc::Global;
 
 /// Writes how many lines, rows, error rows and bytes there are.
 fn write_summary<O: Sink>(out: &mut O, lines: u32, counts: Counts, bytes: u64) -> Result<(), Failed>
-    ensures { Wrote (output_side O.taken O.size O.faults out.old) (output_side O.taken O.size O.faults out.new)
+    ensures { Wrote (out_at O.Sink out.old) (out_at O.Sink out.new)
         (counts_text lines counts.rows counts.errors bytes) result }
 {
     let mut line_digits = Buffer::new();
@@ -53,8 +53,8 @@ pub(crate) fn run_generated<H: Shelf, O: Sink, L: Ledger>(
 ) -> Status
     requires { number ≤ most_lines }
     ensures ran { (left : Option (List ℕ)) (faults : ℕ) → Ran (Some (generating number name.now))
-        (moment (shelf_side H.files H.faults H.quiet shelf.old) (record { left = left; faults = faults; steps = steps.old }) (output_side O.taken O.size O.faults out.old))
-        (moment (shelf_side H.files H.faults H.quiet shelf.new) (record { left = left; faults = faults; steps = steps.new }) (output_side O.taken O.size O.faults out.new)) result }
+        (moment (shelf_at H.Shelf shelf.old) (record { left = left; faults = faults; steps = steps.old }) (out_at O.Sink out.old))
+        (moment (shelf_at H.Shelf shelf.new) (record { left = left; faults = faults; steps = steps.new }) (out_at O.Sink out.new)) result }
     ensures untouched { IsBefore result → (out.new ≡ out.old) × (steps.new ≡ steps.old) }
 {
     let statements = match accept(alloc, name, shelf) {

@@ -1,14 +1,16 @@
 use Rattle.std.proofs.Common.{rules, ap, arith, sym, ◌∙◌}
+use Rattle.sj_bind.specs.View.{bound_of}
+use Rattle.sj_select.specs.Line.{line_of}
 use Rattle.sj_page.proofs.Printing.{printing_more, printing_done, printing_ends, printing_stops, printing_memory}
 use Rattle.sj_page.specs.Pages.{followed_by, row_print}
 use Rattle.sqljson.specs.Output.{rows_print}
-use Rattle.sqljson.proofs.Turns.{turn_row, turn_less, turn_end, turn_raised, begins, spent_on, spent_last}
+use Rattle.sqljson.proofs.Turns.{rows_start, costs_start, turn_row, turn_less, turn_end, turn_raised, begins, spent_on, spent_last}
 use Rattle.sqljson.proofs.rows.print_statement.Goals as goal
 
 pub loop-turn-init : goal.loop-turn-init
 loop-turn-init g c = record {
-  printing = begins _ _ _ (ap (rows_print c.args.number c.args.statement) c.rewind.ensures.left);
-  costs = omega (arith, c.rewind.ensures.due);
+  printing = begins _ _ _ (ap (rows_print c.args.number c.args.statement) (rows_start (bound_of c.args.rows.now.bound) (line_of c.args.line) c.rewind.new.self.left c.rewind.ensures.left));
+  costs = omega (arith, costs_start (bound_of c.args.rows.now.bound) (line_of c.args.line) c.rewind.new.self.due c.rewind.ensures.due);
   bound = c.rewind.ensures.bound;
 }
 
