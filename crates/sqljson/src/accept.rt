@@ -3,12 +3,12 @@ ghost use Rattle.std.specs.Prelude.{◌<◌, length, map, IfOk, MatchResult};
 ghost use Rattle.sj_bind.specs.View.{bound_of};
 ghost use Rattle.sqljson.specs.File.{shelf_at};
 ghost use Rattle.sqljson.specs.Job.{AreSound, statement_limit};
-ghost use Rattle.sqljson.specs.Ran.{Accepted, IsUnaccepted};
+ghost use Rattle.sqljson.specs.Ran.{Accepted, AcceptedSoMany, IsUnaccepted};
 
 use crate::file::load;
 use crate::job::FileRefusal;
 use crate::status::Status;
-use crate::verdict::statements_of;
+use crate::verdict::{count_of, statements_of};
 use sj_base::Shelf;
 use sj_bind::Bound;
 use std::alloc::Global;
@@ -31,6 +31,27 @@ pub(crate) fn accept<H: Shelf>(
     };
     match statements_of(alloc, file.as_slice()) {
         Ok(statements) => Ok(statements),
+        Err(FileRefusal::Memory) => Err(Status::Memory),
+        Err(FileRefusal::Refused(k, kind)) => Err(Status::Refused(k, kind)),
+    }
+}
+
+/// The same, but for the statements: it counts them, and keeps none.
+pub(crate) fn accept_count<H: Shelf>(
+    alloc: Global,
+    name: &str,
+    shelf: &mut H,
+) -> Result<u32, Status>
+    ensures { let old = shelf_at H.Shelf shelf.old in
+        let new = shelf_at H.Shelf shelf.new in
+        MatchResult result (λ count. AcceptedSoMany name.now old new count) (λ status. IsUnaccepted name.now old new status) }
+{
+    let file = match load(alloc, name, shelf) {
+        Ok(file) => file,
+        Err(status) => return Err(status),
+    };
+    match count_of(alloc, file.as_slice()) {
+        Ok(count) => Ok(count),
         Err(FileRefusal::Memory) => Err(Status::Memory),
         Err(FileRefusal::Refused(k, kind)) => Err(Status::Refused(k, kind)),
     }

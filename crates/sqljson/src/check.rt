@@ -5,7 +5,7 @@ ghost use Rattle.sqljson.specs.File.{checking, shelf_at};
 ghost use Rattle.sqljson.specs.Input.{InputSide};
 ghost use Rattle.sqljson.specs.Ran.{IsBefore, Ran, moment, out_at};
 
-use crate::accept::accept;
+use crate::accept::accept_count;
 use crate::status::Status;
 use itoa::Buffer;
 use sj_base::{Failed, Shelf, Sink};
@@ -13,7 +13,7 @@ use sj_page::write_parts;
 use std::alloc::Global;
 
 /// Writes that so many statements are accepted.
-fn write_count<O: Sink>(out: &mut O, count: usize) -> Result<(), Failed>
+fn write_count<O: Sink>(out: &mut O, count: u32) -> Result<(), Failed>
     ensures { Wrote (out_at O.Sink out.old) (out_at O.Sink out.new)
         (joined (codes "accepted " ∷ decimal count ∷ codes "\n" ∷ [])) result }
 {
@@ -22,7 +22,7 @@ fn write_count<O: Sink>(out: &mut O, count: usize) -> Result<(), Failed>
     write_parts(out, &[b"accepted ".as_slice(), digits, b"\n".as_slice()])
 }
 
-/// Checks the statements of a file, and tells how many they are. It reads no input.
+/// Checks the statements of a file one after the other, and tells how many they are. It reads no input.
 pub(crate) fn check_file<H: Shelf, O: Sink>(
     alloc: Global,
     name: &str,
@@ -34,11 +34,11 @@ pub(crate) fn check_file<H: Shelf, O: Sink>(
         (moment (shelf_at H.Shelf shelf.new) from (out_at O.Sink out.new)) result }
     ensures untouched { IsBefore result → out.new ≡ out.old }
 {
-    let statements = match accept(alloc, name, shelf) {
-        Ok(statements) => statements,
+    let count = match accept_count(alloc, name, shelf) {
+        Ok(count) => count,
         Err(status) => return status,
     };
-    match write_count(out, statements.len()) {
+    match write_count(out, count) {
         Ok(()) => Status::Done,
         Err(_) => Status::WriteFault,
     }
