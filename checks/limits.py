@@ -6,7 +6,7 @@ from resource import RLIMIT_STACK
 from checks.json_texts import DEEPEST, LONGEST as LONGEST_LINE
 from checks.program import Ended, difference
 
-STACK = [(RLIMIT_STACK, 4 << 20)]
+STACK = [(RLIMIT_STACK, 512 << 10)]
 SMALL_STACK = [(RLIMIT_STACK, 256 << 10)]
 TOO_MANY, TOO_DEEP, NO_SYNTAX = "too many columns or paths", "path: too deep", "syntax error"
 
