@@ -32,7 +32,7 @@ LAWS = {
     ("sj_json/specs/Document.antt", "document"): ("sj_json/src/lib.rt", "one_document"),
     ("sj_grammar/specs/Accepted.antt", "accepted_path"): ("sj_grammar/src/law.rt", "one_path"),
     ("sj_json/specs/Numbers.antt", "number_of"): ("sj_value/src/law.rt", "one_number"),
-    ("sj_select/specs/Keys.antt", "has_unique_keys"): ("sj_select/src/law.rt", "unique_keys"),
+    ("sj_json/specs/UniqueKeys.antt", "has_unique_keys"): ("sj_json/src/lib.rt", "unique_keys"),
 }
 INTRODUCTION = """# The definitions behind the contract of `run`
 

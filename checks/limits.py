@@ -156,6 +156,10 @@ def check_stack(tally, program, folder):
         (folder / "deep.sql").write_text(statement)
         ended = program.run(["run", "deep.sql"], b'{"a":1}', folder, limits=STACK)
         tally.check(f"a path in deep {name}", None if ended.status == 0 and ended.output else f"it ended as {ended}")
+    path, line = "$" + ".a" * 256, b'{"a":[' * 255 + b'{"a":1}' + b"]}" * 255
+    (folder / "deep.sql").write_text(f"SELECT JSON_EXISTS(doc, '{path}'), JSON_VALUE(doc, '{path}');")
+    ended = program.run(["run", "deep.sql"], line, folder, limits=STACK)
+    tally.check("a path of 256 members, each in an array", difference(Ended(0, b"1\t1\tR\tTRUE\t1\n"), ended))
 
 
 def string(length):

@@ -71,8 +71,8 @@ class Program:
             try:
                 for piece in pieces:
                     ours.sendall(piece)
-            except BrokenPipeError:
-                pass  # (the run has ended)
+            except (BrokenPipeError, ConnectionResetError):
+                pass  # The run has ended. It is a reset where it left pieces unread.
             ours.close()
             output, note = run.communicate()
         return Ended(run.returncode, output, note)

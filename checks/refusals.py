@@ -38,14 +38,14 @@ after a refusal, and the clauses of the contract that say what it is. [PROOFS.md
 
 - *At every answer*: the clause says it whatever the call answers. What it says of each answer is in the definition that
   it cites.
-- *When refused*: it says it where the call is refused, for want of memory too if that is a refusal of the call. Of a
+- *When refused*: it says it if the call is refused, also because memory ran out if that is a refusal of the call. Of a
   `Status` the one that it speaks of is in parentheses; *before the input* is each that comes before any input is read.
 - *At Ok*: it says it of the good answer alone.
 
 A call of a trait is listed with the trait, and again with each object that meets it. `checks/refusals.py` makes this page
-of the sources, and fails where the page differs, where an argument has no clause in the columns *at every answer* and
-*when refused*, and where it may change for want of memory though its row does not say why that does. It looks at names
-and forms alone: whether a clause says all that is to be said, a reader has to judge.
+of the sources, and fails if the page differs, if an argument has no clause in the columns *at every answer* and *when
+refused*, or if it may change when memory runs out and its row does not say why that does no harm. It looks at names and
+forms alone: whether a clause says all that is to be said, a reader has to judge.
 """
 
 
@@ -69,7 +69,7 @@ def check_refusals(tally, top):
     tally.check("what a refused call leaves", bare and f"no clause says it: {'; '.join(bare)}")
     loose = {(call.name, argument) for found in calls.values() for call in found for argument in changed_without_memory(call)}
     odd = [" of ".join(reversed(it)) for it in sorted(loose ^ LEFT_ANYWHERE.keys())]
-    tally.check("what want of memory leaves", odd and f"it is not as LEFT_ANYWHERE says: {'; '.join(odd)}")
+    tally.check("what a call out of memory leaves", odd and f"it is not as LEFT_ANYWHERE says: {'; '.join(odd)}")
 
 
 def calls_of(top):

@@ -9,8 +9,8 @@ use crate::copies::{copy_from, fault};
 use crate::{Failed, Shelf, Text};
 use std::marker::Model;
 
-/// A shelf of one file in memory. It fails at the calls that a list names and at names that are not its file's, and at no other.
-/// Calls of both kinds are counted together.
+/// A shelf of one file in memory. It fails at the calls that a list names and at names that are not its file's, and at
+/// no other. Calls of both kinds are counted together.
 #[derive(Drop)]
 pub struct MemShelf {
     name: Text,

@@ -10,7 +10,8 @@ use crate::{Failed, Memory, Sink};
 use std::alloc::Global;
 use std::marker::Model;
 
-/// A sink of a fixed room in memory. It fails at the calls that a list names and where no room is left, and at no other.
+/// A sink of a fixed room in memory. It fails at the calls that a list names and where no room is left, and at no
+/// other.
 #[derive(Drop)]
 pub struct MemSink {
     bytes: Vec<u8>,
@@ -32,7 +33,8 @@ impl Model for MemSink {
 }
 
 impl MemSink {
-    /// A sink for `room` bytes, whose memory is taken now. The calls whose numbers are in `fails`, counted from 0, fail.
+    /// A sink for `room` bytes, whose memory is taken now. The calls whose numbers are in `fails`, counted from 0,
+    /// fail.
     pub fn new(alloc: Global, room: usize, fails: Vec<u64>) -> Result<MemSink, Memory>
         ensures { IfOk result (λ s. s ≡ sink_of room fails.items) }
     {

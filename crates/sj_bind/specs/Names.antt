@@ -1,8 +1,7 @@
 -- Names that are noted one after another.
 use Rattle.std.specs.Prelude.{ℕ, List, map}
-use Rattle.std.specs.Borrow.{Bor}
-use Rattle.std.specs.HashSet.{HashSet}
+use Rattle.sj_bind.specs.declared.name_set.NameSet.{NameSet}
 
 -- the names in a set, in the order in which they were noted
-abbrev pub names_of : {S : Type 0} → HashSet (Bor (List ℕ)) S → List (List ℕ)
-names_of seen = map (λ name. name.now) seen.keys
+abbrev pub names_of : NameSet → List (List ℕ)
+names_of set = map (λ name. name.now) set.names.keys

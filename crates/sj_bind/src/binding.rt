@@ -13,11 +13,11 @@ ghost use Rattle.sj_bind.specs.View as view;
 
 use crate::bound::{Bound, BoundItem, BoundValue};
 use crate::fault::{all_fault, listed_fault, plain_fault};
+use crate::name_set::NameSet;
 use crate::refusal::BindRefusal;
 use crate::row_values::bind_item;
 use crate::table::{bind_table, column_index};
 use crate::values::bind_value;
-use indexmap::IndexSet;
 use sj_base::Memory;
 use sj_sql::{SValue, Seq, Statement, TItem, Table};
 use std::alloc::Global;
@@ -84,7 +84,7 @@ fn all_columns(alloc: Global, table: &Table) -> Result<Seq<BoundItem>, Memory>
     ensures { IfOk result (λ items. view.items_of items ≡ columns_below (length (column_names (table_of table.now)))) }
 {
     let columns = column_index(alloc, table)?;
-    first_columns(alloc, columns.len() as u32)
+    first_columns(alloc, columns.names.len() as u32)
 }
 
 fn first_columns(alloc: Global, count: u32) -> Result<Seq<BoundItem>, Memory>
@@ -127,7 +127,7 @@ fn bind_beside(alloc: Global, items: Seq<TItem>, table: &Table) -> Result<Seq<Bo
 fn bind_items(
     alloc: Global,
     items: Seq<TItem>,
-    columns: &IndexSet<&str>,
+    columns: &NameSet<'_>,
 ) -> Result<Seq<BoundItem>, Memory>
     requires named { AreItemsNamed (names_of columns.now) (items_of items) }
     requires few_columns { length (names_of columns.now) ≤ 1000 }

@@ -1,6 +1,10 @@
 //! Bound statements. Where a type leads back to itself, a repeated part is an enum of linked cells, which is given up by a
 //! loop; any other repeated part is a sequence. A large part that few statements have stands in a box, since a file may have
 //! very many statements, and all are kept.
+//!
+//! The `drop` of a statement, an item, a value and a column is written out. So whoever holds one, alone or in a list,
+//! gives it up by one call. A derived one is laid open, with all variants, at each place where a holder may return
+//! early, and each crate proves it once more.
 
 use sj_path::{Literal, Path, Vars};
 use sj_sql::Seq;
@@ -8,12 +12,20 @@ use sj_statement::IsJsonCall;
 use sj_value::{ExistsAction, Nulls, Plan, QuerySpec, TableAction, ValueSpec};
 
 /// A bound statement.
-#[derive(Drop)]
 pub struct Bound {
     /// The SELECT list, in which `*` stands as all columns.
     pub items: Seq<BoundItem>,
     /// The table, where there is one.
     pub table: Option<Box<BoundTable>>,
+}
+
+impl Drop for Bound {
+    fn drop(self) {
+        let Bound {
+            items: _items,
+            table: _table,
+        } = self;
+    }
 }
 
 impl Bound {
@@ -29,7 +41,6 @@ impl Bound {
 }
 
 /// An item of a SELECT list.
-#[derive(Drop)]
 pub enum BoundItem {
     Value(BoundValue),
     /// JSON_ARRAYAGG.
@@ -38,9 +49,18 @@ pub enum BoundItem {
     ObjectAgg(Box<BoundValue>, Box<BoundValue>, Nulls, bool),
 }
 
+impl Drop for BoundItem {
+    fn drop(self) {
+        match self {
+            BoundItem::Value(_value) => {}
+            BoundItem::ArrayAgg(_value, _) => {}
+            BoundItem::ObjectAgg(_key, _value, _, _) => {}
+        }
+    }
+}
+
 /// A value of a SELECT list.
 #[cycle(values)]
-#[derive(Drop)]
 pub enum BoundValue {
     Lit(Literal),
     /// The column of this number.
@@ -67,6 +87,21 @@ pub enum BoundValues {
 pub enum BoundMembers {
     Empty,
     More(Box<BoundValue>, Box<BoundValue>, Box<BoundMembers>),
+}
+
+impl Drop for BoundValue {
+    #[cycle(give_up_values)]
+    fn drop(self) {
+        match self {
+            BoundValue::Lit(_literal) => {}
+            BoundValue::Column(_) | BoundValue::IsJson(_) => {}
+            BoundValue::Exists(_path, _) => {}
+            BoundValue::Value(_path, _clauses) => {}
+            BoundValue::Query(_path, _) => {}
+            BoundValue::Object(_members, _, _) => {}
+            BoundValue::Array(_values, _) => {}
+        }
+    }
 }
 
 impl Drop for BoundValues {
@@ -114,7 +149,6 @@ pub struct BoundTable {
 }
 
 /// A column, with the number of the path to which it belongs.
-#[derive(Drop)]
 pub enum BoundColumn {
     /// FOR ORDINALITY.
     Ordinality(u32),
@@ -123,4 +157,15 @@ pub enum BoundColumn {
     Formatted(u32, Path, QuerySpec),
     /// EXISTS: the number of its path, the column's own path, and what an error gives.
     Exists(u32, Path, ExistsAction),
+}
+
+impl Drop for BoundColumn {
+    fn drop(self) {
+        match self {
+            BoundColumn::Ordinality(_) => {}
+            BoundColumn::Regular(_, _path, _clauses) => {}
+            BoundColumn::Formatted(_, _path, _) => {}
+            BoundColumn::Exists(_, _path, _) => {}
+        }
+    }
 }

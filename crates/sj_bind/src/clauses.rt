@@ -113,20 +113,21 @@ pub fn value_clauses(
     ty: TypeName,
     on_empty: &ValueDo,
     on_error: &ValueDo,
-) -> Result<ValueSpec, Memory>
+) -> Result<Box<ValueSpec>, Memory>
     requires bindable { spec.IsBindableType ty }
     requires empty_casts { spec.default_fails (spec.sql_type ty) on_empty.now ≡ false }
     requires error_casts { spec.default_fails (spec.sql_type ty) on_error.now ≡ false }
-    ensures { IfOk result (λ c. c ≡ spec.value_clauses ty on_empty.now on_error.now) }
+    ensures { IfOk result (λ c. c.value ≡ spec.value_clauses ty on_empty.now on_error.now) }
 {
     let ty = sql_type(ty);
     let on_empty = value_action(alloc, ty, on_empty)?;
     let on_error = value_action(alloc, ty, on_error)?;
-    Ok(ValueSpec {
+    let clauses = ValueSpec {
         ty,
         on_empty,
         on_error,
-    })
+    };
+    Ok(Box::new(alloc, clauses)?)
 }
 
 /// Whether a QUOTES clause stands beside WITH WRAPPER.

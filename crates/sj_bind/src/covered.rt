@@ -7,18 +7,18 @@ ghost use Rattle.sj_path.specs.Tree.{path_of, expr_of, step_of, sub_of, subs_of,
 ghost use Rattle.sj_path.specs.Vars as spec;
 ghost use Rattle.sj_bind.specs.Names.{names_of};
 
-use indexmap::IndexSet;
+use crate::name_set::NameSet;
 use sj_path::{Expr, Initial, Path, Pred, Step, Sub, Subs};
 
 /// Whether the name is there.
-pub fn has_name(names: &IndexSet<&str>, name: &str) -> bool
+pub fn has_name(names: &NameSet<'_>, name: &str) -> bool
     ensures { result ≡ is_among (names_of names.now) name.now }
 {
-    names.contains(name)
+    names.names.contains(name)
 }
 
 /// Whether each variable of the path is there.
-pub fn covers(names: &IndexSet<&str>, path: &Path) -> bool
+pub fn covers(names: &NameSet<'_>, path: &Path) -> bool
     ensures { result ≡ list_all (is_among (names_of names.now)) (spec.names (path_of path.now)) }
 {
     covers_expr(&path.expr, names)
@@ -26,7 +26,7 @@ pub fn covers(names: &IndexSet<&str>, path: &Path) -> bool
 
 #[cycle(covers)]
 #[tactic(auto, using(crate::proofs::Lists::all_of_both))]
-fn covers_expr(e: &Expr, names: &IndexSet<&str>) -> bool
+fn covers_expr(e: &Expr, names: &NameSet<'_>) -> bool
     ensures { result ≡ list_all (is_among (names_of names.now)) (spec.expr_names (expr_of e.now)) }
 {
     match e {
@@ -40,7 +40,7 @@ fn covers_expr(e: &Expr, names: &IndexSet<&str>) -> bool
 
 #[cycle(covers)]
 #[tactic(auto, using(crate::proofs::Lists::all_of_both))]
-fn covers_step(step: &Step, names: &IndexSet<&str>) -> bool
+fn covers_step(step: &Step, names: &NameSet<'_>) -> bool
     ensures { result ≡ list_all (is_among (names_of names.now)) (spec.step_names (step_of step.now)) }
 {
     match step {
@@ -52,7 +52,7 @@ fn covers_step(step: &Step, names: &IndexSet<&str>) -> bool
 
 #[cycle(covers)]
 #[tactic(auto, using(crate::proofs::Lists::all_of_both))]
-fn covers_sub(sub: &Sub, names: &IndexSet<&str>) -> bool
+fn covers_sub(sub: &Sub, names: &NameSet<'_>) -> bool
     ensures { result ≡ list_all (is_among (names_of names.now)) (spec.sub_names (sub_of sub.now)) }
 {
     match sub {
@@ -63,7 +63,7 @@ fn covers_sub(sub: &Sub, names: &IndexSet<&str>) -> bool
 
 #[cycle(covers)]
 #[tactic(auto, using(crate::proofs::Lists::all_of_both))]
-fn covers_subs(subs: &Subs, names: &IndexSet<&str>) -> bool
+fn covers_subs(subs: &Subs, names: &NameSet<'_>) -> bool
     ensures { result ≡ list_all (is_among (names_of names.now)) (spec.subs_names (subs_of subs.now)) }
 {
     match subs {
@@ -74,7 +74,7 @@ fn covers_subs(subs: &Subs, names: &IndexSet<&str>) -> bool
 
 #[cycle(covers)]
 #[tactic(auto, using(crate::proofs::Lists::all_of_both))]
-fn covers_pred(p: &Pred, names: &IndexSet<&str>) -> bool
+fn covers_pred(p: &Pred, names: &NameSet<'_>) -> bool
     ensures { result ≡ list_all (is_among (names_of names.now)) (spec.pred_names (pred_of p.now)) }
 {
     match p {
@@ -86,7 +86,7 @@ fn covers_pred(p: &Pred, names: &IndexSet<&str>) -> bool
     }
 }
 
-fn covers_initial(initial: &Initial, names: &IndexSet<&str>) -> bool
+fn covers_initial(initial: &Initial, names: &NameSet<'_>) -> bool
     ensures { result ≡ list_all (is_among (names_of names.now)) (spec.initial_names initial.now) }
 {
     match initial {

@@ -9,11 +9,11 @@ ghost use Rattle.sj_bind.specs.PartsView.{texts_of};
 ghost use Rattle.sj_bind.specs.Rules as spec;
 
 use crate::covered::has_name;
-use indexmap::IndexSet;
+use crate::name_set::NameSet;
 use sj_sql::TItem;
 
 /// Whether a name is that of no column.
-pub fn some_name_is_unknown(names: &[&str], columns: &IndexSet<&str>) -> bool
+pub fn some_name_is_unknown(names: &[&str], columns: &NameSet<'_>) -> bool
     ensures { result ≡ list_any (λ name. not (is_among (names_of columns.now) name)) (texts_of names.now) }
 {
     for name in names {

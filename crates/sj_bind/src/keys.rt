@@ -10,7 +10,7 @@ ghost use Rattle.sj_bind.specs.Variables.{AddsNames, HaveSame};
 
 use crate::clauses::names_text;
 use crate::covered::has_name;
-use indexmap::IndexSet;
+use crate::name_set::NameSet;
 use sj_base::Memory;
 use sj_path::Literal;
 use sj_sql::{Column, SValue, TValue};
@@ -51,7 +51,7 @@ pub fn some_key_is_wrong(keys: &[&SValue]) -> bool
     false
 }
 
-fn is_row_key(value: &TValue, texts: &IndexSet<&str>) -> bool
+fn is_row_key(value: &TValue, texts: &NameSet<'_>) -> bool
     ensures { result ≡ spec.is_key (names_of texts.now) (tvalue_of value.now) }
 {
     match value {
@@ -62,7 +62,7 @@ fn is_row_key(value: &TValue, texts: &IndexSet<&str>) -> bool
 }
 
 /// Whether a key is none of those that are allowed beside columns, of which these are texts.
-pub fn some_row_key_is_wrong(keys: &[&TValue], texts: &IndexSet<&str>) -> bool
+pub fn some_row_key_is_wrong(keys: &[&TValue], texts: &NameSet<'_>) -> bool
     ensures { result ≡ list_any (λ key. not (spec.is_key (names_of texts.now) key)) (row_keys_of keys.now) }
 {
     for key in keys {
@@ -74,10 +74,10 @@ pub fn some_row_key_is_wrong(keys: &[&TValue], texts: &IndexSet<&str>) -> bool
 }
 
 /// The names of the columns that are texts. A name that stands there twice is there once.
-pub fn text_names<'t>(alloc: Global, columns: &[&'t Column]) -> Result<IndexSet<&'t str>, Memory>
+pub fn text_names<'t>(alloc: Global, columns: &[&'t Column]) -> Result<NameSet<'t>, Memory>
     ensures { IfOk result (λ names. HaveSame (names_of names) (spec.text_names (columns_at columns.now))) }
 {
-    let mut names = IndexSet::new(alloc);
+    let mut names = NameSet::new(alloc);
     for column in columns {
         note_text(column, &mut names)?;
     }
@@ -85,7 +85,7 @@ pub fn text_names<'t>(alloc: Global, columns: &[&'t Column]) -> Result<IndexSet<
 }
 
 // Adds the name of the column, if that is a text.
-fn note_text<'t>(column: &'t Column, names: &mut IndexSet<&'t str>) -> Result<(), Memory>
+fn note_text<'t>(column: &'t Column, names: &mut NameSet<'t>) -> Result<(), Memory>
     ensures { OnOk result (AddsNames (names_of names.old) (spec.text_name (column_of column.now)) (names_of names.new)) }
 {
     match column {
@@ -102,9 +102,9 @@ fn note_text<'t>(column: &'t Column, names: &mut IndexSet<&'t str>) -> Result<()
     }
 }
 
-fn note_name<'t>(name: &'t str, names: &mut IndexSet<&'t str>) -> Result<(), Memory>
+fn note_name<'t>(name: &'t str, names: &mut NameSet<'t>) -> Result<(), Memory>
     ensures { OnOk result (AddsNames (names_of names.old) (name.now ∷ []) (names_of names.new)) }
 {
-    names.insert(name)?;
+    names.names.insert(name)?;
     Ok(())
 }

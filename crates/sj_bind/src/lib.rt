@@ -16,6 +16,7 @@ mod fault;
 mod items;
 mod keys;
 mod law;
+mod name_set;
 mod parts;
 mod refusal;
 mod row_parts;

@@ -10,18 +10,18 @@ ghost use Rattle.sj_bind.specs.Names.{names_of};
 
 use crate::bound::{BoundItem, BoundMembers, BoundValue, BoundValues};
 use crate::chains::{chain_members, chain_values};
-use indexmap::IndexSet;
+use crate::name_set::NameSet;
 use sj_base::Memory;
 use sj_sql::{TItem, TMembers, TValue, TValues};
 use std::alloc::Global;
 
 /// The number of the column with this name.
-fn number_of(columns: &IndexSet<&str>, name: &str) -> u32
+fn number_of(columns: &NameSet<'_>, name: &str) -> u32
     requires known { is_among (names_of columns.now) name.now ≡ true }
     requires few { length (names_of columns.now) ≤ 1000 }
     ensures { result ≡ column_number (names_of columns.now) name.now }
 {
-    match columns.get_index_of(name) {
+    match columns.names.get_index_of(name) {
         Some(number) => number as u32,
         None => unreachable!(),
     }
@@ -30,11 +30,7 @@ fn number_of(columns: &IndexSet<&str>, name: &str) -> u32
 /// A bound value.
 #[cycle(bind_row_values)]
 #[tactic(auto, using(crate::proofs::Chained::chains))]
-fn bind_row_value(
-    alloc: Global,
-    value: TValue,
-    columns: &IndexSet<&str>,
-) -> Result<BoundValue, Memory>
+fn bind_row_value(alloc: Global, value: TValue, columns: &NameSet<'_>) -> Result<BoundValue, Memory>
     requires known { AreNamed (names_of columns.now) (tvalue_of value) }
     requires few { length (names_of columns.now) ≤ 1000 }
     ensures { IfOk result (λ b. view.value_of b ≡ bound_value (names_of columns.now) (tvalue_of value)) }
@@ -58,7 +54,7 @@ fn bind_row_value(
 fn bind_row_values(
     alloc: Global,
     values: TValues,
-    columns: &IndexSet<&str>,
+    columns: &NameSet<'_>,
 ) -> Result<BoundValues, Memory>
     requires known { AreAllNamed (names_of columns.now) (tvalues_of values) }
     requires few { length (names_of columns.now) ≤ 1000 }
@@ -78,7 +74,7 @@ fn bind_row_values(
 fn bind_row_members(
     alloc: Global,
     members: TMembers,
-    columns: &IndexSet<&str>,
+    columns: &NameSet<'_>,
 ) -> Result<BoundMembers, Memory>
     requires known { AreMembersNamed (names_of columns.now) (tmembers_of members) }
     requires few { length (names_of columns.now) ≤ 1000 }
@@ -95,7 +91,7 @@ fn bind_row_members(
 }
 
 /// A bound item.
-pub fn bind_item(alloc: Global, item: TItem, columns: &IndexSet<&str>) -> Result<BoundItem, Memory>
+pub fn bind_item(alloc: Global, item: TItem, columns: &NameSet<'_>) -> Result<BoundItem, Memory>
     requires known { IsItemNamed (names_of columns.now) (item_of item) }
     requires few { length (names_of columns.now) ≤ 1000 }
     ensures { IfOk result (λ b. view.item_of b ≡ bound_item (names_of columns.now) (item_of item)) }

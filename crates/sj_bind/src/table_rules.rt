@@ -14,14 +14,14 @@ use crate::calls::defaults_fail;
 use crate::clauses::quotes_clash;
 use crate::columns::TableParts;
 use crate::covered::covers;
+use crate::name_set::NameSet;
 use crate::variables::variable_names;
-use indexmap::IndexSet;
 use sj_base::Memory;
 use sj_path::Path;
 use sj_sql::{Column, Table};
 use std::alloc::Global;
 
-fn some_path_misses(names: &IndexSet<&str>, paths: &[&Path]) -> bool
+fn some_path_misses(names: &NameSet<'_>, paths: &[&Path]) -> bool
     ensures { result ≡ list_any (misses (names_of names.now)) (paths_at paths.now) }
 {
     for path in paths {
@@ -32,7 +32,7 @@ fn some_path_misses(names: &IndexSet<&str>, paths: &[&Path]) -> bool
     false
 }
 
-fn one_column_misses(names: &IndexSet<&str>, column: &Column) -> bool
+fn one_column_misses(names: &NameSet<'_>, column: &Column) -> bool
     ensures { result ≡ column_misses (names_of names.now) (column_of column.now) }
 {
     match column {
@@ -43,7 +43,7 @@ fn one_column_misses(names: &IndexSet<&str>, column: &Column) -> bool
     }
 }
 
-fn some_column_misses(names: &IndexSet<&str>, columns: &[&Column]) -> bool
+fn some_column_misses(names: &NameSet<'_>, columns: &[&Column]) -> bool
     ensures { result ≡ list_any (column_misses (names_of names.now)) (columns_at columns.now) }
 {
     for column in columns {

@@ -22,7 +22,7 @@ fn bind_exists(alloc: Global, call: Box<ExistsCall>) -> Result<BoundValue, Memor
     ensures { IfOk result (λ b. value_of b ≡ bound_value [] (t.Exists (exists_of call.value))) }
 {
     let ExistsCall { common, on_error } = Box::into_inner(call);
-    let path = Box::new(alloc, bound_path(alloc, common)?)?;
+    let path = bound_path(alloc, common)?;
     Ok(BoundValue::Exists(path, on_error))
 }
 
@@ -31,14 +31,9 @@ fn bind_value_call(alloc: Global, call: Box<ValueCall>) -> Result<BoundValue, Me
     requires { IsFitCall (value_call_of call.value) }
     ensures { IfOk result (λ b. value_of b ≡ bound_value [] (t.ValueOf (value_call_of call.value))) }
 {
-    let ValueCall {
-        common,
-        ty,
-        on_empty,
-        on_error,
-    } = Box::into_inner(call);
-    let clauses = Box::new(alloc, value_clauses(alloc, ty, &on_empty, &on_error)?)?;
-    let path = Box::new(alloc, bound_path(alloc, common)?)?;
+    let clauses = value_clauses(alloc, call.ty, &call.on_empty, &call.on_error)?;
+    let ValueCall { common, .. } = Box::into_inner(call);
+    let path = bound_path(alloc, common)?;
     Ok(BoundValue::Value(path, clauses))
 }
 
@@ -55,7 +50,7 @@ fn bind_query(alloc: Global, call: Box<QueryCall>) -> Result<BoundValue, Memory>
         on_error,
     } = Box::into_inner(call);
     let clauses = query_clauses(wrapper, quotes, on_empty, on_error);
-    let path = Box::new(alloc, bound_path(alloc, common)?)?;
+    let path = bound_path(alloc, common)?;
     Ok(BoundValue::Query(path, clauses))
 }
 

@@ -12,8 +12,8 @@ ghost use Rattle.sj_bind.specs.View.{path_with_of};
 
 use crate::bound::BoundPath;
 use crate::covered::covers;
+use crate::name_set::NameSet;
 use crate::table::note;
-use indexmap::IndexSet;
 use sj_base::Memory;
 use sj_path::Vars;
 use sj_sql::{Common, Seq};
@@ -31,7 +31,7 @@ pub fn passes_twice(alloc: Global, common: &Common) -> Result<bool, Memory>
 fn has_name_twice(alloc: Global, passing: &[Passed]) -> Result<bool, Memory>
     ensures { IfOk result (λ b. b ≡ has_twice (passed_names passing.now)) }
 {
-    let mut seen = IndexSet::new(alloc);
+    let mut seen = NameSet::new(alloc);
     let mut left = passing;
     while let Some((variable, others)) = left.split_first() {
         if note(variable.name.as_str(), &mut seen)? {
@@ -43,13 +43,13 @@ fn has_name_twice(alloc: Global, passing: &[Passed]) -> Result<bool, Memory>
 }
 
 /// The names of the variables of a PASSING clause. A name that stands there twice is there once.
-pub fn variable_names<'s>(alloc: Global, passing: &'s [Passed]) -> Result<IndexSet<&'s str>, Memory>
+pub fn variable_names<'s>(alloc: Global, passing: &'s [Passed]) -> Result<NameSet<'s>, Memory>
     ensures { IfOk result (λ names. AreNamesOf passing.now (names_of names)) }
 {
-    let mut names = IndexSet::new(alloc);
+    let mut names = NameSet::new(alloc);
     let mut left = passing;
     while let Some((variable, others)) = left.split_first() {
-        names.insert(variable.name.as_str())?;
+        names.names.insert(variable.name.as_str())?;
         left = others;
     }
     Ok(names)
@@ -77,17 +77,18 @@ pub fn passed_vars(alloc: Global, passing: Seq<Passed>) -> Result<Vars, Memory>
 }
 
 /// A path with its variables.
-pub fn bound_path(alloc: Global, common: Common) -> Result<BoundPath, Memory>
+pub fn bound_path(alloc: Global, common: Common) -> Result<Box<BoundPath>, Memory>
     requires { spec.passes_twice (common_of common) ≡ false }
-    ensures { IfOk result (λ p. path_with_of p ≡ path_with (common_of common)) }
+    ensures { IfOk result (λ p. path_with_of p.value ≡ path_with (common_of common)) }
 {
     let Common {
         encoding: _,
         path,
         passing,
     } = common;
-    Ok(BoundPath {
+    let bound = BoundPath {
         path,
         vars: passed_vars(alloc, passing)?,
-    })
+    };
+    Ok(Box::new(alloc, bound)?)
 }

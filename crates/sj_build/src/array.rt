@@ -11,8 +11,9 @@ use std::alloc::Global;
 
 /// JSON_ARRAY: the array of the values in order (ISO/IEC 9075-2, JSON array constructor).
 ///
-/// A text becomes a string, a number its plain text whatever decimals it is to print, and a truth value `true` or `false`. A JSON value
-/// stays as it is. NULL becomes `null`, or is dropped under ABSENT ON NULL. The array of no values is `[]`.
+/// A text becomes a string, a number its plain text whatever decimals it is to print, and a truth value `true` or
+/// `false`. A JSON value stays as it is. NULL becomes `null`, or is dropped under ABSENT ON NULL. The array of no
+/// values is `[]`.
 ///
 /// # Errors
 /// [`Memory`] where memory runs out.

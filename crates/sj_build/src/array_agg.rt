@@ -16,8 +16,8 @@ use std::marker::Model;
 /// JSON_ARRAYAGG: the array of values that come one after another (ISO/IEC 9075-2, JSON aggregate functions).
 ///
 /// Contracts say for which list of values it stands: those that were added, in order. Its value is that of
-/// [`json_array`](crate::json_array) over the whole list, and NULL where nothing was added. The text is kept with its closing bracket, so
-/// [`finish`](ArrayAgg::finish) takes no memory.
+/// [`json_array`](crate::json_array) over the whole list, and NULL where nothing was added. The text is kept with its
+/// closing bracket, so [`finish`](ArrayAgg::finish) takes no memory.
 #[derive(Drop)]
 pub struct ArrayAgg {
     nulls: Nulls,
@@ -97,8 +97,8 @@ fn open(text: &mut Bytes) -> Result<(), Memory>
     }
 }
 
-// Appends what is missing for one element more: the opening bracket where there is no text, what stands before the element, the element and
-// a closing bracket. The one that closed the text so far is left for `take_bracket`.
+// Appends what is missing for one element more: the opening bracket where there is no text, what stands before the
+// element, the element and a closing bracket. The one that closed the text so far is left for `take_bracket`.
 fn append(text: &mut Bytes, place: Place, value: &SqlValue) -> Result<(), Memory>
     ensures ok { OnOk result (text.new ≡ text.old ++ (opening (codes "[") text.old ++ (growing.lead place ++ (spec.value_text value.now ++ codes "]")))) }
     ensures err { OnErr result (Extends text.old text.new) }

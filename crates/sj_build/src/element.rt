@@ -23,7 +23,8 @@ pub(crate) fn is_kept(nulls: Nulls, value: &SqlValue) -> bool
     }
 }
 
-// The key of a member that is kept, or `None` where the member is dropped. A key that is no text is refused, whatever the value.
+// The key of a member that is kept, or `None` where the member is dropped. A key that is no text is refused, whatever
+// the value.
 pub(crate) fn kept_key(field: &Field, nulls: Nulls) -> Result<Option<&str>, BuildRefusal>
     ensures ok { IfOk result (λ kept. spec.kept_key nulls field.now ≡ Ok (option_map (λ key. key.now) kept)) }
     ensures refusal { IfErr result (RefusesNull (spec.kept_key nulls field.now)) }

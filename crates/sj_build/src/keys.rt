@@ -11,6 +11,18 @@ use indexmap::IndexSet;
 use sj_base::{Memory, State};
 use std::alloc::Global;
 
+// The keys that are lent to an object while it is made, where no two may be equal. Its `drop` is written out, so that
+// it is given up by one call, and not part by part at each place where the maker may return early.
+pub(crate) struct LentKeys<'k> {
+    pub(crate) noted: Option<IndexSet<&'k str>>,
+}
+
+impl<'k> Drop for LentKeys<'k> {
+    fn drop(self) {
+        let LentKeys { noted: _noted } = self;
+    }
+}
+
 // Notes a key that outlives the set, where there is a set.
 pub(crate) fn note_lent<'k>(
     keys: &mut Option<IndexSet<&'k str>>,

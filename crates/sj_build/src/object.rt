@@ -6,7 +6,7 @@ ghost use Rattle.sj_build.specs.Constructors.{object_value};
 
 use crate::element::{kept_key, lead, member_text};
 use crate::field::Field;
-use crate::keys::note_lent;
+use crate::keys::{LentKeys, note_lent};
 use crate::place::Place;
 use crate::refusal::BuildRefusal;
 use indexmap::IndexSet;
@@ -16,12 +16,14 @@ use std::alloc::Global;
 
 /// JSON_OBJECT: the object of the members in order (ISO/IEC 9075-2, JSON object constructor).
 ///
-/// Keys are texts. Values become JSON as in [`json_array`](crate::json_array), and a member whose value is NULL is dropped under
-/// ABSENT ON NULL. With `unique`, which is WITH UNIQUE KEYS, no two members that are kept may have equal keys; without, all of them stay.
+/// Keys are texts. Values become JSON as in [`json_array`](crate::json_array), and a member whose value is NULL is
+/// dropped under ABSENT ON NULL. With `unique`, which is WITH UNIQUE KEYS, no two members that are kept may have equal
+/// keys; without, all of them stay.
 ///
 /// # Errors
-/// `State` exactly where a member is refused, with the state of the first: 22004 where its key is no text, as NULL is none, though its value be dropped; and 22030
-/// where with `unique` it is kept and its key is that of a member kept before it. `Memory` where memory ran out.
+/// `State` exactly where a member is refused, with the state of the first: 22004 where its key is no text, as NULL is
+/// none, though its value be dropped; and 22030 where with `unique` it is kept and its key is that of a member kept
+/// before it. `Memory` where memory ran out.
 pub fn json_object(
     alloc: Global,
     fields: &[Field],
@@ -33,16 +35,18 @@ pub fn json_object(
     ensures printable { IfOk result IsPrintable }
 {
     let mut text = Bytes::new(alloc);
-    let mut keys = if unique {
-        Some(IndexSet::new(alloc))
-    } else {
-        None
+    let mut keys = LentKeys {
+        noted: if unique {
+            Some(IndexSet::new(alloc))
+        } else {
+            None
+        },
     };
     let mut place = Place::First;
     text.push(b"{")?;
     for field in fields {
         if let Some(key) = kept_key(field, nulls)? {
-            note_lent(&mut keys, key)?;
+            note_lent(&mut keys.noted, key)?;
             lead(&mut text, place)?;
             member_text(&mut text, key, &field.value)?;
             place = Place::Later;

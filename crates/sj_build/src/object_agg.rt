@@ -23,9 +23,11 @@ use std::marker::Model;
 /// JSON_OBJECTAGG: the object of members that come one after another (ISO/IEC 9075-2, JSON aggregate functions).
 ///
 /// Contracts say for which list of members it stands: those that were added, in order. Its value is that of
-/// [`json_object`](crate::json_object) over the whole list, and NULL where nothing was added. The text is kept with its closing bracket, so
-/// [`finish`](ObjectAgg::finish) takes no memory. WITH UNIQUE KEYS a copy of each key is kept beside it.
-#[derive(Drop)]
+/// [`json_object`](crate::json_object) over the whole list, and NULL where nothing was added. The text is kept with its
+/// closing bracket, so [`finish`](ObjectAgg::finish) takes no memory. WITH UNIQUE KEYS a copy of each key is kept
+/// beside it.
+///
+/// Its `drop` is written out, so that whoever holds one gives it up by one call.
 pub struct ObjectAgg {
     alloc: Global,
     nulls: Nulls,
@@ -34,6 +36,18 @@ pub struct ObjectAgg {
     place: Place,
     // the keys of its members, where no two may be equal
     keys: Option<IndexSet<String>>,
+}
+
+impl Drop for ObjectAgg {
+    fn drop(self) {
+        let ObjectAgg {
+            alloc: _alloc,
+            nulls: _nulls,
+            text: _text,
+            place: _place,
+            keys: _keys,
+        } = self;
+    }
 }
 
 impl Model for ObjectAgg {
@@ -50,8 +64,8 @@ impl ObjectAgg {
     ghost use Rattle.sj_build.specs.Constructors.{object_value, object_aggregate};
     ghost use Rattle.sj_build.specs.Held.{StandsForFields};
 
-    /// Nothing was added. It takes no memory; `alloc` serves the calls that add. With `unique`, which is WITH UNIQUE KEYS, no two members
-    /// that are kept may have equal keys.
+    /// Nothing was added. It takes no memory; `alloc` serves the calls that add. With `unique`, which is WITH UNIQUE
+    /// KEYS, no two members that are kept may have equal keys.
     pub fn new(alloc: Global, nulls: Nulls, unique: bool) -> ObjectAgg
         ensures nulls { result.nulls ≡ nulls }
         ensures unique { result.unique ≡ unique }
@@ -73,9 +87,9 @@ impl ObjectAgg {
     /// Adds a member at the end.
     ///
     /// # Errors
-    /// `State` exactly where the member is refused behind those that were added, with its state: 22004 where its key is no text, as NULL is
-    /// none, though its value be dropped; and 22030 where with `unique` it is kept and its key is that of a member kept before it. `Memory` where memory ran
-    /// out. In both cases nothing has changed.
+    /// `State` exactly where the member is refused behind those that were added, with its state: 22004 where its key is
+    /// no text, as NULL is none, though its value be dropped; and 22030 where with `unique` it is kept and its key is
+    /// that of a member kept before it. `Memory` where memory ran out. In both cases nothing has changed.
     pub fn add(&mut self, field: &Field) -> Result<(), BuildRefusal>
         ensures stands { (fields : List Field) → StandsForFields fields self.old → OnOk result (StandsForFields (fields ++ field.now ∷ []) self.new) }
         ensures refusal { (fields : List Field) → StandsForFields fields self.old → IfErr result (RefusesAs (object_value self.old.nulls self.old.unique (fields ++ field.now ∷ []))) }
@@ -110,10 +124,17 @@ impl ObjectAgg {
         ensures value { (fields : List Field) → StandsForFields fields self → object_aggregate self.nulls self.unique fields ≡ Ok result }
         ensures printable { IsPrintable result }
     {
-        if self.text.is_empty() {
+        let ObjectAgg {
+            alloc: _,
+            nulls: _,
+            text,
+            place: _,
+            keys: _keys,
+        } = self;
+        if text.is_empty() {
             SqlValue::Null
         } else {
-            SqlValue::Json(self.text)
+            SqlValue::Json(text)
         }
     }
 }
@@ -130,8 +151,9 @@ fn open(text: &mut Bytes) -> Result<(), Memory>
     }
 }
 
-// Appends what is missing for one member more: the opening bracket where there is no text, what stands before the member, the member and
-// a closing bracket. The one that closed the text so far is left for `take_bracket`. Its key is noted at last, so that no refusal leaves it.
+// Appends what is missing for one member more: the opening bracket where there is no text, what stands before the
+// member, the member and a closing bracket. The one that closed the text so far is left for `take_bracket`. Its key is
+// noted at last, so that no refusal leaves it.
 fn append(
     alloc: Global,
     text: &mut Bytes,

@@ -13,4 +13,5 @@ mod Parts
 mod Connectives
 mod Unopened
 mod Soles
+mod Chains
 pub mod WithoutFaults

@@ -22,11 +22,11 @@ use Rattle.sj_cursor.proofs.Draws.{draw_item, draw_end, draw_fault}
 
 -- ---- draw by draw
 
-looked-pay : (limit : Limit) (f : Found) (n : ℕ) (t : Trace) → looked limit f (pay n t) ≡ looked limit f t
+pub looked-pay : (limit : Limit) (f : Found) (n : ℕ) (t : Trace) → looked limit f (pay n t) ≡ looked limit f t
 looked-pay limit f zero t = refl
 looked-pay limit f (suc n) t = looked-pay limit f n t
 
-cost-pay : (limit : Limit) (f : Found) (n : ℕ) (t : Trace) → look_cost limit f (pay n t) ≡ n + look_cost limit f t
+pub cost-pay : (limit : Limit) (f : Found) (n : ℕ) (t : Trace) → look_cost limit f (pay n t) ≡ n + look_cost limit f t
 cost-pay limit f zero t = omega arith
 cost-pay limit f (suc n) t = omega (arith, cost-pay limit f n t)
 

@@ -14,4 +14,6 @@ pub mod Asked
 pub mod Cells
 pub mod Left
 pub mod Ends
+pub mod Chains
+pub mod Standing
 pub mod Sequel

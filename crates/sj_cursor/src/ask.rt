@@ -5,7 +5,7 @@ ghost use Rattle.sj_cursor.specs.Answers.{exists_answer, single_value, answer_in
 ghost use Rattle.sj_cursor.specs.Looks.{Finds, look_value, single_in};
 ghost use Rattle.sj_cursor.specs.Single.{need, single};
 
-use crate::cursor::Cursor;
+use crate::cursor::{Cursor, Stands};
 use crate::look::{Found, Limit, Look};
 use sj_base::{Ledger, State, Steps};
 use sj_item::Item;
@@ -50,8 +50,23 @@ impl<'d> Cursor<'d> {
             .single_or_fault(several)
     }
 
-    // Goes on until enough was found.
+    // Goes on until enough was found. A plain path is gone through without cells, from its beginning on.
     fn look<L: Ledger>(&mut self, limit: Limit, steps: &mut Steps<L>) -> Look<'d>
+        ensures finds { Finds limit self.old.left (look_value result) steps.old steps.new }
+        ensures path { self.new.path ≡ self.old.path }
+        ensures vars { self.new.vars ≡ self.old.vars }
+        ensures root { self.new.root ≡ self.old.root }
+    {
+        match (self.stands, &self.chain, &self.root) {
+            (Stands::AtTheBeginning, Some(chain), Item::Node(root)) => {
+                chain.look(*root, limit, steps)
+            }
+            _ => self.look_on(limit, steps),
+        }
+    }
+
+    // The same, cell by cell.
+    fn look_on<L: Ledger>(&mut self, limit: Limit, steps: &mut Steps<L>) -> Look<'d>
         ensures finds { Finds limit self.old.left (look_value result) steps.old steps.new }
         ensures path { self.new.path ≡ self.old.path }
         ensures vars { self.new.vars ≡ self.old.vars }

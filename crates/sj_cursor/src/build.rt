@@ -1,4 +1,4 @@
-// The cells of a path, made whole: the only place that takes memory.
+// The cells of a path, made whole: the only place that takes memory for them.
 //
 // What recurs over a path holds places of cells and no cell, and gives none up: what its frame holds is taken as often as a path
 // is nested. Cells are made, and given up where memory runs out, by functions that do not recur and are kept out of line.

@@ -1,8 +1,15 @@
 // A path's items, one at a time.
 ghost use Rattle.std.specs.Prelude.{◌≡◌, ◌≤◌, ◌*◌, IfOk};
+ghost use Rattle.sj_item.specs.Items.{item_value};
+ghost use Rattle.sj_path.specs.Tree.{path_of};
+ghost use Rattle.sj_step.specs.Answers.{answer_value};
+ghost use Rattle.sj_cursor.specs.Draws.{Draws};
+ghost use Rattle.sj_cursor.specs.Left.{core, left};
+ghost use Rattle.sj_cursor.specs.Meaning.{start_env};
 
 use crate::build::expr_cell;
 use crate::cells::Cell;
+use crate::chain::Chain;
 use crate::env::Env;
 use sj_base::{Ledger, Memory, Steps};
 use sj_item::{Item, Pull};
@@ -14,30 +21,80 @@ use std::marker::Model;
 /// A path that is evaluated on a root item, and how far it has come (ISO/IEC 9075-2, SQL/JSON path language).
 ///
 /// Contracts see the path, the variables, the root and the trace that is left.
-#[derive(Drop)]
+///
+/// Its `drop` is written out, so that whoever holds a cursor gives it up by one call, and not part by part at each place where the
+/// holder may return early.
 pub struct Cursor<'d> {
     path: &'d Path,
     vars: &'d Vars,
-    root: Item<'d>,
+    pub(crate) root: Item<'d>,
     cell: Box<Cell<'d>>,
+    // the keys of the path, where it is plain
+    pub(crate) chain: Option<Chain<'d>>,
+    pub(crate) stands: Stands,
+}
+
+impl<'d> Drop for Cursor<'d> {
+    fn drop(self) {
+        let Cursor {
+            path: _path,
+            vars: _vars,
+            root: _root,
+            cell: _cell,
+            chain: _chain,
+            stands: _stands,
+        } = self;
+    }
+}
+
+/// Where a cursor stands.
+#[derive(Clone, Copy)]
+pub(crate) enum Stands {
+    /// At the beginning. The cells may stand anywhere, and are rewound when they are first asked.
+    AtTheBeginning,
+    /// Where its cells do.
+    WithItsCells,
 }
 
 impl<'d> Model for Cursor<'d> {
     ghost use Rattle.sj_cursor.specs.Sequel.{Sequel, sequel_code};
-    ghost use Rattle.std.specs.Prelude.{◌≡◌};
 
     ghost Value = { Sequel };
 
     ghost coded = { sequel_code };
 
     ghost use Rattle.sj_item.specs.Items.{item_value};
-    ghost use Rattle.sj_path.specs.Tree.{path_of, expr_of};
-    ghost use Rattle.sj_cursor.specs.Left.{core, left};
-    ghost use Rattle.sj_cursor.specs.Meaning.{start_env};
+    ghost use Rattle.sj_path.specs.Tree.{path_of};
+    ghost use Rattle.sj_cursor.specs.Left.{left};
+    ghost use Rattle.sj_cursor.specs.Meaning.{start_env, path_trace};
+    ghost use Rattle.sj_cursor.specs.Standing.{standing_left, IsCursor};
 
-    ghost view = { λ c. record { path = c.path.now; vars = c.vars.now; root = item_value c.root; left = left c.cell.value (start_env (path_of c.path.now) c.vars.now (item_value c.root)) } };
+    ghost view = { λ c. record { path = c.path.now; vars = c.vars.now; root = item_value c.root; left = standing_left c.stands (path_trace (path_of c.path.now) c.vars.now (item_value c.root)) (left c.cell.value (start_env (path_of c.path.now) c.vars.now (item_value c.root))) } };
 
-    ghost invariant = { λ c. core c.cell.value ≡ expr_of c.path.now.expr };
+    ghost invariant = { λ c. IsCursor (path_of c.path.now) c.cell.value c.chain };
+}
+
+// The next item of the cells of a path.
+#[inline(always)]
+fn next_of<'d, L: Ledger>(
+    path: &'d Path,
+    vars: &'d Vars,
+    root: &Item<'d>,
+    cell: &mut Cell<'d>,
+    steps: &mut Steps<L>,
+    place: &mut Item<'d>,
+) -> Answer
+    ensures answers { Draws (left cell.old (start_env (path_of path.now) vars.now (item_value root.now))) (answer_value result place.new) (left cell.new (start_env (path_of path.now) vars.now (item_value root.now))) steps.old steps.new }
+    ensures same { core cell.new ≡ core cell.old }
+{
+    let env = Env {
+        mode: path.mode,
+        vars,
+        root,
+        context: root,
+        last: 0,
+    };
+    cell.next(&env, steps, place)
 }
 
 impl<'d> Cursor<'d> {
@@ -64,13 +121,15 @@ impl<'d> Cursor<'d> {
         ensures root { IfOk result (λ c. c.root ≡ item_value root.entry) }
         ensures left { IfOk result (λ c. c.left ≡ path_trace (path_of path.now) vars.now (item_value root.entry)) }
     {
-        let mut cell = expr_cell(alloc, &path.expr)?;
-        cell.rewind();
+        let chain = Chain::of_path(alloc, path)?;
+        let cell = expr_cell(alloc, &path.expr)?;
         Ok(Cursor {
             path,
             vars,
             root,
             cell,
+            chain,
+            stands: Stands::AtTheBeginning,
         })
     }
 
@@ -98,14 +157,30 @@ impl<'d> Cursor<'d> {
         ensures vars { self.new.vars ≡ self.old.vars }
         ensures root { self.new.root ≡ self.old.root }
     {
-        let env = Env {
-            mode: self.path.mode,
-            vars: self.vars,
-            root: &self.root,
-            context: &self.root,
-            last: 0,
-        };
-        self.cell.next(&env, steps, place)
+        match self.stands {
+            Stands::AtTheBeginning => {
+                self.cell.rewind();
+                self.stands = Stands::WithItsCells;
+                next_of(
+                    self.path,
+                    self.vars,
+                    &self.root,
+                    &mut self.cell,
+                    steps,
+                    place,
+                )
+            }
+            Stands::WithItsCells => {
+                next_of(
+                    self.path,
+                    self.vars,
+                    &self.root,
+                    &mut self.cell,
+                    steps,
+                    place,
+                )
+            }
+        }
     }
 
     /// From the beginning, on another root, wherever the cursor stood. It takes no memory.
@@ -116,7 +191,7 @@ impl<'d> Cursor<'d> {
         ensures root { self.new.root ≡ item_value root.entry }
     {
         self.root = root;
-        self.cell.rewind();
+        self.stands = Stands::AtTheBeginning;
     }
 
     /// How many items the cursor's cells hold, with the root. It is at most three for each node of the path.

@@ -38,7 +38,10 @@
 //! predicate it makes the truth Unknown instead, and the path goes on.
 //!
 //! **A rewind** sends each cell back to its beginning: no item is at hand, and nothing was given. It takes no memory, so one
-//! cursor serves the items of one row after another, of one line after another.
+//! cursor serves the items of one row after another, of one line after another. The cells go back when they are first asked.
+//!
+//! **A plain path**, `lax $` and accessors of members behind it, needs no cells where a cursor is asked at its beginning whether there is
+//! an item, or which is the only one. `chain.rt` then goes down the document from key to key. `specs/Chains.antt` says what is found so.
 //!
 //! The crate stands on `sj_path` for paths and variables, on `sj_step` for accessors and traces, and on `sj_method` for
 //! methods and arithmetic. It promises that each call of `Cursor::next` gives the first item that the meaning has left, or
@@ -50,6 +53,7 @@ mod arithmetic;
 mod ask;
 mod build;
 mod cells;
+mod chain;
 mod cursor;
 mod env;
 mod fault_free;

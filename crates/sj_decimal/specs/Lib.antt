@@ -8,6 +8,7 @@ pub mod Parses
 pub mod Parts
 pub mod Reading
 pub mod Rounding
+pub mod Shorts
 pub mod Signed
 pub mod Significant
 pub mod Text

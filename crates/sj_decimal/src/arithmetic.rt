@@ -42,8 +42,8 @@ impl Decimal {
     /// The difference (ISO/IEC 9075-2, 6.29, numeric value expression). Both numbers are brought to the larger scale.
     ///
     /// # Errors
-    /// `Range` exactly where one of the coefficients at that scale, or their difference before it is reduced, reaches 10^38
-    /// in magnitude.
+    /// `Range` exactly where one of the coefficients at that scale, or their difference before it is reduced, reaches
+    /// 10^38 in magnitude.
     pub fn sub(self, other: Decimal) -> Result<Decimal, NumFault>
         ensures value { result ≡ difference self other }
         ensures decimal { IfOk result IsDecimal }
@@ -63,8 +63,8 @@ impl Decimal {
     /// The product (ISO/IEC 9075-2, 6.29, numeric value expression).
     ///
     /// # Errors
-    /// `Range` exactly where the product of the coefficients reaches 10^38 in magnitude, or the normal form of the product
-    /// has more than 38 decimals.
+    /// `Range` exactly where the product of the coefficients reaches 10^38 in magnitude, or the normal form of the
+    /// product has more than 38 decimals.
     pub fn mul(self, other: Decimal) -> Result<Decimal, NumFault>
         ensures value { result ≡ product self other }
         ensures decimal { IfOk result IsDecimal }
@@ -79,12 +79,12 @@ impl Decimal {
         )
     }
 
-    /// What is left of this number where the divisor is taken from it a whole number of times, which is the quotient cut
-    /// toward zero. It has the sign of this number.
+    /// What is left of this number where the divisor is taken from it a whole number of times, which is the quotient
+    /// cut toward zero. It has the sign of this number.
     ///
     /// # Errors
-    /// `ZeroDivide` exactly where the divisor is zero, and else `Range` exactly where a coefficient at the larger of the two
-    /// scales reaches 10^38 in magnitude.
+    /// `ZeroDivide` exactly where the divisor is zero, and else `Range` exactly where a coefficient at the larger of
+    /// the two scales reaches 10^38 in magnitude.
     pub fn rem(self, other: Decimal) -> Result<Decimal, NumFault>
         ensures value { result ≡ remainder self other }
         ensures decimal { IfOk result IsDecimal }
@@ -119,7 +119,8 @@ impl Decimal {
         Decimal::exact(false, self.magnitude, self.scale)
     }
 
-    /// The decimal that stands for `magnitude / 10^scale` with this sign, where `magnitude` is below the limit before it is reduced.
+    /// The decimal that stands for `magnitude / 10^scale` with this sign, where `magnitude` is below the limit before
+    /// it is reduced.
     pub(crate) fn limited(negative: bool, magnitude: u128, scale: u32) -> Result<Decimal, NumFault>
         ensures value { result ≡ limited (signed negative magnitude) scale }
         ensures decimal { IfOk result IsDecimal }

@@ -9,8 +9,8 @@ use std::marker::Model;
 
 /// An exact decimal: a whole number of at most 38 digits over a power of ten from 1 to 10^38, in normal form.
 ///
-/// It is a number of one of SQL's exact numeric types (ISO/IEC 9075-2, 4.4, numbers). Two decimals are equal exactly where
-/// they stand for the same number.
+/// It is a number of one of SQL's exact numeric types (ISO/IEC 9075-2, 4.4, numbers). Two decimals are equal exactly
+/// where they stand for the same number.
 #[derive(Clone, Copy)]
 pub struct Decimal {
     // the widest first, so that no room is lost between them
@@ -65,8 +65,8 @@ impl Decimal {
         Some(Decimal::exact(negative, magnitude, scale))
     }
 
-    /// The decimal `c / 10^s`, or `None` where that number is not exact: its normal form has 10^38 or more as the magnitude
-    /// of the coefficient, or more than 38 decimals.
+    /// The decimal `c / 10^s`, or `None` where that number is not exact: its normal form has 10^38 or more as the
+    /// magnitude of the coefficient, or more than 38 decimals.
     pub fn from_parts(c: i128, s: u32) -> Option<Decimal>
         ensures value { SomeIff result (IsExact (c, s)) (normal (c, s)) }
         ensures decimal { IfSome result IsDecimal }
@@ -87,8 +87,8 @@ impl Decimal {
         Decimal::exact(negative, magnitude as u128, scale)
     }
 
-    /// The decimal with this coefficient and this scale, which are in normal form, as those of `parts` are. It costs nothing
-    /// but the sign.
+    /// The decimal with this coefficient and this scale, which are in normal form, as those of `parts` are. It costs
+    /// nothing but the sign.
     #[inline]
     pub fn from_normal(coefficient: i128, scale: u32) -> Decimal
         requires { IsDecimal (coefficient, scale) }

@@ -20,7 +20,8 @@ impl Decimal {
     /// The quotient (ISO/IEC 9075-2, 6.29, numeric value expression), cut toward zero at 16 decimals.
     ///
     /// # Errors
-    /// `ZeroDivide` exactly where the divisor is zero, and else `Range` exactly where the quotient that was cut is not exact.
+    /// `ZeroDivide` exactly where the divisor is zero, and else `Range` exactly where the quotient that was cut is not
+    /// exact.
     pub fn div(self, other: Decimal) -> Result<Decimal, NumFault>
         ensures value { result ≡ quotient self other }
         ensures decimal { IfOk result IsDecimal }

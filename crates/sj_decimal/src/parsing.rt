@@ -2,7 +2,8 @@
 ghost use Rattle.std.specs.Prelude.{◌≡◌, ◌≢◌, ◌+◌, ◌-◌, ◌*◌, ◌%◌, ◌^◌, ◌<◌, ◌≤◌, length, min};
 ghost use Rattle.std.specs.Str.Parse.{AllDigits, digits_value};
 ghost use Rattle.sj_decimal.specs.Signed.{signed};
-ghost use Rattle.sj_decimal.specs.Number.{value_of, shifted};
+ghost use Rattle.std.specs.Bool.{MatchBool};
+ghost use Rattle.sj_decimal.specs.Number.{value_of, shifted, IsNumber};
 
 use crate::decimal::Decimal;
 use crate::magnitude::{MAX_SCALE, scaled};
@@ -28,9 +29,22 @@ impl Decimal {
 
     /// Reads a number as RFC 8259, section 6, writes it. The whole text is the number, with no white space round it.
     ///
-    /// The exponent is read as an exact power of ten, so `1.50e1` is 15, and `0e999` is 0. Text of any length is read, in time
-    /// linear in it.
+    /// The exponent is read as an exact power of ten, so `1.50e1` is 15, and `0e999` is 0. Text of any length is read,
+    /// in time linear in it.
+    #[inline]
     pub fn parse(bytes: &[u8]) -> Parsed
+        ensures value { ParsesAs bytes.now result }
+        ensures decimal { IsParsedDecimal result }
+    {
+        match Decimal::parse_short(bytes) {
+            Some(number) => Parsed::Exact(number),
+            None => Decimal::parse_any(bytes),
+        }
+    }
+
+    // The same, where few numbers need the general way.
+    #[inline(never)]
+    fn parse_any(bytes: &[u8]) -> Parsed
         ensures value { ParsesAs bytes.now result }
         ensures decimal { IsParsedDecimal result }
     {
@@ -38,6 +52,16 @@ impl Decimal {
             None => Parsed::NotNumber,
             Some(spelling) => spelling.value(),
         }
+    }
+}
+
+/// Whether the whole text is a number as RFC 8259, section 6, writes it.
+pub fn is_number(bytes: &[u8]) -> bool
+    ensures { MatchBool result (IsNumber bytes.now) (IsNumber bytes.now → ⊥) }
+{
+    match Spelling::read(bytes) {
+        None => false,
+        Some(_) => true,
     }
 }
 

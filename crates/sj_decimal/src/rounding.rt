@@ -50,8 +50,8 @@ impl Decimal {
         if self.negative { -magnitude } else { magnitude }
     }
 
-    /// This number rounded to `s` decimals, half away from zero, where that has at most `p` digits: the value of a cast to
-    /// NUMERIC(p, s) (ISO/IEC 9075-2, 6.13, cast specification).
+    /// This number rounded to `s` decimals, half away from zero, where that has at most `p` digits: the value of a cast
+    /// to NUMERIC(p, s) (ISO/IEC 9075-2, 6.13, cast specification).
     ///
     /// # Errors
     /// `Range` exactly where the rounded number times 10^s reaches 10^p in magnitude.

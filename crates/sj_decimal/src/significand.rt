@@ -10,7 +10,8 @@ use crate::magnitude::{LIMIT, MAX_SCALE, scaled};
 pub(crate) enum Significand {
     /// `magnitude * 10^zeros`: no zero stands at the end of `magnitude`, and no zeros are counted after 0.
     Fits { magnitude: u128, zeros: u128 },
-    /// There are more than 38 digits from the first to the last that is not zero, so that no power of ten makes the number exact.
+    /// There are more than 38 digits from the first to the last that is not zero, so that no power of ten makes the
+    /// number exact.
     TooLong,
 }
 

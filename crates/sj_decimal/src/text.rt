@@ -14,8 +14,8 @@ use itoa::Buffer;
 use std::fmt;
 
 impl Decimal {
-    /// The text: a minus sign where the number is negative, the whole part, and where there are decimals a point and the
-    /// decimals. It is a number of RFC 8259, section 6, that spells this decimal.
+    /// The text: a minus sign where the number is negative, the whole part, and where there are decimals a point and
+    /// the decimals. It is a number of RFC 8259, section 6, that spells this decimal.
     pub fn text(self) -> ArrayString<48>
         ensures value { result.bytes ≡ decimal_text self }
         ensures spells { SpellsExact result.bytes self }
@@ -23,7 +23,8 @@ impl Decimal {
         written(self.negative, self.magnitude, self.scale)
     }
 
-    /// The text with exactly this many decimals. The number times 10^places has to be whole, and below 10^38 in magnitude.
+    /// The text with exactly this many decimals. The number times 10^places has to be whole, and below 10^38 in
+    /// magnitude.
     pub fn text_places(self, places: u32) -> ArrayString<48>
         requires places { places ≤ 38 }
         requires fits { FitsPlaces places self }

@@ -1,12 +1,11 @@
 -- What the calls of a builder keep.
-use Rattle.std.proofs.Common.{◌≡◌, ℕ, suc, zero, ◌+◌, ◌-◌, ◌<◌, ◌≤◌, ◌^◌, List, [], ◌∷◌, ◌++◌, length, take, drop, get_or, set, ℤ, pos, Bool, true, false, Option, Some, None, option_map, IfSome, refl, sym, ap, ◌∙◌, subst, length-append, arith}
+use Rattle.std.proofs.Common.{◌≡◌, ℕ, suc, zero, ◌+◌, ◌-◌, ◌<◌, ◌≤◌, ◌^◌, List, [], ◌∷◌, ◌++◌, length, take, drop, get_or, set, Bool, true, false, Option, Some, None, option_map, IfSome, refl, sym, ap, ap₂, ◌∙◌, subst, length-append, arith}
 use Rattle.std.specs.List.{AllByRecursion}
 use Rattle.std.specs.Str.{IsUtf8}
 use Rattle.std.proofs.Math.ListN.{get_or-map}
-use Rattle.std.proofs.lemmas.List.{append-nil, get_or_append_left, length-map, map-append, map-set, set_at, get_or_at, take-append-le, drop-append-le, take_at, drop_at, length-set, length-drop}
-use Rattle.sj_decimal.specs.Normal.{IsDecimal}
-use Rattle.sj_decimal.specs.Number.{SpellsWide}
-use Rattle.sj_json.specs.Tree.{exact, wide, Tree}
+use Rattle.std.proofs.lemmas.List.{append-nil, length-map, map-append, map-set, set_at, get_or_at, take-append-drop, take-append-le, length-take-le, drop-append-le, take_at, drop_at, length-set, length-drop}
+use Rattle.sj_decimal.specs.Shorts.{between}
+use Rattle.sj_json.specs.Tree.{Tree}
 use Rattle.sj_json.specs.Cells.{Cell, string_cell, number_cell, closed, opened, Entry, layout, tree_of}
 use Rattle.sj_json.specs.Building.{Part, top, elements, pairs, State, TakesValue, TakesKey, TakesClose, put, put_key, empty, with_value, with_key, with_open, put_option, with_close, fresh, IsComplete, part_entries, part_kids, part_key, is_object, laid, place, IsState, state_of}
 use Rattle.sj_json.specs.Layouts.{tree_of-layout}
@@ -15,13 +14,13 @@ use Rattle.sj_doc.specs.Kinds.{opens_object, want_of}
 use Rattle.sj_doc.specs.declared.node.Want.{Want}
 use Rattle.sj_doc.specs.declared.node.Want.TheVariants as wants
 use Rattle.sj_doc.specs.declared.node.Body.{Body}
-use Rattle.sj_doc.specs.declared.node.Body.TheVariants.{Null, Truth, Text, Exact, Wide, Closed, Opened}
+use Rattle.sj_doc.specs.declared.node.Body.TheVariants.{Null, Truth, Text, Numeral, Closed, Opened}
 use Rattle.sj_doc.specs.declared.node.Node.{Node}
 use Rattle.sj_doc.specs.declared.node.Span.{Span}
 use Rattle.sj_json.specs.Links.{ups, laid_ups}
 use Rattle.sj_json.proofs.Links.{ups-put, ups-empty, ups-put_key, ups-close}
-use Rattle.sj_doc.specs.Nodes.{Held, decimal_in, text_in, cell_of, entry_of, entries, links, IsSpan, IsBody, IsNode, IsDoc}
-use Rattle.sj_doc.specs.Builders.{built, node_total, IsBuilder}
+use Rattle.sj_doc.specs.Nodes.{spelled, text_in, cell_of, entry_of, entries, links, IsSpan, IsNumeral, IsBody, IsNode, IsDoc}
+use Rattle.sj_doc.specs.Builders.{Building, built, node_total, IsBuilder}
 
 pub all_push : {X : Type 0} (P : X → Type 0) (xs : List X) (x : X) → AllByRecursion P xs → P x → AllByRecursion P (xs ++ x ∷ [])
 all_push P [] x h p = (p, tt)
@@ -31,21 +30,21 @@ take_all : (x : List ℕ) → take (length x) x ≡ x
 take_all x = ap (take (length x)) (sym (append-nil x)) ∙ take_at x [] (length x) refl
 
 -- a node whose children, if it may have any, stand elsewhere
-abbrev pub IsAlone : Held → Tree → Body → Type 0
+abbrev pub IsAlone : List ℕ → Tree → Body → Type 0
 IsAlone a t body = (k : Option (List ℕ)) → layout k t ≡ (k, cell_of a body) ∷ []
 
 -- it has no children
 abbrev pub IsLeaf : Tree → Type 0
 IsLeaf t = (n : ℕ) → ups n t ≡ n ∷ []
 
-module _ (a : Held) (ns : List Node) (key : Option Span) (inner count depth : ℕ) (b : IsBuilder a ns key inner count depth) where
+module _ (a : List ℕ) (ns : List Node) (key : Option Span) (inner count depth : ℕ) (b : IsBuilder a ns key inner count depth) where
   pub now_seen : built a ns key ≡ (b.part, b.outer)
   now_seen = ap (λ k. state_of k (entries a ns)) b.keyed ∙ ap (state_of (part_key b.part)) b.laid_out ∙ seen b.part b.outer b.shape
 
   pub total : length ns ≡ node_total (b.part, b.outer)
   total = sym (length-map ns (entry_of a)) ∙ ap length b.laid_out
 
-module _ (a : Held) (ns : List Node) (key : Option Span) (inner count depth : ℕ) (b : IsBuilder a ns key inner count depth) (s : State) (view : built a ns key ≡ s) where
+module _ (a : List ℕ) (ns : List Node) (key : Option Span) (inner count depth : ℕ) (b : IsBuilder a ns key inner count depth) (s : State) (view : built a ns key ≡ s) where
   pub state_is : (b.part, b.outer) ≡ s
   state_is = sym (now_seen a ns key inner count depth b) ∙ view
 
@@ -84,31 +83,29 @@ module _ (a : Held) (ns : List Node) (key : Option Span) (inner count depth : �
         key_fits = tt;
         small = omega (arith, ap length e, length-append ns (node ∷ []));
         narrow = b.narrow;
-        few = b.few;
       } in
       (after, now_seen a new None inner (count + 1) depth after ∙ ap (with_value t) state_is)
 
   -- a key comes
-  pub key_comes : (k : Span) → TakesKey s.0 → IsSpan a.0 k → IsBuilder a ns (Some k) inner count depth × (built a ns (Some k) ≡ with_key (text_in a.0 k) s)
+  pub key_comes : (k : Span) → TakesKey s.0 → IsSpan a k → IsBuilder a ns (Some k) inner count depth × (built a ns (Some k) ≡ with_key (text_in a k) s)
   key_comes k wanted good =
       let wants : TakesKey b.part = subst (λ (x : State). TakesKey x.0) (sym state_is) wanted in
       let after : IsBuilder a ns (Some k) inner count depth = record {
-        part = put_key (text_in a.0 k) b.part;
+        part = put_key (text_in a k) b.part;
         outer = b.outer;
-        shape = state-put_key (text_in a.0 k) b.part b.outer b.shape;
-        laid_out = b.laid_out ∙ laid-put_key (text_in a.0 k) b.part b.outer;
-        linked = b.linked ∙ ups-put_key (text_in a.0 k) b.part b.outer;
-        keyed = sym (key-put_key (text_in a.0 k) b.part wants);
-        inner_is = b.inner_is ∙ place-put_key (text_in a.0 k) b.part b.outer;
-        count_is = b.count_is ∙ ap length (kids-put_key (text_in a.0 k) b.part);
+        shape = state-put_key (text_in a k) b.part b.outer b.shape;
+        laid_out = b.laid_out ∙ laid-put_key (text_in a k) b.part b.outer;
+        linked = b.linked ∙ ups-put_key (text_in a k) b.part b.outer;
+        keyed = sym (key-put_key (text_in a k) b.part wants);
+        inner_is = b.inner_is ∙ place-put_key (text_in a k) b.part b.outer;
+        count_is = b.count_is ∙ ap length (kids-put_key (text_in a k) b.part);
         depth_is = b.depth_is;
         fits = b.fits;
         key_fits = good;
         small = b.small;
         narrow = b.narrow;
-        few = b.few;
       } in
-      (after, now_seen a ns (Some k) inner count depth after ∙ ap (with_key (text_in a.0 k)) state_is)
+      (after, now_seen a ns (Some k) inner count depth after ∙ ap (with_key (text_in a k)) state_is)
 
   -- a container opens
   pub opens : (kind : Bool) → TakesValue s.0 → node_total s < 2 ^ 25 → (up : ℕ) → up ≡ length ns - inner → (new : List Node) → new ≡ ns ++ record { key = key; up = up; body = Opened kind inner count } ∷ []
@@ -138,11 +135,10 @@ module _ (a : Held) (ns : List Node) (key : Option Span) (inner count depth : �
         key_fits = tt;
         small = omega (arith, ap length e, length-append ns (node ∷ []));
         narrow = b.narrow;
-        few = b.few;
       } in
       (after, now_seen a new None (length ns) 0 (depth + 1) after ∙ ap (with_open kind) state_is)
 
--- ---- the text and the numbers grow
+-- ---- the text grows
 
 text-grown : (a x : List ℕ) (s : Span) → IsSpan a s → text_in (a ++ x) s ≡ text_in a s
 text-grown a x s h =
@@ -154,29 +150,19 @@ span-grown : (a x : List ℕ) (s : Span) → IsSpan a s → IsSpan (a ++ x) s
 span-grown a x s h = (omega (arith, length-append a x), subst IsUtf8 (sym (text-grown a x s h)) h.1)
 
 -- what stood in a stands in b as well
-pub record Grows (a : Held) (b : Held) : Type 0 where
-  pub spans : (s : Span) → IsSpan a.0 s → IsSpan b.0 s
-  pub texts : (s : Span) → IsSpan a.0 s → text_in b.0 s ≡ text_in a.0 s
-  pub places : (i : ℕ) → i < length a.1 → i < length b.1
-  pub decimals : (i : ℕ) → i < length a.1 → decimal_in b.1 i ≡ decimal_in a.1 i
+pub record Grows (a : List ℕ) (b : List ℕ) : Type 0 where
+  pub spans : (s : Span) → IsSpan a s → IsSpan b s
+  pub texts : (s : Span) → IsSpan a s → text_in b s ≡ text_in a s
 
-text_grows : (a : Held) (x : List ℕ) → Grows a (a.0 ++ x, a.1)
-text_grows a x = record { spans = λ s h. span-grown a.0 x s h; texts = λ s h. text-grown a.0 x s h; places = λ i h. h; decimals = λ i h. refl }
+text_grows : (a x : List ℕ) → Grows a (a ++ x)
+text_grows a x = record { spans = λ s h. span-grown a x s h; texts = λ s h. text-grown a x s h }
 
-numbers_grow : (a : Held) (d : ℤ × ℕ) → Grows a (a.0, a.1 ++ d ∷ [])
-numbers_grow a d = record {
-  spans = λ s h. h;
-  texts = λ s h. refl;
-  places = λ i h. omega (arith, length-append a.1 (d ∷ []));
-  decimals = λ i h. get_or_append_left a.1 (d ∷ []) (pos 0, 0) i h;
-}
-
-module _ (a b : Held) (g : Grows a b) where
-  key-grown : (k : Option Span) → IfSome k (IsSpan a.0) → option_map (text_in b.0) k ≡ option_map (text_in a.0) k
+module _ (a b : List ℕ) (g : Grows a b) where
+  key-grown : (k : Option Span) → IfSome k (IsSpan a) → option_map (text_in b) k ≡ option_map (text_in a) k
   key-grown None h = refl
   key-grown (Some s) h = ap Some (g.texts s h)
 
-  key_fits-grown : (k : Option Span) → IfSome k (IsSpan a.0) → IfSome k (IsSpan b.0)
+  key_fits-grown : (k : Option Span) → IfSome k (IsSpan a) → IfSome k (IsSpan b)
   key_fits-grown None h = tt
   key_fits-grown (Some s) h = g.spans s h
 
@@ -184,8 +170,7 @@ module _ (a b : Held) (g : Grows a b) where
   cell-grown Null h = refl
   cell-grown (Truth x) h = refl
   cell-grown (Text s) h = ap string_cell (g.texts s h)
-  cell-grown (Exact i) h = ap (λ (d : ℤ × ℕ). number_cell (exact d)) (g.decimals i h.0)
-  cell-grown (Wide s) h = ap (λ (x : List ℕ). number_cell (wide x)) (g.texts s h.0)
+  cell-grown (Numeral s) h = ap (λ (x : List ℕ). number_cell (spelled x)) (g.texts s h.0)
   cell-grown (Closed k n m) h = refl
   cell-grown (Opened k n m) h = refl
 
@@ -193,13 +178,12 @@ module _ (a b : Held) (g : Grows a b) where
   body-grown Null h = tt
   body-grown (Truth x) h = tt
   body-grown (Text s) h = g.spans s h
-  body-grown (Exact i) h = (g.places i h.0, subst IsDecimal (sym (g.decimals i h.0)) h.1)
-  body-grown (Wide s) h = (g.spans s h.0, subst SpellsWide (sym (g.texts s h.0)) h.1)
+  body-grown (Numeral s) h = (g.spans s h.0, subst IsNumeral (sym (g.texts s h.0)) h.1)
   body-grown (Closed k n m) h = tt
   body-grown (Opened k n m) h = tt
 
   entry-grown : (n : Node) → IsNode a n → entry_of b n ≡ entry_of a n
-  entry-grown n h = ap (λ (k : Option (List ℕ)). (k, cell_of b n.body)) (key-grown n.key h.0) ∙ ap (λ (c : Cell). (option_map (text_in a.0) n.key, c)) (cell-grown n.body h.1)
+  entry-grown n h = ap (λ (k : Option (List ℕ)). (k, cell_of b n.body)) (key-grown n.key h.0) ∙ ap (λ (c : Cell). (option_map (text_in a) n.key, c)) (cell-grown n.body h.1)
 
   entries-grown : (ns : List Node) → AllByRecursion (IsNode a) ns → entries b ns ≡ entries a ns
   entries-grown [] h = refl
@@ -209,9 +193,9 @@ module _ (a b : Held) (g : Grows a b) where
   all-grown [] h = tt
   all-grown (n ∷ ns) h = ((key_fits-grown n.key h.0.0, body-grown n.body h.0.1), all-grown ns h.1)
 
-  grown_comes : (ns : List Node) (key : Option Span) (inner count depth : ℕ) → IsBuilder a ns key inner count depth → length b.0 < 2 ^ 32 → length b.1 < 2 ^ 32
+  grown_comes : (ns : List Node) (key : Option Span) (inner count depth : ℕ) → IsBuilder a ns key inner count depth → length b < 2 ^ 32
       → IsBuilder b ns key inner count depth × (built b ns key ≡ built a ns key)
-  grown_comes ns key inner count depth m narrow few =
+  grown_comes ns key inner count depth m narrow =
       let grown : IsBuilder b ns key inner count depth = record {
         part = m.part;
         outer = m.outer;
@@ -226,30 +210,20 @@ module _ (a b : Held) (g : Grows a b) where
         key_fits = key_fits-grown key m.key_fits;
         small = m.small;
         narrow = narrow;
-        few = few;
       } in
-      (grown, ap (λ k. state_of k (entries b ns)) (key-grown key m.key_fits) ∙ ap (state_of (option_map (text_in a.0) key)) (entries-grown ns m.fits))
+      (grown, ap (λ k. state_of k (entries b ns)) (key-grown key m.key_fits) ∙ ap (state_of (option_map (text_in a) key)) (entries-grown ns m.fits))
+
+-- the line stays where it is
+pub line_kept : (a x new : List ℕ) (k : ℕ) → k ≤ length a → new ≡ a ++ x → (take k new ≡ take k a) × (k ≤ length new)
+line_kept a x new k within e = (ap (take k) e ∙ take-append-le k a x within, omega (arith, ap length e, length-append a x, within))
 
 -- the text grows
-pub text_comes : (a : Held) (ns : List Node) (key : Option Span) (inner count depth : ℕ) → IsBuilder a ns key inner count depth
-    → (x new : List ℕ) → new ≡ a.0 ++ x → length new < 2 ^ 32
-    → IsBuilder (new, a.1) ns key inner count depth × (built (new, a.1) ns key ≡ built a ns key)
+pub text_comes : (a : List ℕ) (ns : List Node) (key : Option Span) (inner count depth : ℕ) → IsBuilder a ns key inner count depth
+    → (x new : List ℕ) → new ≡ a ++ x → length new < 2 ^ 32
+    → IsBuilder new ns key inner count depth × (built new ns key ≡ built a ns key)
 text_comes a ns key inner count depth b x new e small =
-    let P : List ℕ → Type 0 = λ l. IsBuilder (l, a.1) ns key inner count depth × (built (l, a.1) ns key ≡ built a ns key) in
-    subst P (sym e) (grown_comes a (a.0 ++ x, a.1) (text_grows a x) ns key inner count depth b (subst (λ (l : List ℕ). length l < 2 ^ 32) e small) b.few)
-
--- a number is put to the others
-pub number_comes : (a : Held) (ns : List Node) (key : Option Span) (inner count depth : ℕ) → IsBuilder a ns key inner count depth
-    → (d : ℤ × ℕ) (new : List (ℤ × ℕ)) → new ≡ a.1 ++ d ∷ [] → length new < 2 ^ 32
-    → IsBuilder (a.0, new) ns key inner count depth × (built (a.0, new) ns key ≡ built a ns key)
-number_comes a ns key inner count depth b d new e small =
-    let P : List (ℤ × ℕ) → Type 0 = λ l. IsBuilder (a.0, l) ns key inner count depth × (built (a.0, l) ns key ≡ built a ns key) in
-    subst P (sym e) (grown_comes a (a.0, a.1 ++ d ∷ []) (numbers_grow a d) ns key inner count depth b b.narrow (subst (λ (l : List (ℤ × ℕ)). length l < 2 ^ 32) e small))
-
--- the number that was put at the end
-pub last_decimal : (old new : List (ℤ × ℕ)) (d : ℤ × ℕ) (at : ℕ) → new ≡ old ++ d ∷ [] → at ≡ length old → (at < length new) × (decimal_in new at ≡ d)
-last_decimal old new d at e here =
-    (omega (arith, ap length e, length-append old (d ∷ [])), ap (λ (l : List (ℤ × ℕ)). decimal_in l at) e ∙ ap (decimal_in (old ++ d ∷ [])) here ∙ get_or_at old d [] (pos 0, 0) (length old) refl)
+    let P : List ℕ → Type 0 = λ l. IsBuilder l ns key inner count depth × (built l ns key ≡ built a ns key) in
+    subst P (sym e) (grown_comes a (a ++ x) (text_grows a x) ns key inner count depth b (subst (λ (l : List ℕ). length l < 2 ^ 32) e small))
 
 -- the text that was put at the end
 pub last_span : (a x new : List ℕ) (s : Span) → new ≡ a ++ x → IsUtf8 x → s.start ≡ length a → s.len ≡ length x → IsSpan new s × (text_in new s ≡ x)
@@ -258,11 +232,35 @@ last_span a x new s e good at long =
     ap (λ (l : List ℕ). text_in l s) e ∙ ap (take s.len) (drop_at a x s.start (sym at)) ∙ ap (λ (n : ℕ). take n x) long ∙ take_all x in
     ((omega (arith, ap length e, length-append a x), subst IsUtf8 (sym same) good), same)
 
+-- what stands in the line
+pub line_span : (a line : List ℕ) (k from to : ℕ) (s : Span) → take k a ≡ line → k ≤ length a → from ≤ to → to ≤ length line → s.start ≡ from → s.len ≡ to - from → IsUtf8 (between line from to)
+    → IsSpan a s × (text_in a s ≡ between line from to)
+line_span a line k from to s is within later inside start long good =
+    let here : text_in line s ≡ between line from to = ap (λ (i : ℕ). take s.len (drop i line)) start ∙ ap (λ (n : ℕ). take n (drop from line)) long in
+    let span : IsSpan line s = (omega (arith, start, long), subst IsUtf8 (sym here) good) in
+    let whole : a ≡ line ++ drop k a = sym (take-append-drop k a) ∙ ap (λ (x : List ℕ). x ++ drop k a) is in
+    (subst (λ (x : List ℕ). IsSpan x s) (sym whole) (span-grown line (drop k a) s span), ap (λ (x : List ℕ). text_in x s) whole ∙ text-grown line (drop k a) s span ∙ here)
+
+-- it has places of 32 bits
+pub line_room : (a line : List ℕ) (k : ℕ) → take k a ≡ line → k ≤ length a → length a < 2 ^ 32 → length line < 2 ^ 32
+line_room a line k is within small = omega (arith, ap length (sym is), length-take-le k a within)
+
+-- ---- what is seen of a builder
+
+pub state_seen : {x y : Building} → x ≡ y → x.0 ≡ y.0
+state_seen e = ap (λ (z : Building). z.0) e
+
+pub line_seen : {x y : Building} → x ≡ y → x.1 ≡ y.1
+line_seen e = ap (λ (z : Building). z.1) e
+
+pub both_seen : {s t : State} {a b : List ℕ} → s ≡ t → a ≡ b → ◌≡◌ {A = Building} (s, a) (t, b)
+both_seen e f = ap₂ (λ (s : State) (a : List ℕ). (s, a)) e f
+
 -- ---- a new builder
 
-pub starts : (a : List ℕ) (ds : List (ℤ × ℕ)) (ns : List Node) → a ≡ [] → ds ≡ [] → ns ≡ [] → IsBuilder (a, ds) ns None 0 0 0 × (built (a, ds) ns None ≡ fresh)
-starts a ds ns e g f =
-    let none : IsBuilder ([], []) [] None 0 0 0 = record {
+pub starts : (a : List ℕ) (ns : List Node) → ns ≡ [] → length a < 2 ^ 32 → IsBuilder a ns None 0 0 0 × (built a ns None ≡ fresh)
+starts a ns e small =
+    let none : IsBuilder a [] None 0 0 0 = record {
       part = top None;
       outer = [];
       shape = tt;
@@ -275,13 +273,10 @@ starts a ds ns e g f =
       fits = tt;
       key_fits = tt;
       small = omega arith;
-      narrow = omega arith;
-      few = omega arith;
+      narrow = small;
     } in
-    let P : List ℕ → Type 0 = λ l. IsBuilder (l, ds) ns None 0 0 0 × (built (l, ds) ns None ≡ fresh) in
-    let Q : List (ℤ × ℕ) → Type 0 = λ l. IsBuilder ([], l) ns None 0 0 0 × (built ([], l) ns None ≡ fresh) in
-    let R : List Node → Type 0 = λ l. IsBuilder ([], []) l None 0 0 0 × (built ([], []) l None ≡ fresh) in
-    subst P (sym e) (subst Q (sym g) (subst R (sym f) (none, refl)))
+    let P : List Node → Type 0 = λ l. IsBuilder a l None 0 0 0 × (built a l None ≡ fresh) in
+    subst P (sym e) (none, refl)
 
 -- ---- a container closes
 
@@ -326,7 +321,7 @@ inner_entry : (p : Part) (qs : List Part) (d : Entry) → HasOuter qs → open_a
 inner_entry p [] d h = absurd h
 inner_entry p (q ∷ qs) d h = get_or_at (laid q qs) (part_key q, opened (is_object p) (place q qs) (length (part_kids q))) (part_entries p) d (length (laid q qs)) refl
 
-module _ (a : Held) (ns : List Node) (key : Option Span) (inner count depth : ℕ) (b : IsBuilder a ns key inner count depth) where
+module _ (a : List ℕ) (ns : List Node) (key : Option Span) (inner count depth : ℕ) (b : IsBuilder a ns key inner count depth) where
   pub inner_small : HasOuter b.outer → inner < length ns
   inner_small h = omega (arith, b.inner_is, inner_within b.part b.outer h, total a ns key inner count depth b)
 
@@ -340,7 +335,7 @@ module _ (a : Held) (ns : List Node) (key : Option Span) (inner count depth : �
 same_opened : {k l : Bool} {i j m n : ℕ} → opened k i m ≡ opened l j n → (k ≡ l) × (i ≡ j) × (m ≡ n)
 same_opened e = (cc, cc, cc)
 
-abbrev pub Closed_up : Held → List Node → Option Span → ℕ → ℕ → ℕ → State → Type 0
+abbrev pub Closed_up : List ℕ → List Node → Option Span → ℕ → ℕ → ℕ → State → Type 0
 Closed_up a new key inner count depth s = IsBuilder a new key inner count depth × (built a new key ≡ with_close s)
 
 -- a node that is overwritten keeps its link
@@ -355,16 +350,16 @@ no_key (elements ts) h = refl
 no_key (pairs ms None) h = refl
 no_key (pairs ms (Some k)) h = absurd h
 
-module _ (a : Held) (ns : List Node) (key : Option Span) (n : Node) (inner count depth : ℕ) (kind : Bool) (parent before below : ℕ) (new : List Node) where
+module _ (a : List ℕ) (ns : List Node) (key : Option Span) (n : Node) (inner count depth : ℕ) (kind : Bool) (parent before below : ℕ) (new : List Node) where
   closing : (p : Part) (qs : List Part) → IsState p qs → TakesClose p → entries a ns ≡ laid p qs
-      → option_map (text_in a.0) key ≡ part_key p → inner ≡ place p qs → count ≡ length (part_kids p) → depth ≡ length qs
-      → AllByRecursion (IsNode a) ns → IfSome key (IsSpan a.0) → length ns ≤ 2 ^ 25 → length a.0 < 2 ^ 32 → length a.1 < 2 ^ 32
+      → option_map (text_in a) key ≡ part_key p → inner ≡ place p qs → count ≡ length (part_kids p) → depth ≡ length qs
+      → AllByRecursion (IsNode a) ns → IfSome key (IsSpan a) → length ns ≤ 2 ^ 25 → length a < 2 ^ 32
       → open_at p qs (entry_of a n) → n.body ≡ Opened kind parent before → IsNode a n
       → links ns ≡ laid_ups p qs → n ≡ get_or ns inner n
       → new ≡ set ns inner (record { key = n.key; up = n.up; body = Closed kind count below }) → below + 1 + inner ≡ length ns
       → Closed_up a new key parent (before + 1) (depth - 1) (p, qs)
-  closing p [] shape wanted out keyed inner_is count_is depth_is fits key_fits small narrow few here body good linked read e size = absurd (has_outer p [] shape wanted)
-  closing p (q ∷ qs) shape wanted out keyed inner_is count_is depth_is fits key_fits small narrow few here body good linked read e size =
+  closing p [] shape wanted out keyed inner_is count_is depth_is fits key_fits small narrow here body good linked read e size = absurd (has_outer p [] shape wanted)
+  closing p (q ∷ qs) shape wanted out keyed inner_is count_is depth_is fits key_fits small narrow here body good linked read e size =
       let t = closes p wanted in
       let outside = outer_state p q qs shape in
       let parts = same_opened (ap (cell_of a) (sym body) ∙ ap (λ (x : Entry). x.1) here) in
@@ -397,7 +392,6 @@ module _ (a : Held) (ns : List Node) (key : Option Span) (n : Node) (inner count
         key_fits = key_fits;
         small = omega (arith, ap length e, length-set ns inner node);
         narrow = narrow;
-        few = few;
       } in
       (after, now_seen a new key parent (before + 1) (depth - 1) after ∙ ap (λ (o : Option Tree). (put_option o q, qs)) (sym t.1))
 
@@ -411,14 +405,13 @@ module _ (a : Held) (ns : List Node) (key : Option Span) (n : Node) (inner count
       let outside = has_outer b.part b.outer b.shape wants in
       let good : IsNode a n = all_at (IsNode a) ns inner n b.fits (inner_small a ns key inner count depth b outside) e in
       subst (Closed_up a new key parent (before + 1) (depth - 1)) same
-      (closing b.part b.outer b.shape wants b.laid_out b.keyed b.inner_is b.count_is b.depth_is b.fits b.key_fits b.small b.narrow b.few (entry_open a ns key inner count depth b n outside e) body good b.linked e new_is size)
+      (closing b.part b.outer b.shape wants b.laid_out b.keyed b.inner_is b.count_is b.depth_is b.fits b.key_fits b.small b.narrow (entry_open a ns key inner count depth b n outside e) body good b.linked e new_is size)
 
-is_open : (a : Held) (b : Body) (k : Bool) (i m : ℕ) → cell_of a b ≡ opened k i m → b ≡ Opened k i m
+is_open : (a : List ℕ) (b : Body) (k : Bool) (i m : ℕ) → cell_of a b ≡ opened k i m → b ≡ Opened k i m
 is_open a Null k i m e = cc
 is_open a (Truth x) k i m e = cc
 is_open a (Text s) k i m e = cc
-is_open a (Exact j) k i m e = cc
-is_open a (Wide s) k i m e = cc
+is_open a (Numeral s) k i m e = cc
 is_open a (Closed l j n) k i m e = cc
 is_open a (Opened l j n) k i m e = cc
 
@@ -426,7 +419,7 @@ is_open a (Opened l j n) k i m e = cc
 abbrev pub IsOpenBody : ℕ → Body → Type 0
 IsOpenBody total b = (k : Bool) × (i : ℕ) × (m : ℕ) × (b ≡ Opened k i m) × (m ≤ total)
 
-open_body : (a : Held) (n : Node) (p : Part) (qs : List Part) → open_at p qs (entry_of a n) → IsOpenBody (length (laid p qs)) n.body
+open_body : (a : List ℕ) (n : Node) (p : Part) (qs : List Part) → open_at p qs (entry_of a n) → IsOpenBody (length (laid p qs)) n.body
 open_body a n p [] h = absurd h
 open_body a n p (q ∷ qs) h = (
   is_object p,
@@ -440,7 +433,7 @@ outer_some : (qs : List Part) → HasOuter qs → 0 < length qs
 outer_some [] h = absurd h
 outer_some (q ∷ qs) h = omega arith
 
-module _ (a : Held) (ns : List Node) (key : Option Span) (inner count depth : ℕ) (b : IsBuilder a ns key inner count depth) (s : State) (view : built a ns key ≡ s) (wanted : TakesClose s.0) where
+module _ (a : List ℕ) (ns : List Node) (key : Option Span) (inner count depth : ℕ) (b : IsBuilder a ns key inner count depth) (s : State) (view : built a ns key ≡ s) (wanted : TakesClose s.0) where
   pub inside : HasOuter b.outer
   inside = has_outer b.part b.outer b.shape (subst (λ (x : State). TakesClose x.0) (sym (state_is a ns key inner count depth b s view)) wanted)
 
@@ -469,7 +462,7 @@ complete (top (Some t)) (q ∷ qs) h g = absurd h
 complete (elements ts) qs h g = absurd g
 complete (pairs ms k) qs h g = absurd g
 
-pub finishes : (a : Held) (ns : List Node) (key : Option Span) (inner count depth : ℕ) → IsBuilder a ns key inner count depth
+pub finishes : (a : List ℕ) (ns : List Node) (key : Option Span) (inner count depth : ℕ) → IsBuilder a ns key inner count depth
     → (s : State) → built a ns key ≡ s → IsComplete s → IsDoc a ns × (s ≡ (top (Some (tree_of (entries a ns))), []))
 finishes a ns key inner count depth b s view wanted =
     let same = state_is a ns key inner count depth b s view in
@@ -514,7 +507,7 @@ want_member (elements ts) k f e = cc
 want_member (pairs ms None) k f e = cc
 want_member (pairs ms (Some l)) k f e = refl
 
-object_opened : (a : Held) (n : Node) (p : Part) (qs : List Part) → open_at p qs (entry_of a n) → opens_object n.body ≡ is_object p
+object_opened : (a : List ℕ) (n : Node) (p : Part) (qs : List Part) → open_at p qs (entry_of a n) → opens_object n.body ≡ is_object p
 object_opened a n p [] h = absurd h
 object_opened a n p (q ∷ qs) h = ap opens_object (is_open a n.body (is_object p) (place q qs) (length (part_kids q)) (ap (λ (x : Entry). x.1) h))
 
@@ -522,7 +515,7 @@ some_outer : (qs : List Part) → 0 < length qs → HasOuter qs
 some_outer [] h = absurd (omega arith)
 some_outer (q ∷ qs) h = tt
 
-module _ (a : Held) (ns : List Node) (key : Option Span) (inner count depth : ℕ) (b : IsBuilder a ns key inner count depth) (s : State) (view : built a ns key ≡ s) where
+module _ (a : List ℕ) (ns : List Node) (key : Option Span) (inner count depth : ℕ) (b : IsBuilder a ns key inner count depth) (s : State) (view : built a ns key ≡ s) where
   part_is : (w : Want) → w ≡ want_of b.part → w ≡ want_of s.0
   part_is w e = e ∙ ap (λ (x : State). want_of x.0) (state_is a ns key inner count depth b s view)
 
@@ -543,10 +536,10 @@ module _ (a : Held) (ns : List Node) (key : Option Span) (inner count depth : �
     wants_items f = part_is wants.ValueOrClose (want_items b.part b.outer b.shape (omega (arith, b.depth_is)) (sym object_is ∙ f))
 
     pub wants_key : opens_object n.body ≡ true → key ≡ None → wants.KeyOrClose ≡ want_of s.0
-    wants_key f g = part_is wants.KeyOrClose (want_key b.part (sym object_is ∙ f) (sym b.keyed ∙ ap (option_map (text_in a.0)) g))
+    wants_key f g = part_is wants.KeyOrClose (want_key b.part (sym object_is ∙ f) (sym b.keyed ∙ ap (option_map (text_in a)) g))
 
     pub wants_member : (k : Span) → opens_object n.body ≡ true → key ≡ Some k → wants.Value ≡ want_of s.0
-    wants_member k f g = part_is wants.Value (want_member b.part (text_in a.0 k) (sym object_is ∙ f) (sym b.keyed ∙ ap (option_map (text_in a.0)) g))
+    wants_member k f g = part_is wants.Value (want_member b.part (text_in a k) (sym object_is ∙ f) (sym b.keyed ∙ ap (option_map (text_in a)) g))
 
-pub count_nodes : (a : Held) (ns : List Node) (key : Option Span) (inner count depth : ℕ) → IsBuilder a ns key inner count depth → (s : State) → built a ns key ≡ s → length ns ≡ node_total s
+pub count_nodes : (a : List ℕ) (ns : List Node) (key : Option Span) (inner count depth : ℕ) → IsBuilder a ns key inner count depth → (s : State) → built a ns key ≡ s → length ns ≡ node_total s
 count_nodes a ns key inner count depth b s view = total a ns key inner count depth b ∙ ap node_total (state_is a ns key inner count depth b s view)

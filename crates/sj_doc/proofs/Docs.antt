@@ -8,11 +8,11 @@ use Rattle.sj_json.specs.Cells.{Cell, null_cell, truth_cell, string_cell, number
 use Rattle.sj_json.proofs.Places.{length-layout, length-subtrees, LiesAt, lies_at}
 use Rattle.sj_doc.specs.declared.node.Kind.{Kind}
 use Rattle.sj_doc.specs.declared.node.Body.{Body}
-use Rattle.sj_doc.specs.declared.node.Body.TheVariants.{Null, Truth, Text, Exact, Wide, Closed, Opened}
+use Rattle.sj_doc.specs.declared.node.Body.TheVariants.{Null, Truth, Text, Numeral, Closed, Opened}
 use Rattle.sj_doc.specs.declared.node.Node.{Node}
 use Rattle.sj_doc.specs.declared.node.Span.{Span}
 use Rattle.sj_json.specs.Links.{ups}
-use Rattle.sj_doc.specs.Nodes.{Held, text_in, cell_of, entry_of, entries, links, IsDoc}
+use Rattle.sj_doc.specs.Nodes.{text_in, cell_of, entry_of, entries, links, IsDoc}
 use Rattle.sj_doc.specs.declared.node.Kind.TheVariants as kinds
 use Rattle.sj_doc.specs.Kinds.{kind_of, body_kind, body_count, body_below}
 
@@ -41,28 +41,28 @@ layout-cons k (array ts) = refl
 layout-cons k (object ms) = refl
 
 -- the tree t, the nodes that lay it out
-module _ (held : Held) (nodes : List Node) (t : Tree) (doc : IsDoc held nodes) (view : tree_of (entries held nodes) ≡ t) where
-  pub laid_as : entries held nodes ≡ layout None t
+module _ (arena : List ℕ) (nodes : List Node) (t : Tree) (doc : IsDoc arena nodes) (view : tree_of (entries arena nodes) ≡ t) where
+  pub laid_as : entries arena nodes ≡ layout None t
   laid_as = doc.laid ∙ ap (layout None) view
 
   pub count : length nodes ≡ node_count t
-  count = sym (length-map nodes (entry_of held)) ∙ ap length laid_as ∙ length-layout None t
+  count = sym (length-map nodes (entry_of arena)) ∙ ap length laid_as ∙ length-layout None t
 
-  pub lies_here : (i : ℕ) → i < node_count t → LiesAt (entries held nodes) i (subtree t i)
+  pub lies_here : (i : ℕ) → i < node_count t → LiesAt (entries arena nodes) i (subtree t i)
   lies_here i h = subst (λ cs. LiesAt cs i (subtree t i)) (sym laid_as) (lies_at None t i (omega (arith, length-subtrees t)))
 
-  pub entry_at : (i : ℕ) (n : Node) (h : i < node_count t) → n ≡ get_or nodes i n → entry_of held n ≡ ((lies_here i h).0, head_cell (subtree t i))
+  pub entry_at : (i : ℕ) (n : Node) (h : i < node_count t) → n ≡ get_or nodes i n → entry_of arena n ≡ ((lies_here i h).0, head_cell (subtree t i))
   entry_at i n h e =
       let at = lies_here i h in
-      let d = entry_of held n in
-      ap (entry_of held) e ∙ sym (get_or-map (entry_of held) nodes i n)
-      ∙ ap (λ j. get_or (entries held nodes) j d) (sym (add-zero i)) ∙ sym (get_or-drop i (entries held nodes) 0 d)
+      let d = entry_of arena n in
+      ap (entry_of arena) e ∙ sym (get_or-map (entry_of arena) nodes i n)
+      ∙ ap (λ j. get_or (entries arena nodes) j d) (sym (add-zero i)) ∙ sym (get_or-drop i (entries arena nodes) 0 d)
       ∙ ap (λ cs. get_or cs 0 d) (at.2 ∙ ap (λ cs. cs ++ at.1) (layout-cons at.0 (subtree t i)))
 
-  pub cell_at : (i : ℕ) (n : Node) → i < node_count t → n ≡ get_or nodes i n → cell_of held n.body ≡ head_cell (subtree t i)
+  pub cell_at : (i : ℕ) (n : Node) → i < node_count t → n ≡ get_or nodes i n → cell_of arena n.body ≡ head_cell (subtree t i)
   cell_at i n h e = ap (λ x. x.1) (entry_at i n h e)
 
-  pub node_key_at : (i : ℕ) (n : Node) → (h : i < node_count t) → n ≡ get_or nodes i n → option_map (text_in held.0) n.key ≡ (lies_here i h).0
+  pub node_key_at : (i : ℕ) (n : Node) → (h : i < node_count t) → n ≡ get_or nodes i n → option_map (text_in arena) n.key ≡ (lies_here i h).0
   node_key_at i n h e = ap (λ x. x.0) (entry_at i n h e)
 
   pub link_at : (i : ℕ) (n : Node) → i < node_count t → n ≡ get_or nodes i n → n.up ≡ get_or (ups 0 t) i 0
@@ -79,15 +79,14 @@ cell_kind (closed false n m) = kinds.Array
 cell_kind (closed true n m) = kinds.Object
 cell_kind (opened k n m) = kinds.Null
 
-body-cell_kind : (held : Held) (b : Body) → body_kind b ≡ cell_kind (cell_of held b)
-body-cell_kind held Null = refl
-body-cell_kind held (Truth b) = refl
-body-cell_kind held (Text s) = refl
-body-cell_kind held (Exact i) = refl
-body-cell_kind held (Wide s) = refl
-body-cell_kind held (Closed false n m) = refl
-body-cell_kind held (Closed true n m) = refl
-body-cell_kind held (Opened k n m) = refl
+body-cell_kind : (arena : List ℕ) (b : Body) → body_kind b ≡ cell_kind (cell_of arena b)
+body-cell_kind arena Null = refl
+body-cell_kind arena (Truth b) = refl
+body-cell_kind arena (Text s) = refl
+body-cell_kind arena (Numeral s) = refl
+body-cell_kind arena (Closed false n m) = refl
+body-cell_kind arena (Closed true n m) = refl
+body-cell_kind arena (Opened k n m) = refl
 
 head-cell_kind : (t : Tree) → cell_kind (head_cell t) ≡ kind_of t
 head-cell_kind null = refl
@@ -97,8 +96,8 @@ head-cell_kind (number v) = refl
 head-cell_kind (array ts) = refl
 head-cell_kind (object ms) = refl
 
-pub kind-head : (held : Held) (b : Body) (t : Tree) → cell_of held b ≡ head_cell t → body_kind b ≡ kind_of t
-kind-head held b t e = body-cell_kind held b ∙ ap cell_kind e ∙ head-cell_kind t
+pub kind-head : (arena : List ℕ) (b : Body) (t : Tree) → cell_of arena b ≡ head_cell t → body_kind b ≡ kind_of t
+kind-head arena b t e = body-cell_kind arena b ∙ ap cell_kind e ∙ head-cell_kind t
 
 abbrev cell_count : Cell → ℕ
 cell_count null_cell = 0
@@ -108,14 +107,13 @@ cell_count (number_cell v) = 0
 cell_count (closed k n m) = n
 cell_count (opened k n m) = 0
 
-body-cell_count : (held : Held) (b : Body) → body_count b ≡ cell_count (cell_of held b)
-body-cell_count held Null = refl
-body-cell_count held (Truth b) = refl
-body-cell_count held (Text s) = refl
-body-cell_count held (Exact i) = refl
-body-cell_count held (Wide s) = refl
-body-cell_count held (Closed k n m) = refl
-body-cell_count held (Opened k n m) = refl
+body-cell_count : (arena : List ℕ) (b : Body) → body_count b ≡ cell_count (cell_of arena b)
+body-cell_count arena Null = refl
+body-cell_count arena (Truth b) = refl
+body-cell_count arena (Text s) = refl
+body-cell_count arena (Numeral s) = refl
+body-cell_count arena (Closed k n m) = refl
+body-cell_count arena (Opened k n m) = refl
 
 head-cell_count : (t : Tree) → cell_count (head_cell t) ≡ length (children t)
 head-cell_count null = refl
@@ -125,8 +123,8 @@ head-cell_count (number v) = refl
 head-cell_count (array ts) = refl
 head-cell_count (object ms) = refl
 
-pub count-head : (held : Held) (b : Body) (t : Tree) → cell_of held b ≡ head_cell t → body_count b ≡ length (children t)
-count-head held b t e = body-cell_count held b ∙ ap cell_count e ∙ head-cell_count t
+pub count-head : (arena : List ℕ) (b : Body) (t : Tree) → cell_of arena b ≡ head_cell t → body_count b ≡ length (children t)
+count-head arena b t e = body-cell_count arena b ∙ ap cell_count e ∙ head-cell_count t
 
 abbrev cell_below : Cell → ℕ
 cell_below null_cell = 0
@@ -136,14 +134,13 @@ cell_below (number_cell v) = 0
 cell_below (closed k n m) = m
 cell_below (opened k n m) = 0
 
-body-cell_below : (held : Held) (b : Body) → body_below b ≡ cell_below (cell_of held b)
-body-cell_below held Null = refl
-body-cell_below held (Truth b) = refl
-body-cell_below held (Text s) = refl
-body-cell_below held (Exact i) = refl
-body-cell_below held (Wide s) = refl
-body-cell_below held (Closed k n m) = refl
-body-cell_below held (Opened k n m) = refl
+body-cell_below : (arena : List ℕ) (b : Body) → body_below b ≡ cell_below (cell_of arena b)
+body-cell_below arena Null = refl
+body-cell_below arena (Truth b) = refl
+body-cell_below arena (Text s) = refl
+body-cell_below arena (Numeral s) = refl
+body-cell_below arena (Closed k n m) = refl
+body-cell_below arena (Opened k n m) = refl
 
 head-cell_below : (t : Tree) → cell_below (head_cell t) ≡ below t
 head-cell_below null = refl
@@ -153,8 +150,8 @@ head-cell_below (number v) = refl
 head-cell_below (array ts) = refl
 head-cell_below (object ms) = refl
 
-pub below-head : (held : Held) (b : Body) (t : Tree) → cell_of held b ≡ head_cell t → body_below b ≡ below t
-below-head held b t e = body-cell_below held b ∙ ap cell_below e ∙ head-cell_below t
+pub below-head : (arena : List ℕ) (b : Body) (t : Tree) → cell_of arena b ≡ head_cell t → body_below b ≡ below t
+below-head arena b t e = body-cell_below arena b ∙ ap cell_below e ∙ head-cell_below t
 
 pub string-head : (s : List ℕ) (t : Tree) → string_cell s ≡ head_cell t → t ≡ string s
 string-head s null e = cc
@@ -180,17 +177,6 @@ number-head v (number w) e = cc
 number-head v (array ts) e = cc
 number-head v (object ms) e = cc
 
--- a body of that kind has one of the two forms
-pub no_number : (b : Body) → body_kind b ≡ kinds.Number → ((i : ℕ) → b ≡ Exact i → ⊥) → ((s : Span) → b ≡ Wide s → ⊥) → ⊥
-no_number Null e f g = cc
-no_number (Truth b) e f g = cc
-no_number (Text s) e f g = cc
-no_number (Exact i) e f g = f i refl
-no_number (Wide s) e f g = g s refl
-no_number (Closed false n m) e f g = cc
-no_number (Closed true n m) e f g = cc
-no_number (Opened k n m) e f g = cc
-
 pub all_at : {X : Type 0} (P : X → Type 0) (xs : List X) (i : ℕ) (x : X) → AllByRecursion P xs → i < length xs → x ≡ get_or xs i x → P x
 all_at P [] i x h l e = absurd (omega arith)
 all_at P (y ∷ ys) zero x h l e = subst P (sym e) h.0
@@ -200,18 +186,25 @@ pub is_text : (b : Body) → body_kind b ≡ kinds.String → (s : Span) × (b �
 is_text Null e = cc
 is_text (Truth b) e = cc
 is_text (Text s) e = (s, refl)
-is_text (Exact i) e = cc
-is_text (Wide s) e = cc
+is_text (Numeral s) e = cc
 is_text (Closed false n m) e = cc
 is_text (Closed true n m) e = cc
 is_text (Opened k n m) e = cc
+
+pub is_numeral : (b : Body) → body_kind b ≡ kinds.Number → (s : Span) × (b ≡ Numeral s)
+is_numeral Null e = cc
+is_numeral (Truth b) e = cc
+is_numeral (Text s) e = cc
+is_numeral (Numeral s) e = (s, refl)
+is_numeral (Closed false n m) e = cc
+is_numeral (Closed true n m) e = cc
+is_numeral (Opened k n m) e = cc
 
 pub is_truth : (b : Body) → body_kind b ≡ kinds.Truth → (x : Bool) × (b ≡ Truth x)
 is_truth Null e = cc
 is_truth (Truth b) e = (b, refl)
 is_truth (Text s) e = cc
-is_truth (Exact i) e = cc
-is_truth (Wide s) e = cc
+is_truth (Numeral s) e = cc
 is_truth (Closed false n m) e = cc
 is_truth (Closed true n m) e = cc
 is_truth (Opened k n m) e = cc

@@ -1,3 +1,4 @@
+pub mod Numerals
 pub mod Docs
 pub mod Made
 pub mod Builders

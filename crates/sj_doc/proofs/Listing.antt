@@ -8,7 +8,7 @@ use Rattle.sj_json.proofs.Places.{length-layout, length-subtrees, LiesAt, lies_a
 use Rattle.sj_doc.specs.Children.{first_kids, kids_at, children_left, layout_kids, IsChildren}
 use Rattle.sj_json.specs.Cells.{tree_of}
 use Rattle.sj_doc.specs.declared.node.Node.{Node}
-use Rattle.sj_doc.specs.Nodes.{Held, text_in, entries, IsDoc, IsNode}
+use Rattle.sj_doc.specs.Nodes.{text_in, entries, IsDoc, IsNode}
 use Rattle.sj_doc.specs.Kinds.{body_below}
 use Rattle.sj_doc.proofs.Docs.{layout_below, layout-cons, laid_as, count, lies_here, entry_at, cell_at, below-head, all_at}
 
@@ -112,21 +112,21 @@ next_of t i n (k ∷ ks) rest e c h =
 pub next_kid : (t : Tree) (i n : ℕ) → IsChildren t i n → 0 < n → NextChild t i n
 next_kid t i n h some = next_of t i n h.kids h.rest h.lie h.count some
 
-module _ (held : Held) (nodes : List Node) (t : Tree) (doc : IsDoc held nodes) (view : tree_of (entries held nodes) ≡ t) (i n : ℕ) (next : NextChild t i n) (node : Node) (read : node ≡ get_or nodes i node) where
-  pub node_key : option_map (text_in held.0) node.key ≡ next.kid.0
+module _ (arena : List ℕ) (nodes : List Node) (t : Tree) (doc : IsDoc arena nodes) (view : tree_of (entries arena nodes) ≡ t) (i n : ℕ) (next : NextChild t i n) (node : Node) (read : node ≡ get_or nodes i node) where
+  pub node_key : option_map (text_in arena) node.key ≡ next.kid.0
   node_key =
-      let at = lies_here held nodes t doc view i next.within in
-      ap (λ (x : Entry). x.0) (entry_at held nodes t doc view i node next.within read)
-      ∙ ap (λ (x : Child). x.0) (same_laid at.0 next.kid.0 (subtree t i) next.kid.1 at.1 next.rest (sym at.2 ∙ ap (drop i) (laid_as held nodes t doc view) ∙ next.lie))
+      let at = lies_here arena nodes t doc view i next.within in
+      ap (λ (x : Entry). x.0) (entry_at arena nodes t doc view i node next.within read)
+      ∙ ap (λ (x : Child). x.0) (same_laid at.0 next.kid.0 (subtree t i) next.kid.1 at.1 next.rest (sym at.2 ∙ ap (drop i) (laid_as arena nodes t doc view) ∙ next.lie))
 
   pub node_below : body_below node.body ≡ below next.kid.1
-  node_below = below-head held node.body (subtree t i) (cell_at held nodes t doc view i node next.within read) ∙ ap below next.tree
+  node_below = below-head arena node.body (subtree t i) (cell_at arena nodes t doc view i node next.within read) ∙ ap below next.tree
 
   pub node_in : i < length nodes
-  node_in = omega (arith, count held nodes t doc view, next.within)
+  node_in = omega (arith, count arena nodes t doc view, next.within)
 
-  pub node_fits : IsNode held node
-  node_fits = all_at (IsNode held) nodes i node doc.fits node_in read
+  pub node_fits : IsNode arena node
+  node_fits = all_at (IsNode arena) nodes i node doc.fits node_in read
 
 pub no_children : (t : Tree) (i n : ℕ) → n ≡ 0 → children_left t i n ≡ []
 no_children t i n e = ap (λ (m : ℕ). numbered i (take m (kids_at t i))) e

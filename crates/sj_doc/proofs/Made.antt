@@ -8,30 +8,30 @@ use Rattle.sj_json.specs.Printing as printing
 use Rattle.sj_json.specs.Printing.{IsWellMade, IsTree}
 use Rattle.sj_json.proofs.Places.{length-subtrees}
 use Rattle.sj_doc.specs.declared.node.Body.{Body}
-use Rattle.sj_doc.specs.declared.node.Body.TheVariants.{Null, Truth, Text, Exact, Wide, Closed, Opened}
+use Rattle.sj_doc.specs.declared.node.Body.TheVariants.{Null, Truth, Text, Numeral, Closed, Opened}
 use Rattle.sj_doc.specs.declared.node.Node.{Node}
-use Rattle.sj_doc.specs.Nodes.{Held, cell_of, entries, IsBody, IsNode, IsDoc}
+use Rattle.sj_doc.specs.Nodes.{text_in, cell_of, entries, IsBody, IsNode, IsDoc}
+use Rattle.sj_doc.proofs.Numerals.{spelled_made}
 use Rattle.sj_doc.proofs.Docs.{count, cell_at, head_cell, all_at}
 
 same_number : {v w : Number} → number_cell v ≡ number_cell w → v ≡ w
 same_number e = cc
 
-number_made : (held : Held) (b : Body) (v : Number) → IsBody held b → cell_of held b ≡ number_cell v → IsWellMade v
-number_made held Null v h e = cc
-number_made held (Truth x) v h e = cc
-number_made held (Text s) v h e = cc
-number_made held (Exact i) v h e = subst IsWellMade (same_number e) h.1
-number_made held (Wide s) v h e = subst IsWellMade (same_number e) h.1
-number_made held (Closed k n m) v h e = cc
-number_made held (Opened k n m) v h e = cc
+number_made : (arena : List ℕ) (b : Body) (v : Number) → IsBody arena b → cell_of arena b ≡ number_cell v → IsWellMade v
+number_made arena Null v h e = cc
+number_made arena (Truth x) v h e = cc
+number_made arena (Text s) v h e = cc
+number_made arena (Numeral s) v h e = subst IsWellMade (same_number e) (spelled_made (text_in arena s) h.1.number)
+number_made arena (Closed k n m) v h e = cc
+number_made arena (Opened k n m) v h e = cc
 
-node_made : (held : Held) (b : Body) (t : Tree) → IsBody held b → cell_of held b ≡ head_cell t → printing.IsNode t
-node_made held b null h e = tt
-node_made held b (truth x) h e = tt
-node_made held b (string s) h e = tt
-node_made held b (number v) h e = number_made held b v h e
-node_made held b (array ts) h e = tt
-node_made held b (object ms) h e = tt
+node_made : (arena : List ℕ) (b : Body) (t : Tree) → IsBody arena b → cell_of arena b ≡ head_cell t → printing.IsNode t
+node_made arena b null h e = tt
+node_made arena b (truth x) h e = tt
+node_made arena b (string s) h e = tt
+node_made arena b (number v) h e = number_made arena b v h e
+node_made arena b (array ts) h e = tt
+node_made arena b (object ms) h e = tt
 
 all_from : {X : Type 0} (P : X → Type 0) (d : X) (xs : List X) → ((i : ℕ) → i < length xs → P (get_or xs i d)) → AllByRecursion P xs
 all_from P d [] h = tt
@@ -40,13 +40,13 @@ all_from P d (x ∷ xs) h = (h 0 (omega arith), all_from P d xs (λ i l. h (suc 
 nothing : Node
 nothing = record { key = None; up = 0; body = Null }
 
-module _ (held : Held) (nodes : List Node) (t : Tree) (doc : IsDoc held nodes) (view : tree_of (entries held nodes) ≡ t) where
+module _ (arena : List ℕ) (nodes : List Node) (t : Tree) (doc : IsDoc arena nodes) (view : tree_of (entries arena nodes) ≡ t) where
   made_at : (i : ℕ) → i < length (subtrees t) → printing.IsNode (get_or (subtrees t) i null)
   made_at i l =
       let n = get_or nodes i nothing in
-      let within : i < length nodes = omega (arith, count held nodes t doc view, length-subtrees t, l) in
+      let within : i < length nodes = omega (arith, count arena nodes t doc view, length-subtrees t, l) in
       let here : n ≡ get_or nodes i n = get_or_default nodes i nothing n within in
-      node_made held n.body (subtree t i) (all_at (IsNode held) nodes i n doc.fits within here).1 (cell_at held nodes t doc view i n (omega (arith, length-subtrees t, l)) here)
+      node_made arena n.body (subtree t i) (all_at (IsNode arena) nodes i n doc.fits within here).1 (cell_at arena nodes t doc view i n (omega (arith, length-subtrees t, l)) here)
 
   pub doc_made : IsTree t
   doc_made = all_from printing.IsNode null (subtrees t) made_at

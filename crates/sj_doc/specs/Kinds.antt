@@ -22,8 +22,7 @@ abbrev pub body_kind : Body → Kind
 body_kind bodies.Null = kinds.Null
 body_kind (bodies.Truth b) = kinds.Truth
 body_kind (bodies.Text s) = kinds.String
-body_kind (bodies.Exact i) = kinds.Number
-body_kind (bodies.Wide s) = kinds.Number
+body_kind (bodies.Numeral s) = kinds.Number
 body_kind (bodies.Closed false n size) = kinds.Array
 body_kind (bodies.Closed true n size) = kinds.Object
 body_kind (bodies.Opened kind parent n) = kinds.Null
@@ -32,8 +31,7 @@ abbrev pub body_count : Body → ℕ
 body_count bodies.Null = 0
 body_count (bodies.Truth b) = 0
 body_count (bodies.Text s) = 0
-body_count (bodies.Exact i) = 0
-body_count (bodies.Wide s) = 0
+body_count (bodies.Numeral s) = 0
 body_count (bodies.Closed kind n size) = n
 body_count (bodies.Opened kind parent n) = 0
 
@@ -41,8 +39,7 @@ abbrev pub body_below : Body → ℕ
 body_below bodies.Null = 0
 body_below (bodies.Truth b) = 0
 body_below (bodies.Text s) = 0
-body_below (bodies.Exact i) = 0
-body_below (bodies.Wide s) = 0
+body_below (bodies.Numeral s) = 0
 body_below (bodies.Closed kind n size) = size
 body_below (bodies.Opened kind parent n) = 0
 
@@ -50,8 +47,7 @@ abbrev pub opens_object : Body → Bool
 opens_object bodies.Null = false
 opens_object (bodies.Truth b) = false
 opens_object (bodies.Text s) = false
-opens_object (bodies.Exact i) = false
-opens_object (bodies.Wide s) = false
+opens_object (bodies.Numeral s) = false
 opens_object (bodies.Closed kind n size) = false
 opens_object (bodies.Opened kind parent n) = kind
 

@@ -1,9 +1,11 @@
 // A document while it is being built.
-ghost use Rattle.std.specs.Prelude.{◌≡◌, ◌+◌, ◌-◌, ◌^◌, ◌<◌, ◌≤◌, ◌++◌, ◌∷◌, length, [], IfOk, OnOk, OnErr, Some, true, false};
+ghost use Rattle.std.specs.Prelude.{◌≡◌, ◌+◌, ◌-◌, ◌^◌, ◌<◌, ◌≤◌, ◌++◌, ◌∷◌, length, IsUtf8, [], IfOk, OnOk, OnErr, Some, true, false};
 ghost use Rattle.sj_decimal.specs.Number.{SpellsWide};
+ghost use Rattle.sj_decimal.specs.Shorts.{between};
 ghost use Rattle.sj_json.specs.Tree.{null, truth, string, number, exact, wide};
 ghost use Rattle.sj_json.specs.Building.{fresh, TakesValue, TakesKey, TakesClose, with_value, with_key, with_open, with_close, IsComplete, top};
-ghost use Rattle.sj_doc.specs.Builders.{node_total, Stores, StoresNumber};
+ghost use Rattle.sj_doc.specs.Builders.{node_total, Stores};
+ghost use Rattle.sj_doc.specs.Nodes.{IsNumeral, spelled};
 ghost use Rattle.sj_doc.specs.Kinds.{want_of};
 
 use crate::doc::Doc;
@@ -14,15 +16,18 @@ use std::alloc::Global;
 use std::marker::Model;
 
 /// A document while it is being built, from its first token to its last. Contracts see what the innermost
-/// open container holds so far, and then the same of those around it, from the inside out.
+/// open container holds so far, then the same of those around it, from the inside out, and the line that it
+/// holds.
 ///
-/// A value may come where `wants` is `Value` or `ValueOrClose` and fewer than 2^25 nodes were built. All
-/// strings, keys and wide numbers together may have 2^32 - 1 bytes: a call that would pass this gives
-/// `Memory`. A call that gives `Memory` leaves the builder as it was.
+/// A value may come where `wants` is `Value` or `ValueOrClose` and fewer than 2^25 nodes were built. The line
+/// and all strings, keys and numbers that do not stand in it may have 2^32 - 1 bytes together: a call that
+/// would pass this gives `Memory`. A call that gives `Memory` leaves the builder as it was.
 #[derive(Drop)]
 pub struct DocBuilder {
+    // the line, and behind it each text that does not stand in it
     arena: Vec<u8>,
-    numbers: Vec<Decimal>,
+    // the length of the line
+    line: u32,
     nodes: Vec<Node>,
     // the key whose value comes next
     key: Option<Span>,
@@ -34,18 +39,16 @@ pub struct DocBuilder {
 }
 
 impl Model for DocBuilder {
-    ghost use Rattle.sj_json.specs.Building.{State};
-    ghost use Rattle.sj_json.specs.Coding.{state_code};
+    ghost use Rattle.std.specs.Prelude.{ℕ, ◌≤◌, take, length};
+    ghost use Rattle.sj_doc.specs.Builders.{Building, building_code, built, IsBuilder};
 
-    ghost Value = { State };
+    ghost Value = { Building };
 
-    ghost coded = { state_code };
+    ghost coded = { building_code };
 
-    ghost use Rattle.sj_doc.specs.Builders.{built, IsBuilder};
+    ghost view = { λ b. (built b.arena.items b.nodes.items b.key, take b.line b.arena.items) };
 
-    ghost view = { λ b. built (b.arena.items, b.numbers.items) b.nodes.items b.key };
-
-    ghost invariant = { λ b. IsBuilder (b.arena.items, b.numbers.items) b.nodes.items b.key b.inner b.count b.depth };
+    ghost invariant = { λ b. IsBuilder b.arena.items b.nodes.items b.key b.inner b.count b.depth × (b.line ≤ length b.arena.items) };
 }
 
 // `Vec::push`, which is called only where there is no room: else the item is written in place.
@@ -80,39 +83,23 @@ fn store(arena: &mut Vec<u8>, s: &str) -> Result<Span, Memory>
     })
 }
 
-// Puts n at the end of the exact numbers, which has room for 2^32 - 1 of them.
-#[inline(always)]
-fn store_number(numbers: &mut Vec<Decimal>, n: Decimal) -> Result<u32, Memory>
-    requires { length numbers.old.items < 2 ^ 32 }
-    ensures ok { IfOk result (λ at. StoresNumber numbers.old.items numbers.new.items n at) }
-    ensures err { OnErr result (numbers.new.items ≡ numbers.old.items) }
-{
-    let at = numbers.len();
-    if at >= u32::MAX as usize {
-        return Err(Memory);
-    }
-    push_in(numbers, n)?;
-    Ok(at as u32)
-}
-
 impl DocBuilder {
     /// An empty builder. It takes no memory yet.
     pub fn new(alloc: Global) -> DocBuilder
-        ensures { result ≡ fresh }
+        ensures { result ≡ (fresh, []) }
     {
-        DocBuilder::over(Vec::new(alloc), Vec::new(alloc), Vec::new(alloc))
+        DocBuilder::over(Vec::new(alloc), Vec::new(alloc))
     }
 
     // An empty builder over the memory of these vectors.
-    pub(crate) fn over(arena: Vec<u8>, numbers: Vec<Decimal>, nodes: Vec<Node>) -> DocBuilder
+    pub(crate) fn over(arena: Vec<u8>, nodes: Vec<Node>) -> DocBuilder
         requires no_text { arena.items ≡ [] }
-        requires no_numbers { numbers.items ≡ [] }
         requires no_nodes { nodes.items ≡ [] }
-        ensures { result ≡ fresh }
+        ensures { result ≡ (fresh, []) }
     {
         DocBuilder {
             arena,
-            numbers,
+            line: 0,
             nodes,
             key: None,
             inner: 0,
@@ -121,12 +108,36 @@ impl DocBuilder {
         }
     }
 
+    /// An empty builder over the memory of this one, which holds the line. Strings, keys and numbers that stand in the line
+    /// are then given by their places, and are not copied one by one.
+    pub fn holding(self, line: &str) -> Result<DocBuilder, Memory>
+        ensures { IfOk result (λ builder. builder ≡ (fresh, line.now)) }
+    {
+        let DocBuilder {
+            mut arena,
+            mut nodes,
+            ..
+        } = self;
+        arena.clear();
+        nodes.clear();
+        store(&mut arena, line)?;
+        Ok(DocBuilder {
+            arena,
+            line: line.len() as u32,
+            nodes,
+            key: None,
+            inner: 0,
+            count: 0,
+            depth: 0,
+        })
+    }
+
     /// A null.
     #[inline]
     pub fn null(&mut self) -> Result<(), Memory>
-        requires wanted { TakesValue self.old.0 }
-        requires room { node_total self.old < 2 ^ 25 }
-        ensures ok { OnOk result (self.new ≡ with_value null self.old) }
+        requires wanted { TakesValue self.old.0.0 }
+        requires room { node_total self.old.0 < 2 ^ 25 }
+        ensures ok { OnOk result (self.new ≡ (with_value null self.old.0, self.old.1)) }
         ensures err { OnErr result (self.new ≡ self.old) }
     {
         let up = self.nodes.len() as u32 - self.inner;
@@ -141,9 +152,9 @@ impl DocBuilder {
     /// A truth value.
     #[inline]
     pub fn truth(&mut self, b: bool) -> Result<(), Memory>
-        requires wanted { TakesValue self.old.0 }
-        requires room { node_total self.old < 2 ^ 25 }
-        ensures ok { OnOk result (self.new ≡ with_value (truth b) self.old) }
+        requires wanted { TakesValue self.old.0.0 }
+        requires room { node_total self.old.0 < 2 ^ 25 }
+        ensures ok { OnOk result (self.new ≡ (with_value (truth b) self.old.0, self.old.1)) }
         ensures err { OnErr result (self.new ≡ self.old) }
     {
         let up = self.nodes.len() as u32 - self.inner;
@@ -158,9 +169,9 @@ impl DocBuilder {
     /// A string.
     #[inline(always)]
     pub fn text(&mut self, s: &str) -> Result<(), Memory>
-        requires wanted { TakesValue self.old.0 }
-        requires room { node_total self.old < 2 ^ 25 }
-        ensures ok { OnOk result (self.new ≡ with_value (string s.now) self.old) }
+        requires wanted { TakesValue self.old.0.0 }
+        requires room { node_total self.old.0 < 2 ^ 25 }
+        ensures ok { OnOk result (self.new ≡ (with_value (string s.now) self.old.0, self.old.1)) }
         ensures err { OnErr result (self.new ≡ self.old) }
     {
         let span = store(&mut self.arena, s)?;
@@ -173,39 +184,87 @@ impl DocBuilder {
         Ok(())
     }
 
-    /// An exact number.
+    /// A string that stands in the line, from the one place up to the other.
     #[inline(always)]
-    pub fn exact(&mut self, n: Decimal) -> Result<(), Memory>
-        requires wanted { TakesValue self.old.0 }
-        requires room { node_total self.old < 2 ^ 25 }
-        ensures ok { OnOk result (self.new ≡ with_value (number (exact n)) self.old) }
+    pub fn text_at(&mut self, from: usize, to: usize) -> Result<(), Memory>
+        requires wanted { TakesValue self.old.0.0 }
+        requires room { node_total self.old.0 < 2 ^ 25 }
+        requires within { (from ≤ to) × (to ≤ length self.old.1) }
+        requires utf8 { IsUtf8 (between self.old.1 from to) }
+        ensures ok { OnOk result (self.new ≡ (with_value (string (between self.old.1 from to)) self.old.0, self.old.1)) }
         ensures err { OnErr result (self.new ≡ self.old) }
     {
-        // shows the proof that n is in normal form and within the limits
-        let _ = n.parts();
-        let at = store_number(&mut self.numbers, n)?;
         let up = self.nodes.len() as u32 - self.inner;
         let key = self.key;
-        let body = Body::Exact(at);
+        let span = Span {
+            start: from as u32,
+            len: (to - from) as u32,
+        };
+        let body = Body::Text(span);
         push_in(&mut self.nodes, Node { key, up, body })?;
         self.key = None;
         self.count += 1;
         Ok(())
     }
 
+    /// An exact number.
+    pub fn exact(&mut self, n: Decimal) -> Result<(), Memory>
+        requires wanted { TakesValue self.old.0.0 }
+        requires room { node_total self.old.0 < 2 ^ 25 }
+        ensures ok { OnOk result (self.new ≡ (with_value (number (exact n)) self.old.0, self.old.1)) }
+        ensures err { OnErr result (self.new ≡ self.old) }
+    {
+        self.number(n.text().as_str())
+    }
+
     /// A number whose value is not exact, by its spelling.
-    #[inline]
     pub fn wide(&mut self, spelling: &str) -> Result<(), Memory>
-        requires wanted { TakesValue self.old.0 }
-        requires room { node_total self.old < 2 ^ 25 }
+        requires wanted { TakesValue self.old.0.0 }
+        requires room { node_total self.old.0 < 2 ^ 25 }
         requires wide { SpellsWide spelling.now }
-        ensures ok { OnOk result (self.new ≡ with_value (number (wide spelling.now)) self.old) }
+        ensures ok { OnOk result (self.new ≡ (with_value (number (wide spelling.now)) self.old.0, self.old.1)) }
+        ensures err { OnErr result (self.new ≡ self.old) }
+    {
+        self.number(spelling)
+    }
+
+    /// A number, by its spelling. Its value is read where it is asked for. One with more than 64 bytes has to be
+    /// wide: the value of another is put in by `exact`.
+    #[inline(always)]
+    pub fn number(&mut self, spelling: &str) -> Result<(), Memory>
+        requires wanted { TakesValue self.old.0.0 }
+        requires room { node_total self.old.0 < 2 ^ 25 }
+        requires number { IsNumeral spelling.now }
+        ensures ok { OnOk result (self.new ≡ (with_value (number (spelled spelling.now)) self.old.0, self.old.1)) }
         ensures err { OnErr result (self.new ≡ self.old) }
     {
         let span = store(&mut self.arena, spelling)?;
         let up = self.nodes.len() as u32 - self.inner;
         let key = self.key;
-        let body = Body::Wide(span);
+        let body = Body::Numeral(span);
+        push_in(&mut self.nodes, Node { key, up, body })?;
+        self.key = None;
+        self.count += 1;
+        Ok(())
+    }
+
+    /// A number that stands in the line, from the one place up to the other.
+    #[inline(always)]
+    pub fn number_at(&mut self, from: usize, to: usize) -> Result<(), Memory>
+        requires wanted { TakesValue self.old.0.0 }
+        requires room { node_total self.old.0 < 2 ^ 25 }
+        requires within { (from ≤ to) × (to ≤ length self.old.1) }
+        requires number { IsNumeral (between self.old.1 from to) }
+        ensures ok { OnOk result (self.new ≡ (with_value (number (spelled (between self.old.1 from to))) self.old.0, self.old.1)) }
+        ensures err { OnErr result (self.new ≡ self.old) }
+    {
+        let up = self.nodes.len() as u32 - self.inner;
+        let key = self.key;
+        let span = Span {
+            start: from as u32,
+            len: (to - from) as u32,
+        };
+        let body = Body::Numeral(span);
         push_in(&mut self.nodes, Node { key, up, body })?;
         self.key = None;
         self.count += 1;
@@ -215,20 +274,36 @@ impl DocBuilder {
     /// The key of the next member.
     #[inline(always)]
     pub fn key(&mut self, s: &str) -> Result<(), Memory>
-        requires wanted { TakesKey self.old.0 }
-        ensures ok { OnOk result (self.new ≡ with_key s.now self.old) }
+        requires wanted { TakesKey self.old.0.0 }
+        ensures ok { OnOk result (self.new ≡ (with_key s.now self.old.0, self.old.1)) }
         ensures err { OnErr result (self.new ≡ self.old) }
     {
         self.key = Some(store(&mut self.arena, s)?);
         Ok(())
     }
 
+    /// The key of the next member, which stands in the line, from the one place up to the other.
+    #[inline(always)]
+    pub fn key_at(&mut self, from: usize, to: usize)
+        requires wanted { TakesKey self.old.0.0 }
+        requires within { (from ≤ to) × (to ≤ length self.old.1) }
+        requires utf8 { IsUtf8 (between self.old.1 from to) }
+        ensures { self.new ≡ (with_key (between self.old.1 from to) self.old.0, self.old.1) }
+    {
+        // shows the proof that a place in the line has 32 bits
+        let _ = &self.nodes;
+        self.key = Some(Span {
+            start: from as u32,
+            len: (to - from) as u32,
+        });
+    }
+
     /// An array begins.
     #[inline]
     pub fn open_array(&mut self) -> Result<(), Memory>
-        requires wanted { TakesValue self.old.0 }
-        requires room { node_total self.old < 2 ^ 25 }
-        ensures ok { OnOk result (self.new ≡ with_open false self.old) }
+        requires wanted { TakesValue self.old.0.0 }
+        requires room { node_total self.old.0 < 2 ^ 25 }
+        ensures ok { OnOk result (self.new ≡ (with_open false self.old.0, self.old.1)) }
         ensures err { OnErr result (self.new ≡ self.old) }
     {
         self.begin(false)
@@ -237,9 +312,9 @@ impl DocBuilder {
     /// An object begins.
     #[inline]
     pub fn open_object(&mut self) -> Result<(), Memory>
-        requires wanted { TakesValue self.old.0 }
-        requires room { node_total self.old < 2 ^ 25 }
-        ensures ok { OnOk result (self.new ≡ with_open true self.old) }
+        requires wanted { TakesValue self.old.0.0 }
+        requires room { node_total self.old.0 < 2 ^ 25 }
+        ensures ok { OnOk result (self.new ≡ (with_open true self.old.0, self.old.1)) }
         ensures err { OnErr result (self.new ≡ self.old) }
     {
         self.begin(true)
@@ -247,9 +322,9 @@ impl DocBuilder {
 
     #[inline(always)]
     fn begin(&mut self, is_object: bool) -> Result<(), Memory>
-        requires wanted { TakesValue self.old.0 }
-        requires room { node_total self.old < 2 ^ 25 }
-        ensures ok { OnOk result (self.new ≡ with_open is_object self.old) }
+        requires wanted { TakesValue self.old.0.0 }
+        requires room { node_total self.old.0 < 2 ^ 25 }
+        ensures ok { OnOk result (self.new ≡ (with_open is_object self.old.0, self.old.1)) }
         ensures err { OnErr result (self.new ≡ self.old) }
     {
         let at = self.nodes.len() as u32;
@@ -275,9 +350,9 @@ impl DocBuilder {
     /// The innermost container ends. It takes no memory, and the number of nodes stays the same.
     #[inline]
     pub fn close(&mut self)
-        requires { TakesClose self.old.0 }
-        ensures closed { self.new ≡ with_close self.old }
-        ensures total { node_total self.new ≡ node_total self.old }
+        requires { TakesClose self.old.0.0 }
+        ensures closed { self.new ≡ (with_close self.old.0, self.old.1) }
+        ensures total { node_total self.new.0 ≡ node_total self.old.0 }
     {
         let at = self.inner as usize;
         let below = (self.nodes.len() - at - 1) as u32;
@@ -308,7 +383,7 @@ impl DocBuilder {
     /// What may come next.
     #[inline(always)]
     pub fn wants(&self) -> Want
-        ensures { result ≡ want_of self.now.0 }
+        ensures { result ≡ want_of self.now.0.0 }
     {
         if self.depth == 0 {
             if self.count == 0 {
@@ -329,19 +404,18 @@ impl DocBuilder {
     /// The number of open containers.
     #[inline]
     pub fn depth(&self) -> u64
-        ensures { result ≡ length self.now.1 }
+        ensures { result ≡ length self.now.0.1 }
     {
         u64::from(self.depth)
     }
 
     /// The document, where it is complete. It takes no memory.
     pub fn finish(self) -> Doc
-        requires { IsComplete self }
-        ensures { self ≡ (top (Some result), []) }
+        requires { IsComplete self.0 }
+        ensures { self.0 ≡ (top (Some result), []) }
     {
         Doc {
             arena: self.arena,
-            numbers: self.numbers,
             nodes: self.nodes,
         }
     }

@@ -1,10 +1,11 @@
 // The document and its nodes.
-ghost use Rattle.std.specs.Prelude.{◌≡◌, ◌+◌, ◌^◌, ◌<◌, ◌≤◌, length, false, None, option_map};
+ghost use Rattle.std.specs.Prelude.{◌≡◌, ◌+◌, ◌^◌, ◌<◌, ◌≤◌, length, false, [], None, option_map};
 ghost use Rattle.sj_json.specs.Tree.{node_count, subtree, below, children, numbered, string, truth, number};
 ghost use Rattle.sj_json.specs.Printing.{IsTree};
 ghost use Rattle.sj_json.specs.Building.{fresh};
 ghost use Rattle.sj_doc.specs.Kinds.{kind_of};
-ghost use Rattle.sj_doc.specs.Nodes.{text_in, IsSpan};
+ghost use Rattle.sj_doc.specs.Nodes.{text_in, IsSpan, IsNumeral, spelled};
+ghost use Rattle.sj_doc.specs.Numbers.{number_in};
 ghost use Rattle.sj_doc.specs.Stops.{key_in, up_of};
 ghost use Rattle.sj_doc.specs.Tours.{tour};
 
@@ -12,14 +13,13 @@ use crate::builder::DocBuilder;
 use crate::children::Children;
 use crate::node::{Body, Kind, Node, Span};
 use crate::tour::Tour;
-use sj_decimal::Decimal;
+use sj_decimal::{Decimal, Parsed};
 use std::marker::Model;
 
 /// A JSON document (RFC 8259), which keeps equal keys in their order. Contracts see it as one tree.
 #[derive(Drop)]
 pub struct Doc {
     pub(crate) arena: Vec<u8>,
-    pub(crate) numbers: Vec<Decimal>,
     pub(crate) nodes: Vec<Node>,
 }
 
@@ -34,9 +34,9 @@ impl Model for Doc {
     ghost use Rattle.sj_doc.specs.Nodes.{entries, IsDoc};
     ghost use Rattle.sj_json.specs.Cells.{tree_of};
 
-    ghost view = { λ d. tree_of (entries (d.arena.items, d.numbers.items) d.nodes.items) };
+    ghost view = { λ d. tree_of (entries d.arena.items d.nodes.items) };
 
-    ghost invariant = { λ d. IsDoc (d.arena.items, d.numbers.items) d.nodes.items };
+    ghost invariant = { λ d. IsDoc d.arena.items d.nodes.items };
 }
 
 /// A node of a document. Contracts see its number in preorder, `node_id`, and the tree that begins there,
@@ -74,6 +74,26 @@ pub(crate) fn text_at(arena: &[u8], span: Span) -> &str
     unsafe { std::str::from_utf8_unchecked(&arena[start..end]) }
 }
 
+// A number with a longer text is not exact, or its text was cut to its value when it was put in. So a number is read in no
+// time that grows with the line, however often it is asked for.
+const LONGEST_READ: usize = 64;
+
+// The number that a numeral spells.
+#[inline(always)]
+fn value_of(numeral: &str) -> Num<'_>
+    requires { IsNumeral numeral.now }
+    ensures { number_in result ≡ spelled numeral.now }
+{
+    if numeral.len() > LONGEST_READ {
+        return Num::Wide(numeral);
+    }
+    match Decimal::parse(numeral.as_bytes()) {
+        Parsed::Exact(value) => Num::Exact(value),
+        Parsed::Wide => Num::Wide(numeral),
+        Parsed::NotNumber => unreachable!(),
+    }
+}
+
 impl Doc {
     ghost use Rattle.sj_doc.specs.Listed.{node_id, node_tree};
 
@@ -90,17 +110,15 @@ impl Doc {
 
     /// A new builder, over the memory of this document.
     pub fn recycle(self) -> DocBuilder
-        ensures { result ≡ fresh }
+        ensures { result ≡ (fresh, []) }
     {
         let Doc {
             mut arena,
-            mut numbers,
             mut nodes,
         } = self;
         arena.clear();
-        numbers.clear();
         nodes.clear();
-        DocBuilder::over(arena, numbers, nodes)
+        DocBuilder::over(arena, nodes)
     }
 }
 
@@ -155,7 +173,6 @@ impl Doc {
 
 impl<'d> NodeRef<'d> {
     ghost use Rattle.sj_doc.specs.Listed.{node_id, node_tree};
-    ghost use Rattle.sj_doc.specs.Numbers.{number_in};
 
     /// Its number: the root has 0, and the nodes follow in preorder. It is below 2^25.
     pub fn id(self) -> u64
@@ -192,8 +209,7 @@ impl<'d> NodeRef<'d> {
     {
         let doc: &Doc = self.doc;
         match doc.nodes[self.at as usize].body {
-            Body::Exact(at) => Num::Exact(doc.numbers[at as usize]),
-            Body::Wide(span) => Num::Wide(text_at(&doc.arena, span)),
+            Body::Numeral(span) => value_of(text_at(&doc.arena, span)),
             _ => unreachable!(),
         }
     }

@@ -1,12 +1,12 @@
-//! A JSON document: one vector of nodes in preorder, one run of bytes for the text of all strings and keys,
-//! and one vector of exact numbers. No call walks a document by recursion.
+//! A JSON document: one vector of nodes in preorder, and one run of bytes for the text of all strings, keys and
+//! numbers. No call walks a document by recursion.
 //!
 //! It stands on `sj_json` for the definitions, on `sj_decimal` for exact numbers and on `sj_base` for the
 //! counter of steps.
 //!
 //! Every contract sees a `Doc` as one tree, a `NodeRef` as its number in preorder and the tree that begins
 //! there, `Children` as the list of the children that are left, a `Tour` as the list of the visits that are
-//! left, and a `DocBuilder` as the containers that are open. The words over a `NodeRef` are in
+//! left, and a `DocBuilder` as the containers that are open and the line that it holds. The words over a `NodeRef` are in
 //! `specs/Listed.antt`: `node_tree`, `node_id` and `member_of`.
 //!
 //! `Children::next`, `Children::next_under` and `Tour::next` alone hand out the children of a node, and raise

@@ -40,10 +40,8 @@ pub(crate) enum Body {
     Null,
     Truth(bool),
     Text(Span),
-    // its place among the exact numbers
-    Exact(u32),
-    // its spelling
-    Wide(Span),
+    // the text of a number
+    Numeral(Span),
     Closed {
         is_object: bool,
         count: u32,
@@ -72,7 +70,7 @@ impl Body {
             Body::Null => Kind::Null,
             Body::Truth(_) => Kind::Truth,
             Body::Text(_) => Kind::String,
-            Body::Exact(_) | Body::Wide(_) => Kind::Number,
+            Body::Numeral(_) => Kind::Number,
             Body::Closed {
                 is_object: false,
                 ..

@@ -10,12 +10,13 @@ use sj_value::{ExistsAction, SqlValue};
 
 /// JSON_EXISTS: whether the path gives an item on the context item (ISO/IEC 9075-2, JSON exists predicate).
 ///
-/// In lax mode the first item decides, and nothing is asked behind it, so a later fault is no error. In strict mode all items are
-/// asked, and a fault anywhere is an error. An error gives what ON ERROR says: TRUE, FALSE, UNKNOWN as NULL, or with ERROR its state is raised.
+/// In lax mode the first item decides, and nothing is asked behind it, so a later fault is no error. In strict mode all
+/// items are asked, and a fault anywhere is an error. An error gives what ON ERROR says: TRUE, FALSE, UNKNOWN as NULL,
+/// or with ERROR its state is raised.
 ///
-/// The cursor is rewound, wherever it stood, and then stands anywhere; its path and its variables stay. It takes no memory. The
-/// counter rises by no more than the children of nodes that are handed out before the first item, in strict mode by no more
-/// than all of them, and not at all on a bad context.
+/// The cursor is rewound, wherever it stood, and then stands anywhere; its path and its variables stay. It takes no
+/// memory. The counter rises by no more than the children of nodes that are handed out before the first item, in strict
+/// mode by no more than all of them, and not at all on a bad context.
 pub fn json_exists<'d, L: Ledger>(
     cursor: &mut Cursor<'d>,
     context: Context<'d>,

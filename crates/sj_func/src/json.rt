@@ -7,8 +7,8 @@ use sj_doc::{Doc, Kind};
 use sj_value::JsonKind;
 use std::alloc::Global;
 
-/// IS JSON: whether a text is JSON of the kind, and with WITH UNIQUE KEYS whether no object in it has two equal keys (ISO/IEC
-/// 9075-2, JSON predicate). A text that is not JSON has no document. IS NOT JSON is the opposite.
+/// IS JSON: whether a text is JSON of the kind, and with WITH UNIQUE KEYS whether no object in it has two equal keys
+/// (ISO/IEC 9075-2, JSON predicate). A text that is not JSON has no document. IS NOT JSON is the opposite.
 ///
 /// It asks for no steps. Unique keys take memory for the keys of one object at a time.
 ///

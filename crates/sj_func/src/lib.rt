@@ -1,11 +1,11 @@
 //! The query functions of SQL/JSON over the cursor of a path (ISO/IEC 9075-2, SQL/JSON functions).
 //!
-//! `specs/Functions.antt` says what each function gives of the trace that its path has on an item, and what it may take. The calls here
-//! rewind a cursor on the item and ask it no further than they must.
+//! `specs/Functions.antt` says what each function gives of the trace that its path has on an item, and what it may
+//! take. The calls here rewind a cursor on the item and ask it no further than they must.
 //!
-//! The crate stands on `sj_cursor` for paths on items, on `sj_value` for values, casts and the clauses of the functions, and on `sj_text` for
-//! the texts of items. It promises that each call gives exactly the outcome of the definitions, where memory suffices, and that the
-//! counter rises by no more than they allow.
+//! The crate stands on `sj_cursor` for paths on items, on `sj_value` for values, casts and the clauses of the
+//! functions, and on `sj_text` for the texts of items. It promises that each call gives exactly the outcome of the
+//! definitions, where memory suffices, and that the counter rises by no more than they allow.
 #![tactic(auto)]
 
 mod context;

@@ -17,17 +17,17 @@ use std::alloc::Global;
 
 /// JSON_QUERY: what the path gives on the context item, as a JSON value (ISO/IEC 9075-2, JSON query).
 ///
-/// Without a wrapper it is the printed text of the only item: several items are the error 22034, and which of several items and a
-/// fault decides is as in [`json_value`](crate::json_value). OMIT QUOTES gives the text of a string in place of its JSON text. With a
-/// wrapper all items are asked, a fault anywhere is an error, and the value is the array of the items; a conditional wrapper leaves a
-/// single array or object as it is.
+/// Without a wrapper it is the printed text of the only item: several items are the error 22034, and which of several
+/// items and a fault decides is as in [`json_value`](crate::json_value). OMIT QUOTES gives the text of a string in
+/// place of its JSON text. With a wrapper all items are asked, a fault anywhere is an error, and the value is the array
+/// of the items; a conditional wrapper leaves a single array or object as it is.
 ///
-/// No item is ON EMPTY, and an error is ON ERROR. Each of the two gives NULL, an empty array or an empty object, or with ERROR raises a
-/// state: ON EMPTY raises 22035, which ON ERROR does not see, and ON ERROR that of the error.
+/// No item is ON EMPTY, and an error is ON ERROR. Each of the two gives NULL, an empty array or an empty object, or
+/// with ERROR raises a state: ON EMPTY raises 22035, which ON ERROR does not see, and ON ERROR that of the error.
 ///
-/// The cursor is rewound, wherever it stood, and then stands anywhere; its path and its variables stay. The counter rises by no more
-/// than the children of nodes that are handed out on the way, as in `json_value` or with a wrapper all of them, and the nodes below
-/// each item that is printed; and not at all on a bad context.
+/// The cursor is rewound, wherever it stood, and then stands anywhere; its path and its variables stay. The counter
+/// rises by no more than the children of nodes that are handed out on the way, as in `json_value` or with a wrapper all
+/// of them, and the nodes below each item that is printed; and not at all on a bad context.
 ///
 /// # Errors
 /// [`Memory`] where memory runs out. What is said of the cursor and of the counter holds then too.

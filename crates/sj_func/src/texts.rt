@@ -90,8 +90,8 @@ pub(crate) fn rest_text<'d, L: Ledger>(
     }
 }
 
-// Whether the first item stays without brackets, where there are others or not: a conditional wrapper leaves a single array or object as
-// it is.
+// Whether the first item stays without brackets, where there are others or not: a conditional wrapper leaves a single
+// array or object as it is.
 pub(crate) fn stays(wrapper: Wrapper, first: Kind, others: bool) -> bool
     ensures { result ≡ stays_of wrapper first others }
 {

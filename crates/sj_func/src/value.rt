@@ -14,17 +14,17 @@ use sj_item::Item;
 use sj_value::{CastRefusal, SqlValue, ValueAction, ValueSpec, cast, copy};
 use std::alloc::Global;
 
-/// JSON_VALUE: the only item that the path gives on the context item, as a value of the type of RETURNING (ISO/IEC 9075-2, JSON value
-/// function).
+/// JSON_VALUE: the only item that the path gives on the context item, as a value of the type of RETURNING (ISO/IEC
+/// 9075-2, JSON value function).
 ///
-/// No item is ON EMPTY. Several items are the error 22034, a fault of the path is an error, and so is an item that the cast refuses.
-/// In lax mode the second item decides before a later fault, and nothing is asked behind it; in strict mode a fault anywhere
-/// decides first. An error is ON ERROR. Each of the two gives NULL or a copy of its DEFAULT, or with ERROR raises a state: ON EMPTY raises
-/// 22035, which ON ERROR does not see, and ON ERROR that of the error.
+/// No item is ON EMPTY. Several items are the error 22034, a fault of the path is an error, and so is an item that the
+/// cast refuses. In lax mode the second item decides before a later fault, and nothing is asked behind it; in strict
+/// mode a fault anywhere decides first. An error is ON ERROR. Each of the two gives NULL or a copy of its DEFAULT, or
+/// with ERROR raises a state: ON EMPTY raises 22035, which ON ERROR does not see, and ON ERROR that of the error.
 ///
-/// The cursor is rewound, wherever it stood, and then stands anywhere; its path and its variables stay. The counter rises by no
-/// more than the children of nodes that are handed out before the second item, in strict mode by no more than all of them, and not at
-/// all on a bad context. A value that is given can be printed.
+/// The cursor is rewound, wherever it stood, and then stands anywhere; its path and its variables stay. The counter
+/// rises by no more than the children of nodes that are handed out before the second item, in strict mode by no more
+/// than all of them, and not at all on a bad context. A value that is given can be printed.
 ///
 /// # Errors
 /// [`Memory`] where memory runs out. What is said of the cursor and of the counter holds then too.

@@ -9,7 +9,8 @@ use arrayvec::ArrayString;
 use sj_base::{Failed, Source};
 use std::marker::Model;
 
-/// A source of generated lines. It makes a line when its first byte is asked for, holds that line alone, and never fails.
+/// A source of generated lines. It makes a line when its first byte is asked for, holds that line alone, and never
+/// fails.
 ///
 /// Contracts see it as the bytes that are left.
 #[derive(Drop)]

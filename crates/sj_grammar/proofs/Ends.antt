@@ -11,7 +11,7 @@ use Rattle.sj_grammar.specs.Tree.{Expr, Step, Sub, Subs, Pred}
 use Rattle.sj_grammar.specs.Signs.{add_sign, mul_sign, token_expr, method_of}
 use Rattle.sj_grammar.specs.Grammar as g
 use Rattle.sj_grammar.specs.Grammar.{Tokens, NotOpen, IsExpr, IsSum, IsTerm, IsProduct, IsUnary, IsAccess, IsPrimary, IsStep, IsSub, IsSubs, IsPred, IsOr, IsConj, IsAnd, IsNeg, IsDelim, IsPrim}
-use Rattle.sj_grammar.specs.Reading.{Parser, Read, Thing, Value, begins_step, sign_at, to_at, is_at, flag_at, close_at, called, open_at, star_at, comma_at, and_at, or_at, test_from}
+use Rattle.sj_grammar.specs.Reading.{Parser, Read, ExprOrPred, Value, begins_step, sign_at, to_at, is_at, flag_at, close_at, called, open_at, star_at, comma_at, and_at, or_at, test_from}
 
 pub record EndsUnary (rest : Tokens) : Type 0 where
   pub no_step : begins_step rest ≡ false
@@ -27,7 +27,7 @@ pub record EndsExpr (rest : Tokens) : Type 0 where
 
 -- an expression that ends here is no part of a predicate
 abbrev pub NoTest : Tokens → Type 0
-NoTest rest = (thing : Parser Thing) (e : Expr) → test_from thing e rest ≡ Some (Value e, rest)
+NoTest rest = (inner : Parser ExprOrPred) (e : Expr) → test_from inner e rest ≡ Some (Value e, rest)
 
 pub record EndsOne (rest : Tokens) : Type 0 where
   pub ends : EndsExpr rest
@@ -64,26 +64,26 @@ expr_word keyword text ts = record { no_step = refl; no_mul = refl; no_add = ref
 
 pub close_no_test : (ts : Tokens) → NoTest (k.Close ∷ ts)
 unfolding test_from
-close_no_test ts thing e = refl
+close_no_test ts inner e = refl
 
 pub to_no_test : (text : List ℕ) (ts : Tokens) → NoTest (k.Word w.To text ∷ ts)
 unfolding test_from
-to_no_test text ts thing e = refl
+to_no_test text ts inner e = refl
 
 pub empty_no_test : NoTest []
 unfolding test_from
-empty_no_test thing e = refl
+empty_no_test inner e = refl
 
 pub expr_empty : EndsExpr []
 expr_empty = record { no_step = refl; no_mul = refl; no_add = refl }
 
 pub sub_comma : (ts : Tokens) → EndsOne (k.Comma ∷ ts)
 unfolding test_from
-sub_comma ts = record { ends = record { no_step = refl; no_mul = refl; no_add = refl }; no_test = λ thing e. refl; no_to = refl }
+sub_comma ts = record { ends = record { no_step = refl; no_mul = refl; no_add = refl }; no_test = λ inner e. refl; no_to = refl }
 
 pub sub_bracket : (ts : Tokens) → EndsSub (k.CloseBracket ∷ ts)
 unfolding test_from
-sub_bracket ts = record { one = record { ends = record { no_step = refl; no_mul = refl; no_add = refl }; no_test = λ thing e. refl; no_to = refl }; no_comma = refl }
+sub_bracket ts = record { one = record { ends = record { no_step = refl; no_mul = refl; no_add = refl }; no_test = λ inner e. refl; no_to = refl }; no_comma = refl }
 
 neg_close : (ts : Tokens) → EndsNeg (k.Close ∷ ts)
 neg_close ts = record { ends = expr_close ts; no_is = refl; no_flag = refl }

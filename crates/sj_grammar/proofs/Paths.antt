@@ -10,7 +10,7 @@ use Rattle.sj_grammar.specs.Tree.{Expr, Path}
 use Rattle.sj_grammar.specs.Signs.{token_expr}
 use Rattle.sj_grammar.specs.Grammar as g
 use Rattle.sj_grammar.specs.Grammar.{Tokens, IsExpr, IsPath}
-use Rattle.sj_grammar.specs.Reading.{Read, Thing, Value, Test, on_some, lax_at, strict_at, as_value, inner_expr, thing_at, ended, whole_at, with_mode, in_mode, path_at}
+use Rattle.sj_grammar.specs.Reading.{Read, ExprOrPred, Value, Test, on_some, lax_at, strict_at, as_value, inner_expr, expr_or_pred_at, ended, whole_at, with_mode, in_mode, path_at}
 use Rattle.sj_grammar.specs.declared.refusal.PathRefusal.{PathRefusal}
 use Rattle.sj_grammar.specs.declared.refusal.PathRefusal.TheVariants as r
 use Rattle.sj_grammar.specs.Gives.{Fails, Finishes}
@@ -19,7 +19,7 @@ use Rattle.sj_grammar.specs.Misplaced.{is_misplaced}
 use Rattle.sj_grammar.specs.Unsupported.{unsupported}
 use Rattle.sj_grammar.specs.Answers.{Spells, Allows, Forbids}
 use Rattle.sj_grammar.proofs.Words.{some_is, lax_word, strict_word}
-use Rattle.sj_grammar.proofs.Sound.{Spells as SpellsThing, thing_reads}
+use Rattle.sj_grammar.proofs.Sound.{Spells as SpellsExprOrPred, expr_or_pred_reads}
 use Rattle.sj_grammar.proofs.Ends.{expr_empty, empty_no_test}
 use Rattle.sj_grammar.proofs.Full.{bind_is, none_on, inner_value, neg_full_expr}
 
@@ -64,16 +64,16 @@ one_tree ts p q d e = some_is (sym (path_full d) ∙ path_full e)
 
 whole_sound : (ts : Tokens) (e : Expr) → whole_at ts ≡ Some e → IsExpr ts e []
 unfolding whole_at inner_expr
-whole_sound ts e h = go (thing_at (suc (length ts)) ts) refl h
+whole_sound ts e h = go (expr_or_pred_at (suc (length ts)) ts) refl h
   where
-    end : (x : Thing) (rest : Tokens) → SpellsThing ts x rest → (as_value x rest >>= λ e. ended e.0 e.1) ≡ Some e → IsExpr ts e []
+    end : (x : ExprOrPred) (rest : Tokens) → SpellsExprOrPred ts x rest → (as_value x rest >>= λ e. ended e.0 e.1) ≡ Some e → IsExpr ts e []
     end (Value y) [] d q = subst (λ z. IsExpr ts z []) (some_is q) d
     end (Value y) (t ∷ rest) d q = absurd cc
     end (Test p) rest d q = absurd cc
 
-    go : (o : Read Thing) → thing_at (suc (length ts)) ts ≡ o → ((o >>= λ x. as_value x.0 x.1) >>= λ e. ended e.0 e.1) ≡ Some e → IsExpr ts e []
+    go : (o : Read ExprOrPred) → expr_or_pred_at (suc (length ts)) ts ≡ o → ((o >>= λ x. as_value x.0 x.1) >>= λ e. ended e.0 e.1) ≡ Some e → IsExpr ts e []
     go None q f = absurd cc
-    go (Some x) q f = end x.0 x.1 ((thing_reads (suc (length ts)) ts).holds x.0 x.1 q) f
+    go (Some x) q f = end x.0 x.1 ((expr_or_pred_reads (suc (length ts)) ts).holds x.0 x.1 q) f
 
 mode_sound : (m : Mode) (ts : Tokens) (p : Path) → in_mode m ts ≡ Some p → (e : Expr) × IsExpr ts e [] × (with_mode m e ≡ p)
 mode_sound m ts p h = go (whole_at ts) refl h

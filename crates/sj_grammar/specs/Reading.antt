@@ -133,18 +133,18 @@ after_dot (k.Quoted w ∷ ts) = Some (Member w, ts)
 after_dot (k.Word keyword text ∷ ts) = named keyword text ts
 after_dot (_ ∷ ts) = None
 
--- ---- everything that holds a tree inside, with thing to read that
+-- ---- everything that holds a tree inside, with inner to read that
 
 -- An expression or a predicate: which of them it is shows at its end alone.
-pub data Thing : Type 0 where
-  Value : (e : Expr) → Thing
-  Test : (p : Pred) → Thing
+pub data ExprOrPred : Type 0 where
+  Value : (e : Expr) → ExprOrPred
+  Test : (p : Pred) → ExprOrPred
 
-abbrev pub as_value : Thing → Tokens → Read Expr
+abbrev pub as_value : ExprOrPred → Tokens → Read Expr
 as_value (Value e) ts = Some (e, ts)
 as_value (Test p) ts = None
 
-abbrev pub as_test : Thing → Tokens → Read Pred
+abbrev pub as_test : ExprOrPred → Tokens → Read Pred
 as_test (Value e) ts = None
 as_test (Test p) ts = Some (p, ts)
 
@@ -153,27 +153,27 @@ star_at [] = None
 star_at (k.Star ∷ ts) = Some ts
 star_at (_ ∷ ts) = None
 
-unfoldable pub initial_at : Expr → Parser Thing
+unfoldable pub initial_at : Expr → Parser ExprOrPred
 initial_at e [] = None
 initial_at e (k.Quoted w ∷ ts) = Some (Test (StartsWith e (initial.Lit w)), ts)
 initial_at e (k.Variable w ∷ ts) = Some (Test (StartsWith e (initial.Var w)), ts)
 initial_at e (_ ∷ ts) = None
 
-unfoldable pub flags_at : Expr → List ℕ → Parser Thing
+unfoldable pub flags_at : Expr → List ℕ → Parser ExprOrPred
 flags_at e w ts = on_some (flag_at ts) (Some (Test (LikeRegex e w), ts))
     (λ mid. quoted_at mid >>= λ f. Some (Test (LikeRegexBy e w f.0), f.1))
 
 -- behind a predicate in parentheses
-unfoldable pub unknown_from : Pred → Parser Thing
+unfoldable pub unknown_from : Pred → Parser ExprOrPred
 unknown_from p ts = on_some (is_at ts) (Some (Test p, ts))
     (λ mid. unknown_at mid >>= λ rest. Some (Test (IsUnknown p), rest))
 
-module _ (thing : Parser Thing) where
+module _ (inner : Parser ExprOrPred) where
   unfoldable pub inner_expr : Parser Expr
-  inner_expr ts = thing ts >>= λ x. as_value x.0 x.1
+  inner_expr ts = inner ts >>= λ x. as_value x.0 x.1
 
   unfoldable pub inner_pred : Parser Pred
-  inner_pred ts = thing ts >>= λ x. as_test x.0 x.1
+  inner_pred ts = inner ts >>= λ x. as_test x.0 x.1
 
   unfoldable pub sub_at : Parser Sub
   sub_at ts = do
@@ -253,18 +253,18 @@ module _ (thing : Parser Thing) where
     sum_from (length b.1) b.0 b.1
 
   -- what stands behind an expression
-  unfoldable pub test_from : Expr → Parser Thing
+  unfoldable pub test_from : Expr → Parser ExprOrPred
   test_from e [] = Some (Value e, [])
   test_from e (k.Compare op ∷ ts) = expr_at ts >>= λ b. Some (Test (Compares op e b.0), b.1)
   test_from e (k.Word w.Starts text ∷ ts) = with_at ts >>= initial_at e
   test_from e (k.Word w.LikeRegex text ∷ ts) = quoted_at ts >>= λ p. flags_at e p.0 p.1
   test_from e (t ∷ ts) = Some (Value e, t ∷ ts)
 
-  unfoldable pub tested : Parser Thing
+  unfoldable pub tested : Parser ExprOrPred
   tested ts = expr_at ts >>= λ e. test_from e.0 e.1
 
   -- what stands behind a parenthesis that was closed
-  unfoldable pub after_group : Thing → Parser Thing
+  unfoldable pub after_group : ExprOrPred → Parser ExprOrPred
   after_group (Value e) ts = expr_from e ts >>= λ x. test_from x.0 x.1
   after_group (Test p) ts = unknown_from p ts
 
@@ -288,11 +288,11 @@ module _ (thing : Parser Thing) where
   delim_at (_ ∷ ts) = None
 
   -- a predicate with no && and no ||, or an expression
-  unfoldable pub neg_at : Parser Thing
+  unfoldable pub neg_at : Parser ExprOrPred
   neg_at [] = None
   neg_at (k.Not ∷ ts) = delim_at ts >>= λ p. Some (Test (Not p.0), p.1)
   neg_at (k.Open ∷ ts) = do
-    x ← thing ts
+    x ← inner ts
     rest ← close_at x.1
     after_group x.0 rest
   neg_at (k.Word w.Exists text ∷ ts) = exists_at ts >>= λ p. Some (Test p.0, p.1)
@@ -312,20 +312,20 @@ module _ (thing : Parser Thing) where
   or_from zero p ts = Some (p, ts)
   or_from (suc n) p ts = on_some (or_at ts) (Some (p, ts)) (λ mid. conj_at mid >>= λ q. or_from n (Or p q.0) q.1)
 
-  unfoldable pub pred_from : Thing → Parser Thing
+  unfoldable pub pred_from : ExprOrPred → Parser ExprOrPred
   pred_from (Value e) ts = Some (Value e, ts)
   pred_from (Test p) ts = do
     c ← and_from (length ts) p ts
     d ← or_from (length c.1) c.0 c.1
     Some (Test d.0, d.1)
 
-  unfoldable pub thing_over : Parser Thing
-  thing_over ts = neg_at ts >>= λ x. pred_from x.0 x.1
+  unfoldable pub expr_or_pred_over : Parser ExprOrPred
+  expr_or_pred_over ts = neg_at ts >>= λ x. pred_from x.0 x.1
 
 -- with parentheses and brackets inside one another at most this deep
-unfoldable pub thing_at : ℕ → Parser Thing
-thing_at zero ts = None
-thing_at (suc n) ts = thing_over (thing_at n) ts
+unfoldable pub expr_or_pred_at : ℕ → Parser ExprOrPred
+expr_or_pred_at zero ts = None
+expr_or_pred_at (suc n) ts = expr_or_pred_over (expr_or_pred_at n) ts
 
 -- all of the tokens
 abbrev pub ended : Expr → Tokens → Option Expr
@@ -333,7 +333,7 @@ ended e [] = Some e
 ended e (t ∷ ts) = None
 
 unfoldable pub whole_at : Tokens → Option Expr
-whole_at ts = inner_expr (thing_at (suc (length ts))) ts >>= λ e. ended e.0 e.1
+whole_at ts = inner_expr (expr_or_pred_at (suc (length ts))) ts >>= λ e. ended e.0 e.1
 
 abbrev pub with_mode : Mode → Expr → Path
 with_mode m e = record { mode = m; expr = e }

@@ -19,8 +19,7 @@ pub fn one_tree()
     ensures { (text : List ℕ) (p q : Path) → HasTree text p → HasTree text q → p ≡ q }
 {}
 
-/// An accepted text is refused for no reason but want of memory, and a refused one for one reason
-/// beside it.
+/// An accepted text is refused only if memory runs out. A refused one has one reason beside that.
 pub fn one_answer()
     ensures accepted { (text : List ℕ) (p : Path) (e : PathRefusal) → Accepts text p → Refuses text e → e ≡ Memory }
     ensures refused { (text : List ℕ) (d e : PathRefusal) → Refuses text d → Refuses text e → (d ≡ Memory → ⊥) → (e ≡ Memory → ⊥) → d ≡ e }

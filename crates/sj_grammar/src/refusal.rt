@@ -6,7 +6,7 @@ ghost use Rattle.sj_grammar.specs.declared.refusal.PathRefusal.TheVariants.{Memo
 use std::alloc::{AllocError, AllocFailed};
 use thiserror::Error;
 
-/// What the language has and this implementation lacks.
+/// A part of the standard that this implementation does not have.
 #[derive(Clone, Copy, Debug, PartialEq, Eq, Error)]
 pub enum Name {
     #[error("like_regex")]
@@ -27,23 +27,23 @@ pub enum Name {
 #[derive(Debug, Drop, Error)]
 pub enum PathRefusal {
     /// The text does not break into tokens, or a number in it is not exact.
-    #[error("path: lexical error")]
+    #[error("refused")]
     Lex,
     /// More than 64 parentheses and brackets are open somewhere, or more than 256 tokens are an
     /// operator, a sign, a comma, or begin an accessor.
-    #[error("path: too deep")]
+    #[error("refused")]
     TooDeep,
     /// The tokens have no tree.
-    #[error("path: syntax error")]
+    #[error("refused")]
     Syntax,
     /// An `@` stands in no filter, or a `last` in no list of subscripts.
-    #[error("path: misplaced @ or last")]
+    #[error("refused")]
     Misplaced,
-    /// The tree has a part that this implementation lacks: the first such part in the text.
-    #[error("unsupported {0}")]
+    /// The tree has a part that this implementation does not have: the first such part in the text.
+    #[error("refused")]
     Unsupported(Name),
     /// Memory ran out.
-    #[error("out of memory")]
+    #[error("refused")]
     Memory,
 }
 

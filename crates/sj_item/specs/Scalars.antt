@@ -6,9 +6,9 @@ use Rattle.std.specs.Str.{bytes_eq}
 use Rattle.sj_base.specs.declared.state.State.{State}
 use Rattle.sj_base.specs.declared.state.State.TheVariants.{S22003, S2203F, S2203G}
 use Rattle.sj_decimal.specs.Rounding.{rounded}
-use Rattle.sj_decimal.specs.Text.{decimal_text}
 use Rattle.sj_json.specs.Tree.{Number, exact, wide, Tree, null, truth, string, number, array, object}
 use Rattle.sj_json.specs.Numbers.{number_of}
+use Rattle.sj_json.specs.Printing.{printed_number}
 
 -- ---- numbers
 
@@ -65,15 +65,10 @@ abbrev pub word : Bool → List ℕ
 word true = codes "true"
 word false = codes "false"
 
--- an exact number by its text, and another by its spelling
-abbrev pub number_text : Number → List ℕ
-number_text (exact d) = decimal_text d
-number_text (wide s) = s
-
 unfoldable pub text_cast : Tree → Result (List ℕ) State
 text_cast null = Err S2203G
 text_cast (truth b) = Ok (word b)
 text_cast (string s) = Ok s
-text_cast (number n) = Ok (number_text n)
+text_cast (number n) = Ok (printed_number n)
 text_cast (array ts) = Err S2203F
 text_cast (object ms) = Err S2203F

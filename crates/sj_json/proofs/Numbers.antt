@@ -67,6 +67,10 @@ unfolding number_of
 read_as b v h =
     ap (option_map (λ (p : NumberParts). classified b (normal (value_of p)))) (read_parts_full h.parts b h.number) ∙ ap (λ (w : ℤ × ℕ). Some (classified b (normal w))) (sym h.value)
 
+-- a number spells one
+pub number_some : (b : List ℕ) → IsNumber b → (v : Number) × (number_of b ≡ Some v)
+number_some b h = (classified b (normal h.0), read_as b h.0 h.1)
+
 wide_test : (d : ℤ × ℕ) (x : Bool) → is_within d ≡ x → (IsWithinLimits d → ⊥) → is_within d ≡ false
 wide_test d true e other = absurd (other (within_from d e))
 wide_test d false e other = e

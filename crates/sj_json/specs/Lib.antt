@@ -1,5 +1,6 @@
 pub mod Tree
 pub mod Keys
+pub mod UniqueKeys
 pub mod Strings
 pub mod Spelling
 pub mod Printing

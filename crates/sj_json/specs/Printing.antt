@@ -7,6 +7,7 @@ use Rattle.sj_decimal.specs.Number.{SpellsWide}
 use Rattle.sj_decimal.specs.Text.{decimal_text}
 use Rattle.sj_json.specs.Tree.{Number, exact, wide, Tree, null, truth, string, number, array, object, Items, no_items, item, Members, no_members, member, subtrees}
 
+-- an exact number by its text, and another by its spelling
 abbrev pub printed_number : Number → List ℕ
 printed_number (exact d) = decimal_text d
 printed_number (wide s) = s

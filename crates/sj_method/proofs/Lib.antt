@@ -1,1 +1,2 @@
+-- for `apply`
 mod Casts

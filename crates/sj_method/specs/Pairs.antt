@@ -1,5 +1,5 @@
 -- The pairs of an object, which the method `keyvalue` gives (ISO/IEC 9075-2, SQL/JSON path language, item methods).
-use Rattle.std.specs.Prelude.{List, [], map, drop, unwrap_or, Option, Some, None, Result, Ok, Err, ℤ, pos, negsuc}
+use Rattle.std.specs.Prelude.{[], map, unwrap_or, Option, Some, None, Result, Ok, Err, ℤ, pos, negsuc}
 use Rattle.sj_base.specs.declared.state.State.{State}
 use Rattle.sj_base.specs.declared.state.State.TheVariants.{S2203C}
 use Rattle.sj_doc.specs.Kinds.{kind_of}
@@ -9,11 +9,10 @@ use Rattle.sj_item.specs.Items.{ItemValue, node, made_number, made_text, made_tr
 use Rattle.sj_item.specs.declared.item.Pair.{Pair}
 use Rattle.sj_step.specs.Trace.{Trace, fail}
 use Rattle.sj_step.specs.Reach.{Child, child_item, children_of, child_visits, every}
+use Rattle.sj_step.specs.Walk.{from_part}
 use Rattle.sj_method.specs.declared.keyvalue.PairWalk.{PairWalk}
 use Rattle.sj_method.specs.declared.keyvalue.Members.{Members}
 use Rattle.sj_method.specs.declared.keyvalue.Made.{Made}
-use Rattle.sj_method.specs.declared.keyvalue.Part.{Part}
-use Rattle.sj_method.specs.declared.keyvalue.Part.TheVariants as parts
 use Rattle.sj_method.specs.declared.keyvalue.Left.{Left}
 use Rattle.sj_method.specs.declared.keyvalue.Left.TheVariants as lefts
 
@@ -59,13 +58,6 @@ pair_item p = made_pair p.name.now (pair_value p.value) p.id
 abbrev pub pair_pull : Option Pair → PullValue
 pair_pull None = ends
 pair_pull (Some p) = gives (pair_item p)
-
--- the pairs of a made pair from a member on
-abbrev pub from_part : Part → List Child → List Child
-from_part parts.Name cs = cs
-from_part parts.Value cs = drop 1 cs
-from_part parts.Id cs = drop 2 cs
-from_part parts.Nothing cs = []
 
 abbrev pub members_left : Members → Trace
 members_left m = every 1 (map (pair_of m.id) (map child_item m.left))

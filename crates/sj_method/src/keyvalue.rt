@@ -10,7 +10,7 @@ ghost use Rattle.sj_method.specs.Pairs.{pairs_of, pairs_left, pair_pull, pair_it
 use sj_base::{Ledger, State, Steps};
 use sj_doc::{Children, Kind, NodeRef};
 use sj_item::{Item, Pair, PairValue};
-use sj_step::whole_number;
+use sj_step::{PairPart, whole_number};
 
 /// What the method `keyvalue` has left to give of one object. Contracts see the trace that is left, `pairs_left`.
 #[derive(Drop)]
@@ -35,19 +35,11 @@ struct Members<'d> {
 #[derive(Clone, Copy)]
 struct Made<'d> {
     pair: Pair<'d>,
-    part: Part,
+    part: PairPart,
 }
 
-#[derive(Clone, Copy)]
-enum Part {
-    Name,
-    Value,
-    Id,
-    Nothing,
-}
-
-/// The pairs of an object: for each member its key, its value and the number of the object, or -1 where the object is itself a pair.
-/// An item that is no object is 2203C.
+/// The pairs of an object: for each member its key, its value and the number of the object, or -1 where the object is
+/// itself a pair. An item that is no object is 2203C.
 #[tactic(auto, unfolding(crate::specs::Pairs::pairs_of))]
 pub fn pairs<'d>(item: Item<'d>) -> Result<PairWalk<'d>, State>
     ensures { started result ≡ pairs_of (item_value item.entry) }
@@ -64,8 +56,8 @@ pub fn pairs<'d>(item: Item<'d>) -> Result<PairWalk<'d>, State>
 
 #[tactic(auto, unfolding(crate::specs::Pairs::pairs_left))]
 impl<'d> PairWalk<'d> {
-    /// The next pair. `None` comes exactly where all were given, and then again without a step. The counter rises by one for each
-    /// member of a node, and stays as it is for those of a made pair.
+    /// The next pair. `None` comes exactly where all were given, and then again without a step. The counter rises by
+    /// one for each member of a node, and stays as it is for those of a made pair.
     pub fn next<L: Ledger>(&mut self, steps: &mut Steps<L>) -> Option<Pair<'d>>
         ensures { Takes (pairs_left self.old) (pair_pull result) (pairs_left self.new) steps.old steps.new }
     {
@@ -92,7 +84,7 @@ impl<'d> PairWalk<'d> {
         PairWalk {
             left: Left::Made(Made {
                 pair,
-                part: Part::Name,
+                part: PairPart::Name,
             }),
         }
     }
@@ -129,19 +121,19 @@ impl<'d> Made<'d> {
         ensures leaves { made_left self.new ≡ rest (made_left self.old) }
     {
         match self.part {
-            Part::Name => {
-                self.part = Part::Value;
+            PairPart::Name => {
+                self.part = PairPart::Value;
                 Some(pair_with("name", PairValue::Text(self.pair.name)))
             }
-            Part::Value => {
-                self.part = Part::Id;
+            PairPart::Value => {
+                self.part = PairPart::Id;
                 Some(pair_with("value", self.pair.value))
             }
-            Part::Id => {
-                self.part = Part::Nothing;
+            PairPart::Id => {
+                self.part = PairPart::Nothing;
                 Some(pair_with("id", PairValue::Num(whole_number(self.pair.id as i128))))
             }
-            Part::Nothing => None,
+            PairPart::Nothing => None,
         }
     }
 }

@@ -45,7 +45,8 @@ pub fn apply<'d>(method: Method, item: Item<'d>) -> Result<Item<'d>, State>
     }
 }
 
-/// A number with a sign before it: 22036 where the item is no number, and 22003 where it is not exact. With `minus` the sign turns.
+/// A number with a sign before it: 22036 where the item is no number, and 22003 where it is not exact. With `minus` the
+/// sign turns.
 #[tactic(auto, unfolding(crate::specs::Methods::sign_of))]
 pub fn sign<'d>(minus: bool, item: Item<'d>) -> Result<Item<'d>, State>
     ensures { outcome result ≡ sign_of minus (item_value item.entry) }

@@ -9,7 +9,8 @@ use sj_doc::{Kind, NodeRef, Num};
 use sj_grammar::Arith;
 use sj_item::Item;
 
-/// An item as an operand of arithmetic: its number. An item that is no number is 22036, and a number that is not exact is 22003.
+/// An item as an operand of arithmetic: its number. An item that is no number is 22036, and a number that is not exact
+/// is 22003.
 #[tactic(auto, unfolding(crate::specs::Numbers::operand_of))]
 pub fn operand<'d>(item: Item<'d>) -> Result<Decimal, State>
     ensures { result ≡ operand_of (item_value item.entry) }
@@ -47,8 +48,8 @@ pub fn subscript<'d>(item: Item<'d>) -> Result<i128, State>
     }
 }
 
-/// The sum, difference, product, quotient or remainder of two numbers. A zero divisor is 22012, and a result or a coefficient out
-/// of the limits of exact decimals is 22003.
+/// The sum, difference, product, quotient or remainder of two numbers. A zero divisor is 22012, and a result or a
+/// coefficient out of the limits of exact decimals is 22003.
 #[tactic(auto, unfolding(crate::specs::Numbers::binary_of))]
 pub fn binary(op: Arith, a: Decimal, b: Decimal) -> Result<Decimal, State>
     ensures { result ≡ binary_of op a b }

@@ -8,7 +8,7 @@ use Rattle.sj_page.specs.declared.stop.Stop.{Stop}
 use Rattle.sj_page.specs.declared.stop.Stop.TheVariants.{Memory, Output}
 use Rattle.sj_page.specs.Sides.{OutputSide, output_side, Grew}
 
--- a page of so many bytes is written
+-- how many bytes of rows are kept: a page that has so many is written. How many bytes are read at once is another limit
 abbrev pub max_page : ℕ
 max_page = 65536
 

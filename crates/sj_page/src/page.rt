@@ -21,9 +21,11 @@ pub struct Counts {
     pub errors: u64,
 }
 
-/// The texts of rows that are not written yet. A page of 65,536 bytes or more is written at once, so it holds fewer between two calls.
+/// The texts of rows that are not written yet. A page of 65,536 bytes or more is written at once, so it holds fewer
+/// between two calls.
 ///
-/// Contracts see the texts, and how many rows and error rows were printed. After a call that failed the page is not used again.
+/// Contracts see the texts, and how many rows and error rows were printed. After a call that failed the page is not
+/// used again.
 #[derive(Drop)]
 pub struct Page {
     text: Bytes,

@@ -6,8 +6,8 @@ use Rattle.sj_path.specs.declared.raw.Sub.{Sub, One', Range'}
 use Rattle.sj_path.specs.declared.raw.Subs.{Subs, Only, More'}
 use Rattle.sj_path.specs.declared.raw.Pred.{Pred, Compare', And', Or', Not', IsUnknown', Exists', StartsWith', LikeRegex', LikeRegexBy'}
 use Rattle.sj_path.specs.declared.raw.Path.{Path}
-use Rattle.sj_path.specs.declared.raw.Thing.{Thing}
-use Rattle.sj_path.specs.declared.raw.Thing.TheVariants as thing
+use Rattle.sj_path.specs.declared.raw.ExprOrPred.{ExprOrPred}
+use Rattle.sj_path.specs.declared.raw.ExprOrPred.TheVariants as either
 use Rattle.sj_grammar.specs.Reading as r
 
 abbrev mutual
@@ -55,6 +55,6 @@ abbrev mutual
 abbrev pub path_of : Path → t.Path
 path_of p = record { mode = p.mode; expr = expr_of p.expr.value }
 
-abbrev pub thing_of : Thing → r.Thing
-thing_of (thing.Value e) = r.Value (expr_of e.value)
-thing_of (thing.Test p) = r.Test (pred_of p.value)
+abbrev pub expr_or_pred_of : ExprOrPred → r.ExprOrPred
+expr_or_pred_of (either.Value e) = r.Value (expr_of e.value)
+expr_or_pred_of (either.Test p) = r.Test (pred_of p.value)

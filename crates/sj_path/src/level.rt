@@ -2,11 +2,11 @@
 
 ghost use Rattle.std.specs.Prelude.{◌≡◌, length};
 ghost use Rattle.sj_grammar.specs.Reading as reading;
-ghost use Rattle.sj_path.specs.Raw.{expr_of, step_of, sub_of, subs_of, pred_of, thing_of};
+ghost use Rattle.sj_path.specs.Raw.{expr_of, step_of, sub_of, subs_of, pred_of, expr_or_pred_of};
 ghost use Rattle.sj_grammar.specs.Gives.{Gives};
 ghost use Rattle.sj_path.specs.Nests.{Nests};
 
-use crate::raw::{Expr, Pred, Step, Sub, Subs, Thing};
+use crate::raw::{Expr, ExprOrPred, Pred, Step, Sub, Subs};
 use crate::{make, predicate, single, step};
 use sj_grammar::PathRefusal;
 use sj_token::{Keyword, Token};
@@ -17,15 +17,16 @@ pub struct Level<F> {
     pub alloc: Global,
     /// How deep parentheses may still nest.
     pub depth: usize,
-    pub thing: F,
+    /// Reads an expression or a predicate inside them.
+    pub inner: F,
 }
 
-impl<F: Fn(Global, usize, &[Token]) -> Result<(Thing, &[Token]), PathRefusal>> Level<F> {
-    fn thing<'a>(&self, tokens: &'a [Token]) -> Result<(Thing, &'a [Token]), PathRefusal>
-        requires { Nests self.now.depth (F.pre self.now.thing) (F.post self.now.thing) }
-        ensures { Gives (λ x. (thing_of x.0, x.1.now)) result (reading.thing_at self.now.depth tokens.now) }
+impl<F: Fn(Global, usize, &[Token]) -> Result<(ExprOrPred, &[Token]), PathRefusal>> Level<F> {
+    fn inner<'a>(&self, tokens: &'a [Token]) -> Result<(ExprOrPred, &'a [Token]), PathRefusal>
+        requires { Nests self.now.depth (F.pre self.now.inner) (F.post self.now.inner) }
+        ensures { Gives (λ x. (expr_or_pred_of x.0, x.1.now)) result (reading.expr_or_pred_at self.now.depth tokens.now) }
     {
-        (self.thing)(self.alloc, self.depth, tokens)
+        (self.inner)(self.alloc, self.depth, tokens)
     }
 
     #[tactic(auto, unfolding(sj_grammar::specs::Reading::inner_expr))]
@@ -33,20 +34,20 @@ impl<F: Fn(Global, usize, &[Token]) -> Result<(Thing, &[Token]), PathRefusal>> L
         &self,
         tokens: &'a [Token],
     ) -> Result<(Box<Expr>, &'a [Token]), PathRefusal>
-        requires { Nests self.now.depth (F.pre self.now.thing) (F.post self.now.thing) }
-        ensures { Gives (λ x. (expr_of x.0.value, x.1.now)) result (reading.inner_expr (reading.thing_at self.now.depth) tokens.now) }
+        requires { Nests self.now.depth (F.pre self.now.inner) (F.post self.now.inner) }
+        ensures { Gives (λ x. (expr_of x.0.value, x.1.now)) result (reading.inner_expr (reading.expr_or_pred_at self.now.depth) tokens.now) }
     {
-        let (thing, rest) = self.thing(tokens)?;
-        match thing {
-            Thing::Value(e) => Ok((e, rest)),
-            Thing::Test(_) => Err(PathRefusal::Syntax),
+        let (found, rest) = self.inner(tokens)?;
+        match found {
+            ExprOrPred::Value(e) => Ok((e, rest)),
+            ExprOrPred::Test(_) => Err(PathRefusal::Syntax),
         }
     }
 
     #[tactic(auto, unfolding(sj_grammar::specs::Reading::sub_at))]
     fn sub<'a>(&self, tokens: &'a [Token]) -> Result<(Sub, &'a [Token]), PathRefusal>
-        requires { Nests self.now.depth (F.pre self.now.thing) (F.post self.now.thing) }
-        ensures { Gives (λ x. (sub_of x.0, x.1.now)) result (reading.sub_at (reading.thing_at self.now.depth) tokens.now) }
+        requires { Nests self.now.depth (F.pre self.now.inner) (F.post self.now.inner) }
+        ensures { Gives (λ x. (sub_of x.0, x.1.now)) result (reading.sub_at (reading.expr_or_pred_at self.now.depth) tokens.now) }
     {
         let (from, rest) = self.inner_expr(tokens)?;
         let Some(rest) = single::to(rest) else {
@@ -58,8 +59,8 @@ impl<F: Fn(Global, usize, &[Token]) -> Result<(Thing, &[Token]), PathRefusal>> L
 
     #[tactic(auto, unfolding(sj_grammar::specs::Reading::primary_at))]
     fn primary<'a>(&self, tokens: &'a [Token]) -> Result<(Box<Expr>, &'a [Token]), PathRefusal>
-        requires { Nests self.now.depth (F.pre self.now.thing) (F.post self.now.thing) }
-        ensures { Gives (λ x. (expr_of x.0.value, x.1.now)) result (reading.primary_at (reading.thing_at self.now.depth) tokens.now) }
+        requires { Nests self.now.depth (F.pre self.now.inner) (F.post self.now.inner) }
+        ensures { Gives (λ x. (expr_of x.0.value, x.1.now)) result (reading.primary_at (reading.expr_or_pred_at self.now.depth) tokens.now) }
     {
         match tokens {
             [] => Err(PathRefusal::Syntax),
@@ -77,13 +78,13 @@ impl<F: Fn(Global, usize, &[Token]) -> Result<(Thing, &[Token]), PathRefusal>> L
 
     #[tactic(auto, unfolding(sj_grammar::specs::Reading::inner_pred))]
     fn inner_pred<'a>(&self, tokens: &'a [Token]) -> Result<(Box<Pred>, &'a [Token]), PathRefusal>
-        requires { Nests self.now.depth (F.pre self.now.thing) (F.post self.now.thing) }
-        ensures { Gives (λ x. (pred_of x.0.value, x.1.now)) result (reading.inner_pred (reading.thing_at self.now.depth) tokens.now) }
+        requires { Nests self.now.depth (F.pre self.now.inner) (F.post self.now.inner) }
+        ensures { Gives (λ x. (pred_of x.0.value, x.1.now)) result (reading.inner_pred (reading.expr_or_pred_at self.now.depth) tokens.now) }
     {
-        let (thing, rest) = self.thing(tokens)?;
-        match thing {
-            Thing::Value(_) => Err(PathRefusal::Syntax),
-            Thing::Test(p) => Ok((p, rest)),
+        let (found, rest) = self.inner(tokens)?;
+        match found {
+            ExprOrPred::Value(_) => Err(PathRefusal::Syntax),
+            ExprOrPred::Test(p) => Ok((p, rest)),
         }
     }
 
@@ -93,8 +94,8 @@ impl<F: Fn(Global, usize, &[Token]) -> Result<(Thing, &[Token]), PathRefusal>> L
         turns: usize,
         tokens: &'a [Token],
     ) -> Result<(Box<Subs>, &'a [Token]), PathRefusal>
-        requires { Nests self.now.depth (F.pre self.now.thing) (F.post self.now.thing) }
-        ensures { Gives (λ x. (subs_of x.0.value, x.1.now)) result (reading.subs_at (reading.thing_at self.now.depth) turns tokens.now) }
+        requires { Nests self.now.depth (F.pre self.now.inner) (F.post self.now.inner) }
+        ensures { Gives (λ x. (subs_of x.0.value, x.1.now)) result (reading.subs_at (reading.expr_or_pred_at self.now.depth) turns tokens.now) }
     {
         if turns == 0 {
             return Err(PathRefusal::Syntax);
@@ -109,8 +110,8 @@ impl<F: Fn(Global, usize, &[Token]) -> Result<(Thing, &[Token]), PathRefusal>> L
 
     #[tactic(auto, unfolding(sj_grammar::specs::Reading::after_bracket))]
     fn after_bracket<'a>(&self, tokens: &'a [Token]) -> Result<(Step, &'a [Token]), PathRefusal>
-        requires { Nests self.now.depth (F.pre self.now.thing) (F.post self.now.thing) }
-        ensures { Gives (λ x. (step_of x.0, x.1.now)) result (reading.after_bracket (reading.thing_at self.now.depth) tokens.now) }
+        requires { Nests self.now.depth (F.pre self.now.inner) (F.post self.now.inner) }
+        ensures { Gives (λ x. (step_of x.0, x.1.now)) result (reading.after_bracket (reading.expr_or_pred_at self.now.depth) tokens.now) }
     {
         if let Some(rest) = single::star(tokens) {
             let rest = single::bracket(rest).ok_or(PathRefusal::Syntax)?;
@@ -123,8 +124,8 @@ impl<F: Fn(Global, usize, &[Token]) -> Result<(Thing, &[Token]), PathRefusal>> L
 
     #[tactic(auto, unfolding(sj_grammar::specs::Reading::after_question))]
     fn after_question<'a>(&self, tokens: &'a [Token]) -> Result<(Step, &'a [Token]), PathRefusal>
-        requires { Nests self.now.depth (F.pre self.now.thing) (F.post self.now.thing) }
-        ensures { Gives (λ x. (step_of x.0, x.1.now)) result (reading.after_question (reading.thing_at self.now.depth) tokens.now) }
+        requires { Nests self.now.depth (F.pre self.now.inner) (F.post self.now.inner) }
+        ensures { Gives (λ x. (step_of x.0, x.1.now)) result (reading.after_question (reading.expr_or_pred_at self.now.depth) tokens.now) }
     {
         let rest = single::open(tokens).ok_or(PathRefusal::Syntax)?;
         let (p, rest) = self.inner_pred(rest)?;
@@ -134,8 +135,8 @@ impl<F: Fn(Global, usize, &[Token]) -> Result<(Thing, &[Token]), PathRefusal>> L
 
     #[tactic(auto, unfolding(sj_grammar::specs::Reading::step_at))]
     fn step<'a>(&self, tokens: &'a [Token]) -> Result<(Step, &'a [Token]), PathRefusal>
-        requires { Nests self.now.depth (F.pre self.now.thing) (F.post self.now.thing) }
-        ensures { Gives (λ x. (step_of x.0, x.1.now)) result (reading.step_at (reading.thing_at self.now.depth) tokens.now) }
+        requires { Nests self.now.depth (F.pre self.now.inner) (F.post self.now.inner) }
+        ensures { Gives (λ x. (step_of x.0, x.1.now)) result (reading.step_at (reading.expr_or_pred_at self.now.depth) tokens.now) }
     {
         match tokens {
             [Token::Dot, rest @ ..] => step::after_dot(self.alloc, rest),
@@ -151,8 +152,8 @@ impl<F: Fn(Global, usize, &[Token]) -> Result<(Thing, &[Token]), PathRefusal>> L
         x: Box<Expr>,
         tokens: &'a [Token],
     ) -> Result<(Box<Expr>, &'a [Token]), PathRefusal>
-        requires { Nests self.now.depth (F.pre self.now.thing) (F.post self.now.thing) }
-        ensures { Gives (λ x. (expr_of x.0.value, x.1.now)) result (reading.access_from (reading.thing_at self.now.depth) (length tokens.now) (expr_of x.value) tokens.now) }
+        requires { Nests self.now.depth (F.pre self.now.inner) (F.post self.now.inner) }
+        ensures { Gives (λ x. (expr_of x.0.value, x.1.now)) result (reading.access_from (reading.expr_or_pred_at self.now.depth) (length tokens.now) (expr_of x.value) tokens.now) }
     {
         let mut e = x;
         let mut rest = tokens;
@@ -169,8 +170,8 @@ impl<F: Fn(Global, usize, &[Token]) -> Result<(Thing, &[Token]), PathRefusal>> L
 
     #[tactic(auto, unfolding(sj_grammar::specs::Reading::access_at))]
     fn access<'a>(&self, tokens: &'a [Token]) -> Result<(Box<Expr>, &'a [Token]), PathRefusal>
-        requires { Nests self.now.depth (F.pre self.now.thing) (F.post self.now.thing) }
-        ensures { Gives (λ x. (expr_of x.0.value, x.1.now)) result (reading.access_at (reading.thing_at self.now.depth) tokens.now) }
+        requires { Nests self.now.depth (F.pre self.now.inner) (F.post self.now.inner) }
+        ensures { Gives (λ x. (expr_of x.0.value, x.1.now)) result (reading.access_at (reading.expr_or_pred_at self.now.depth) tokens.now) }
     {
         let (x, rest) = self.primary(tokens)?;
         self.access_from(x, rest)
@@ -178,8 +179,8 @@ impl<F: Fn(Global, usize, &[Token]) -> Result<(Thing, &[Token]), PathRefusal>> L
 
     #[tactic(auto, unfolding(sj_grammar::specs::Reading::unary_at))]
     fn unary<'a>(&self, tokens: &'a [Token]) -> Result<(Box<Expr>, &'a [Token]), PathRefusal>
-        requires { Nests self.now.depth (F.pre self.now.thing) (F.post self.now.thing) }
-        ensures { Gives (λ x. (expr_of x.0.value, x.1.now)) result (reading.unary_at (reading.thing_at self.now.depth) tokens.now) }
+        requires { Nests self.now.depth (F.pre self.now.inner) (F.post self.now.inner) }
+        ensures { Gives (λ x. (expr_of x.0.value, x.1.now)) result (reading.unary_at (reading.expr_or_pred_at self.now.depth) tokens.now) }
     {
         match tokens {
             [] => Err(PathRefusal::Syntax),
@@ -201,8 +202,8 @@ impl<F: Fn(Global, usize, &[Token]) -> Result<(Thing, &[Token]), PathRefusal>> L
         x: Box<Expr>,
         tokens: &'a [Token],
     ) -> Result<(Box<Expr>, &'a [Token]), PathRefusal>
-        requires { Nests self.now.depth (F.pre self.now.thing) (F.post self.now.thing) }
-        ensures { Gives (λ x. (expr_of x.0.value, x.1.now)) result (reading.product_from (reading.thing_at self.now.depth) (length tokens.now) (expr_of x.value) tokens.now) }
+        requires { Nests self.now.depth (F.pre self.now.inner) (F.post self.now.inner) }
+        ensures { Gives (λ x. (expr_of x.0.value, x.1.now)) result (reading.product_from (reading.expr_or_pred_at self.now.depth) (length tokens.now) (expr_of x.value) tokens.now) }
     {
         let mut e = x;
         let mut rest = tokens;
@@ -219,8 +220,8 @@ impl<F: Fn(Global, usize, &[Token]) -> Result<(Thing, &[Token]), PathRefusal>> L
 
     #[tactic(auto, unfolding(sj_grammar::specs::Reading::term_at))]
     fn term<'a>(&self, tokens: &'a [Token]) -> Result<(Box<Expr>, &'a [Token]), PathRefusal>
-        requires { Nests self.now.depth (F.pre self.now.thing) (F.post self.now.thing) }
-        ensures { Gives (λ x. (expr_of x.0.value, x.1.now)) result (reading.term_at (reading.thing_at self.now.depth) tokens.now) }
+        requires { Nests self.now.depth (F.pre self.now.inner) (F.post self.now.inner) }
+        ensures { Gives (λ x. (expr_of x.0.value, x.1.now)) result (reading.term_at (reading.expr_or_pred_at self.now.depth) tokens.now) }
     {
         let (x, rest) = self.unary(tokens)?;
         self.product_from(x, rest)
@@ -232,8 +233,8 @@ impl<F: Fn(Global, usize, &[Token]) -> Result<(Thing, &[Token]), PathRefusal>> L
         x: Box<Expr>,
         tokens: &'a [Token],
     ) -> Result<(Box<Expr>, &'a [Token]), PathRefusal>
-        requires { Nests self.now.depth (F.pre self.now.thing) (F.post self.now.thing) }
-        ensures { Gives (λ x. (expr_of x.0.value, x.1.now)) result (reading.sum_from (reading.thing_at self.now.depth) (length tokens.now) (expr_of x.value) tokens.now) }
+        requires { Nests self.now.depth (F.pre self.now.inner) (F.post self.now.inner) }
+        ensures { Gives (λ x. (expr_of x.0.value, x.1.now)) result (reading.sum_from (reading.expr_or_pred_at self.now.depth) (length tokens.now) (expr_of x.value) tokens.now) }
     {
         let mut e = x;
         let mut rest = tokens;
@@ -250,8 +251,8 @@ impl<F: Fn(Global, usize, &[Token]) -> Result<(Thing, &[Token]), PathRefusal>> L
 
     #[tactic(auto, unfolding(sj_grammar::specs::Reading::expr_at))]
     fn expr<'a>(&self, tokens: &'a [Token]) -> Result<(Box<Expr>, &'a [Token]), PathRefusal>
-        requires { Nests self.now.depth (F.pre self.now.thing) (F.post self.now.thing) }
-        ensures { Gives (λ x. (expr_of x.0.value, x.1.now)) result (reading.expr_at (reading.thing_at self.now.depth) tokens.now) }
+        requires { Nests self.now.depth (F.pre self.now.inner) (F.post self.now.inner) }
+        ensures { Gives (λ x. (expr_of x.0.value, x.1.now)) result (reading.expr_at (reading.expr_or_pred_at self.now.depth) tokens.now) }
     {
         let (x, rest) = self.term(tokens)?;
         self.sum_from(x, rest)
@@ -264,8 +265,8 @@ impl<F: Fn(Global, usize, &[Token]) -> Result<(Thing, &[Token]), PathRefusal>> L
         x: Box<Expr>,
         tokens: &'a [Token],
     ) -> Result<(Box<Expr>, &'a [Token]), PathRefusal>
-        requires { Nests self.now.depth (F.pre self.now.thing) (F.post self.now.thing) }
-        ensures { Gives (λ x. (expr_of x.0.value, x.1.now)) result (reading.expr_from (reading.thing_at self.now.depth) (expr_of x.value) tokens.now) }
+        requires { Nests self.now.depth (F.pre self.now.inner) (F.post self.now.inner) }
+        ensures { Gives (λ x. (expr_of x.0.value, x.1.now)) result (reading.expr_from (reading.expr_or_pred_at self.now.depth) (expr_of x.value) tokens.now) }
     {
         let (a, rest) = self.access_from(x, tokens)?;
         let (b, rest) = self.product_from(a, rest)?;
@@ -278,15 +279,15 @@ impl<F: Fn(Global, usize, &[Token]) -> Result<(Thing, &[Token]), PathRefusal>> L
         &self,
         e: Box<Expr>,
         tokens: &'a [Token],
-    ) -> Result<(Thing, &'a [Token]), PathRefusal>
-        requires { Nests self.now.depth (F.pre self.now.thing) (F.post self.now.thing) }
-        ensures { Gives (λ x. (thing_of x.0, x.1.now)) result (reading.test_from (reading.thing_at self.now.depth) (expr_of e.value) tokens.now) }
+    ) -> Result<(ExprOrPred, &'a [Token]), PathRefusal>
+        requires { Nests self.now.depth (F.pre self.now.inner) (F.post self.now.inner) }
+        ensures { Gives (λ x. (expr_or_pred_of x.0, x.1.now)) result (reading.test_from (reading.expr_or_pred_at self.now.depth) (expr_of e.value) tokens.now) }
     {
         match tokens {
             [Token::Compare(op), rest @ ..] => {
                 let (b, rest) = self.expr(rest)?;
                 let p = Box::new(self.alloc, Pred::Compare(*op, e, b))?;
-                Ok((Thing::Test(p), rest))
+                Ok((ExprOrPred::Test(p), rest))
             }
             [Token::Word(Keyword::Starts, _), rest @ ..] => {
                 let rest = single::with(rest).ok_or(PathRefusal::Syntax)?;
@@ -296,14 +297,14 @@ impl<F: Fn(Global, usize, &[Token]) -> Result<(Thing, &[Token]), PathRefusal>> L
                 let (pattern, rest) = single::quoted(self.alloc, rest)?;
                 predicate::flags(self.alloc, e, pattern, rest)
             }
-            _ => Ok((Thing::Value(e), tokens)),
+            _ => Ok((ExprOrPred::Value(e), tokens)),
         }
     }
 
     #[tactic(auto, unfolding(sj_grammar::specs::Reading::tested))]
-    fn tested<'a>(&self, tokens: &'a [Token]) -> Result<(Thing, &'a [Token]), PathRefusal>
-        requires { Nests self.now.depth (F.pre self.now.thing) (F.post self.now.thing) }
-        ensures { Gives (λ x. (thing_of x.0, x.1.now)) result (reading.tested (reading.thing_at self.now.depth) tokens.now) }
+    fn tested<'a>(&self, tokens: &'a [Token]) -> Result<(ExprOrPred, &'a [Token]), PathRefusal>
+        requires { Nests self.now.depth (F.pre self.now.inner) (F.post self.now.inner) }
+        ensures { Gives (λ x. (expr_or_pred_of x.0, x.1.now)) result (reading.tested (reading.expr_or_pred_at self.now.depth) tokens.now) }
     {
         let (e, rest) = self.expr(tokens)?;
         self.test_from(e, rest)
@@ -313,25 +314,25 @@ impl<F: Fn(Global, usize, &[Token]) -> Result<(Thing, &[Token]), PathRefusal>> L
     #[tactic(auto, unfolding(sj_grammar::specs::Reading::after_group))]
     fn after_group<'a>(
         &self,
-        x: Thing,
+        x: ExprOrPred,
         tokens: &'a [Token],
-    ) -> Result<(Thing, &'a [Token]), PathRefusal>
-        requires { Nests self.now.depth (F.pre self.now.thing) (F.post self.now.thing) }
-        ensures { Gives (λ x. (thing_of x.0, x.1.now)) result (reading.after_group (reading.thing_at self.now.depth) (thing_of x) tokens.now) }
+    ) -> Result<(ExprOrPred, &'a [Token]), PathRefusal>
+        requires { Nests self.now.depth (F.pre self.now.inner) (F.post self.now.inner) }
+        ensures { Gives (λ x. (expr_or_pred_of x.0, x.1.now)) result (reading.after_group (reading.expr_or_pred_at self.now.depth) (expr_or_pred_of x) tokens.now) }
     {
         match x {
-            Thing::Value(e) => {
+            ExprOrPred::Value(e) => {
                 let (e, rest) = self.expr_from(e, tokens)?;
                 self.test_from(e, rest)
             }
-            Thing::Test(p) => predicate::unknown(self.alloc, p, tokens),
+            ExprOrPred::Test(p) => predicate::unknown(self.alloc, p, tokens),
         }
     }
 
     #[tactic(auto, unfolding(sj_grammar::specs::Reading::exists_at))]
     fn exists<'a>(&self, tokens: &'a [Token]) -> Result<(Box<Pred>, &'a [Token]), PathRefusal>
-        requires { Nests self.now.depth (F.pre self.now.thing) (F.post self.now.thing) }
-        ensures { Gives (λ x. (pred_of x.0.value, x.1.now)) result (reading.exists_at (reading.thing_at self.now.depth) tokens.now) }
+        requires { Nests self.now.depth (F.pre self.now.inner) (F.post self.now.inner) }
+        ensures { Gives (λ x. (pred_of x.0.value, x.1.now)) result (reading.exists_at (reading.expr_or_pred_at self.now.depth) tokens.now) }
     {
         let rest = single::open(tokens).ok_or(PathRefusal::Syntax)?;
         let (e, rest) = self.inner_expr(rest)?;
@@ -341,8 +342,8 @@ impl<F: Fn(Global, usize, &[Token]) -> Result<(Thing, &[Token]), PathRefusal>> L
 
     #[tactic(auto, unfolding(sj_grammar::specs::Reading::group_at))]
     fn group<'a>(&self, tokens: &'a [Token]) -> Result<(Box<Pred>, &'a [Token]), PathRefusal>
-        requires { Nests self.now.depth (F.pre self.now.thing) (F.post self.now.thing) }
-        ensures { Gives (λ x. (pred_of x.0.value, x.1.now)) result (reading.group_at (reading.thing_at self.now.depth) tokens.now) }
+        requires { Nests self.now.depth (F.pre self.now.inner) (F.post self.now.inner) }
+        ensures { Gives (λ x. (pred_of x.0.value, x.1.now)) result (reading.group_at (reading.expr_or_pred_at self.now.depth) tokens.now) }
     {
         let (p, rest) = self.inner_pred(tokens)?;
         let rest = single::close(rest).ok_or(PathRefusal::Syntax)?;
@@ -351,8 +352,8 @@ impl<F: Fn(Global, usize, &[Token]) -> Result<(Thing, &[Token]), PathRefusal>> L
 
     #[tactic(auto, unfolding(sj_grammar::specs::Reading::delim_at))]
     fn delim<'a>(&self, tokens: &'a [Token]) -> Result<(Box<Pred>, &'a [Token]), PathRefusal>
-        requires { Nests self.now.depth (F.pre self.now.thing) (F.post self.now.thing) }
-        ensures { Gives (λ x. (pred_of x.0.value, x.1.now)) result (reading.delim_at (reading.thing_at self.now.depth) tokens.now) }
+        requires { Nests self.now.depth (F.pre self.now.inner) (F.post self.now.inner) }
+        ensures { Gives (λ x. (pred_of x.0.value, x.1.now)) result (reading.delim_at (reading.expr_or_pred_at self.now.depth) tokens.now) }
     {
         match tokens {
             [Token::Open, rest @ ..] => self.group(rest),
@@ -363,25 +364,25 @@ impl<F: Fn(Global, usize, &[Token]) -> Result<(Thing, &[Token]), PathRefusal>> L
 
     /// A predicate with no `&&` and no `||`, or an expression.
     #[tactic(auto, unfolding(sj_grammar::specs::Reading::neg_at))]
-    fn neg<'a>(&self, tokens: &'a [Token]) -> Result<(Thing, &'a [Token]), PathRefusal>
-        requires { Nests self.now.depth (F.pre self.now.thing) (F.post self.now.thing) }
-        ensures { Gives (λ x. (thing_of x.0, x.1.now)) result (reading.neg_at (reading.thing_at self.now.depth) tokens.now) }
+    fn neg<'a>(&self, tokens: &'a [Token]) -> Result<(ExprOrPred, &'a [Token]), PathRefusal>
+        requires { Nests self.now.depth (F.pre self.now.inner) (F.post self.now.inner) }
+        ensures { Gives (λ x. (expr_or_pred_of x.0, x.1.now)) result (reading.neg_at (reading.expr_or_pred_at self.now.depth) tokens.now) }
     {
         match tokens {
             [] => Err(PathRefusal::Syntax),
             [Token::Not, rest @ ..] => {
                 let (p, rest) = self.delim(rest)?;
                 let p = Box::new(self.alloc, Pred::Not(p))?;
-                Ok((Thing::Test(p), rest))
+                Ok((ExprOrPred::Test(p), rest))
             }
             [Token::Open, rest @ ..] => {
-                let (x, rest) = self.thing(rest)?;
+                let (x, rest) = self.inner(rest)?;
                 let rest = single::close(rest).ok_or(PathRefusal::Syntax)?;
                 self.after_group(x, rest)
             }
             [Token::Word(Keyword::Exists, _), rest @ ..] => {
                 let (p, rest) = self.exists(rest)?;
-                Ok((Thing::Test(p), rest))
+                Ok((ExprOrPred::Test(p), rest))
             }
             _ => self.tested(tokens),
         }
@@ -389,13 +390,13 @@ impl<F: Fn(Global, usize, &[Token]) -> Result<(Thing, &[Token]), PathRefusal>> L
 
     #[tactic(auto, unfolding(sj_grammar::specs::Reading::test_at))]
     fn test<'a>(&self, tokens: &'a [Token]) -> Result<(Box<Pred>, &'a [Token]), PathRefusal>
-        requires { Nests self.now.depth (F.pre self.now.thing) (F.post self.now.thing) }
-        ensures { Gives (λ x. (pred_of x.0.value, x.1.now)) result (reading.test_at (reading.thing_at self.now.depth) tokens.now) }
+        requires { Nests self.now.depth (F.pre self.now.inner) (F.post self.now.inner) }
+        ensures { Gives (λ x. (pred_of x.0.value, x.1.now)) result (reading.test_at (reading.expr_or_pred_at self.now.depth) tokens.now) }
     {
-        let (thing, rest) = self.neg(tokens)?;
-        match thing {
-            Thing::Value(_) => Err(PathRefusal::Syntax),
-            Thing::Test(p) => Ok((p, rest)),
+        let (found, rest) = self.neg(tokens)?;
+        match found {
+            ExprOrPred::Value(_) => Err(PathRefusal::Syntax),
+            ExprOrPred::Test(p) => Ok((p, rest)),
         }
     }
 
@@ -405,8 +406,8 @@ impl<F: Fn(Global, usize, &[Token]) -> Result<(Thing, &[Token]), PathRefusal>> L
         p: Box<Pred>,
         tokens: &'a [Token],
     ) -> Result<(Box<Pred>, &'a [Token]), PathRefusal>
-        requires { Nests self.now.depth (F.pre self.now.thing) (F.post self.now.thing) }
-        ensures { Gives (λ x. (pred_of x.0.value, x.1.now)) result (reading.and_from (reading.thing_at self.now.depth) (length tokens.now) (pred_of p.value) tokens.now) }
+        requires { Nests self.now.depth (F.pre self.now.inner) (F.post self.now.inner) }
+        ensures { Gives (λ x. (pred_of x.0.value, x.1.now)) result (reading.and_from (reading.expr_or_pred_at self.now.depth) (length tokens.now) (pred_of p.value) tokens.now) }
     {
         let mut q = p;
         let mut rest = tokens;
@@ -423,8 +424,8 @@ impl<F: Fn(Global, usize, &[Token]) -> Result<(Thing, &[Token]), PathRefusal>> L
 
     #[tactic(auto, unfolding(sj_grammar::specs::Reading::conj_at))]
     fn conj<'a>(&self, tokens: &'a [Token]) -> Result<(Box<Pred>, &'a [Token]), PathRefusal>
-        requires { Nests self.now.depth (F.pre self.now.thing) (F.post self.now.thing) }
-        ensures { Gives (λ x. (pred_of x.0.value, x.1.now)) result (reading.conj_at (reading.thing_at self.now.depth) tokens.now) }
+        requires { Nests self.now.depth (F.pre self.now.inner) (F.post self.now.inner) }
+        ensures { Gives (λ x. (pred_of x.0.value, x.1.now)) result (reading.conj_at (reading.expr_or_pred_at self.now.depth) tokens.now) }
     {
         let (p, rest) = self.test(tokens)?;
         self.and_from(p, rest)
@@ -436,8 +437,8 @@ impl<F: Fn(Global, usize, &[Token]) -> Result<(Thing, &[Token]), PathRefusal>> L
         p: Box<Pred>,
         tokens: &'a [Token],
     ) -> Result<(Box<Pred>, &'a [Token]), PathRefusal>
-        requires { Nests self.now.depth (F.pre self.now.thing) (F.post self.now.thing) }
-        ensures { Gives (λ x. (pred_of x.0.value, x.1.now)) result (reading.or_from (reading.thing_at self.now.depth) (length tokens.now) (pred_of p.value) tokens.now) }
+        requires { Nests self.now.depth (F.pre self.now.inner) (F.post self.now.inner) }
+        ensures { Gives (λ x. (pred_of x.0.value, x.1.now)) result (reading.or_from (reading.expr_or_pred_at self.now.depth) (length tokens.now) (pred_of p.value) tokens.now) }
     {
         let mut q = p;
         let mut rest = tokens;
@@ -455,26 +456,26 @@ impl<F: Fn(Global, usize, &[Token]) -> Result<(Thing, &[Token]), PathRefusal>> L
     #[tactic(auto, unfolding(sj_grammar::specs::Reading::pred_from))]
     fn pred_from<'a>(
         &self,
-        x: Thing,
+        x: ExprOrPred,
         tokens: &'a [Token],
-    ) -> Result<(Thing, &'a [Token]), PathRefusal>
-        requires { Nests self.now.depth (F.pre self.now.thing) (F.post self.now.thing) }
-        ensures { Gives (λ x. (thing_of x.0, x.1.now)) result (reading.pred_from (reading.thing_at self.now.depth) (thing_of x) tokens.now) }
+    ) -> Result<(ExprOrPred, &'a [Token]), PathRefusal>
+        requires { Nests self.now.depth (F.pre self.now.inner) (F.post self.now.inner) }
+        ensures { Gives (λ x. (expr_or_pred_of x.0, x.1.now)) result (reading.pred_from (reading.expr_or_pred_at self.now.depth) (expr_or_pred_of x) tokens.now) }
     {
         match x {
-            Thing::Value(e) => Ok((Thing::Value(e), tokens)),
-            Thing::Test(p) => {
+            ExprOrPred::Value(e) => Ok((ExprOrPred::Value(e), tokens)),
+            ExprOrPred::Test(p) => {
                 let (p, rest) = self.and_from(p, tokens)?;
                 let (p, rest) = self.or_from(p, rest)?;
-                Ok((Thing::Test(p), rest))
+                Ok((ExprOrPred::Test(p), rest))
             }
         }
     }
 
-    #[tactic(auto, unfolding(sj_grammar::specs::Reading::thing_over))]
-    fn over<'a>(&self, tokens: &'a [Token]) -> Result<(Thing, &'a [Token]), PathRefusal>
-        requires { Nests self.now.depth (F.pre self.now.thing) (F.post self.now.thing) }
-        ensures { Gives (λ x. (thing_of x.0, x.1.now)) result (reading.thing_over (reading.thing_at self.now.depth) tokens.now) }
+    #[tactic(auto, unfolding(sj_grammar::specs::Reading::expr_or_pred_over))]
+    fn over<'a>(&self, tokens: &'a [Token]) -> Result<(ExprOrPred, &'a [Token]), PathRefusal>
+        requires { Nests self.now.depth (F.pre self.now.inner) (F.post self.now.inner) }
+        ensures { Gives (λ x. (expr_or_pred_of x.0, x.1.now)) result (reading.expr_or_pred_over (reading.expr_or_pred_at self.now.depth) tokens.now) }
     {
         let (x, rest) = self.neg(tokens)?;
         self.pred_from(x, rest)
@@ -482,12 +483,12 @@ impl<F: Fn(Global, usize, &[Token]) -> Result<(Thing, &[Token]), PathRefusal>> L
 }
 
 /// An expression or a predicate, with parentheses inside one another at most `depth` deep.
-pub fn thing(
+pub fn expr_or_pred(
     alloc: Global,
     depth: usize,
     tokens: &[Token],
-) -> Result<(Thing, &[Token]), PathRefusal>
-    ensures { Gives (λ x. (thing_of x.0, x.1.now)) result (reading.thing_at depth tokens.now) }
+) -> Result<(ExprOrPred, &[Token]), PathRefusal>
+    ensures { Gives (λ x. (expr_or_pred_of x.0, x.1.now)) result (reading.expr_or_pred_at depth tokens.now) }
 {
     if depth == 0 {
         return Err(PathRefusal::Syntax);
@@ -495,7 +496,7 @@ pub fn thing(
     Level {
         alloc,
         depth: depth - 1,
-        thing,
+        inner: expr_or_pred,
     }
     .over(tokens)
 }

@@ -10,7 +10,7 @@ ghost use Rattle.sj_path.specs.Tree.{path_of};
 use crate::check::misplaced_expr;
 use crate::depth::is_too_deep;
 use crate::finish::finished;
-use crate::level::{Level, thing};
+use crate::level::{Level, expr_or_pred};
 use crate::tree::Path;
 use crate::{raw, single};
 use sj_grammar::{Mode, PathRefusal};
@@ -24,7 +24,7 @@ fn whole(alloc: Global, tokens: &[Token]) -> Result<Box<raw::Expr>, PathRefusal>
     let level = Level {
         alloc,
         depth: tokens.len() + 1,
-        thing,
+        inner: expr_or_pred,
     };
     let (e, rest) = level.inner_expr(tokens)?;
     match rest {

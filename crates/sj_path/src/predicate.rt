@@ -2,10 +2,10 @@
 
 ghost use Rattle.std.specs.Prelude.{◌≡◌};
 ghost use Rattle.sj_grammar.specs.Reading as reading;
-ghost use Rattle.sj_path.specs.Raw.{expr_of, pred_of, thing_of};
+ghost use Rattle.sj_path.specs.Raw.{expr_of, pred_of, expr_or_pred_of};
 ghost use Rattle.sj_grammar.specs.Gives.{Gives};
 
-use crate::raw::{Expr, Pred, Thing};
+use crate::raw::{Expr, ExprOrPred, Pred};
 use crate::single;
 use sj_base::Text;
 use sj_grammar::{Initial, PathRefusal};
@@ -18,19 +18,19 @@ pub fn initial(
     alloc: Global,
     e: Box<Expr>,
     tokens: &[Token],
-) -> Result<(Thing, &[Token]), PathRefusal>
-    ensures { Gives (λ x. (thing_of x.0, x.1.now)) result (reading.initial_at (expr_of e.value) tokens.now) }
+) -> Result<(ExprOrPred, &[Token]), PathRefusal>
+    ensures { Gives (λ x. (expr_or_pred_of x.0, x.1.now)) result (reading.initial_at (expr_of e.value) tokens.now) }
 {
     match tokens {
         [Token::Quoted(text), rest @ ..] => {
             let initial = Initial::Lit(single::copy(alloc, text)?);
             let p = Box::new(alloc, Pred::StartsWith(e, initial))?;
-            Ok((Thing::Test(p), rest))
+            Ok((ExprOrPred::Test(p), rest))
         }
         [Token::Variable(name), rest @ ..] => {
             let initial = Initial::Var(single::copy(alloc, name)?);
             let p = Box::new(alloc, Pred::StartsWith(e, initial))?;
-            Ok((Thing::Test(p), rest))
+            Ok((ExprOrPred::Test(p), rest))
         }
         _ => Err(PathRefusal::Syntax),
     }
@@ -43,16 +43,16 @@ pub fn flags(
     e: Box<Expr>,
     pattern: Text,
     tokens: &[Token],
-) -> Result<(Thing, &[Token]), PathRefusal>
-    ensures { Gives (λ x. (thing_of x.0, x.1.now)) result (reading.flags_at (expr_of e.value) pattern tokens.now) }
+) -> Result<(ExprOrPred, &[Token]), PathRefusal>
+    ensures { Gives (λ x. (expr_or_pred_of x.0, x.1.now)) result (reading.flags_at (expr_of e.value) pattern tokens.now) }
 {
     let Some(rest) = single::flag(tokens) else {
         let p = Box::new(alloc, Pred::LikeRegex(e, pattern))?;
-        return Ok((Thing::Test(p), tokens));
+        return Ok((ExprOrPred::Test(p), tokens));
     };
     let (flags, rest) = single::quoted(alloc, rest)?;
     let p = Box::new(alloc, Pred::LikeRegexBy(e, pattern, flags))?;
-    Ok((Thing::Test(p), rest))
+    Ok((ExprOrPred::Test(p), rest))
 }
 
 /// Behind a predicate in parentheses.
@@ -61,13 +61,13 @@ pub fn unknown(
     alloc: Global,
     p: Box<Pred>,
     tokens: &[Token],
-) -> Result<(Thing, &[Token]), PathRefusal>
-    ensures { Gives (λ x. (thing_of x.0, x.1.now)) result (reading.unknown_from (pred_of p.value) tokens.now) }
+) -> Result<(ExprOrPred, &[Token]), PathRefusal>
+    ensures { Gives (λ x. (expr_or_pred_of x.0, x.1.now)) result (reading.unknown_from (pred_of p.value) tokens.now) }
 {
     let Some(rest) = single::is(tokens) else {
-        return Ok((Thing::Test(p), tokens));
+        return Ok((ExprOrPred::Test(p), tokens));
     };
     let rest = single::unknown(rest).ok_or(PathRefusal::Syntax)?;
     let p = Box::new(alloc, Pred::IsUnknown(p))?;
-    Ok((Thing::Test(p), rest))
+    Ok((ExprOrPred::Test(p), rest))
 }

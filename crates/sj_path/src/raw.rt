@@ -72,7 +72,7 @@ pub enum Pred {
 
 /// An expression or a predicate: which of them it is shows at its end alone.
 #[derive(Drop)]
-pub enum Thing {
+pub enum ExprOrPred {
     Value(Box<Expr>),
     Test(Box<Pred>),
 }

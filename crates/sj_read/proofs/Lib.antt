@@ -7,4 +7,3 @@ pub mod Unescaping
 pub mod Ends
 pub mod Lanes
 pub mod Runs
-pub mod OnePass

@@ -1,12 +1,8 @@
 -- The number that begins at a place.
-use Rattle.std.proofs.Common.{◌≡◌, ℕ, suc, ◌+◌, ◌-◌, ◌<◌, ◌≤◌, List, [], ◌∷◌, length, take, drop, get_or, Bool, true, false, cond, ◌&&◌, Some, None, refl, sym, ap, ◌∙◌, subst, arith, inl, inr}
+use Rattle.std.proofs.Common.{◌≡◌, ℕ, suc, ◌+◌, ◌-◌, ◌<◌, ◌≤◌, List, [], ◌∷◌, length, take, drop, get_or, Bool, true, false, cond, ◌&&◌, Some, None, refl, sym, ap, ◌∙◌, subst, arith}
 use Rattle.std.specs.List.{prefix_len, list_all}
-use Rattle.std.specs.Str.{IsUtf8, IsCharBoundary}
-use Rattle.std.proofs.lemmas.Str.{IsCharBoundary-before_ascii, IsCharBoundary-after_ascii}
-use Rattle.std.proofs.lemmas.List.{get_or-drop, length-drop, drop-drop}
-use Rattle.std.proofs.lemmas.List.Sums.{prefix_len-le-length, prefix_len_passes}
-use Rattle.std.proofs.lemmas.Bool.{cases_lt}
-use Rattle.std.proofs.lemmas.Bool.Decides.{nat_tests}
+use Rattle.std.proofs.lemmas.List.{length-drop, drop-drop}
+use Rattle.std.proofs.lemmas.List.Sums.{prefix_len-le-length}
 use Rattle.sj_decimal.specs.Number.{is_number_byte, begins_number}
 use Rattle.sj_json.specs.Tree.{Number, number}
 use Rattle.sj_json.specs.Building.{State, TakesValue, with_value}
@@ -18,12 +14,6 @@ use Rattle.sj_doc.specs.Builders.{node_total}
 use Rattle.sj_read.specs.declared.reader.Mode.TheVariants as modes
 use Rattle.sj_read.specs.Turns.{Went}
 use Rattle.sj_read.proofs.Steps.{here, goes, cut, put_value}
-
-number_ascii : (k : ℕ) → is_number_byte k ≡ true → k < 128
-number_ascii k h = grind (arith, nat_tests)
-
-begin_ascii : (k : ℕ) → begins_number k ≡ true → k < 128
-begin_ascii k h = grind (arith, nat_tests)
 
 front : (q : ℕ → Bool) (xs : List ℕ) → list_all q (take (prefix_len q xs) xs) ≡ true
 front q [] = refl
@@ -85,24 +75,3 @@ module _ (limit : ℕ) (s : State) (text : List ℕ) (at c : ℕ) (h : at < leng
 
   pub no_number_value : number_of (take (end - at) (drop at text)) ≡ None → run limit value s (drop at text) ≡ None
   no_number_value read = runs ∙ no_number_ends limit (take (end - at) (drop at text)) s (drop end text) read rest_ends
-
-  -- ---- the number lies between characters
-
-  last_byte : get_or text (end - 1) 0 < 128
-  last_byte =
-      let n = prefix_len is_number_byte (drop (at + 1) text) in
-      elim (cases_lt at (end - 1)) as (λ _. get_or text (end - 1) 0 < 128) [
-        | inl l ↦ let k = end - 1 - (at + 1) in
-            let place : at + 1 + k ≡ end - 1 = omega arith in
-            number_ascii (get_or text (end - 1) 0) (ap (λ (i : ℕ). is_number_byte (get_or text i 0)) (sym place) ∙ ap is_number_byte (sym (get_or-drop (at + 1) text k 0)) ∙ prefix_len_passes is_number_byte (drop (at + 1) text) k 0 (omega (arith, is)))
-        | inr g ↦ let place : at ≡ end - 1 = omega (arith, is) in
-            subst (λ (i : ℕ). get_or text i 0 < 128) place (subst (λ (b : ℕ). b < 128) (sym e) (begin_ascii c begins))
-      ]
-
-  pub end_boundary : IsUtf8 text → IsCharBoundary text end
-  end_boundary good =
-      let last : end - 1 + 1 ≡ end = omega (arith, is) in
-      subst (IsCharBoundary text) last (IsCharBoundary-after_ascii text (end - 1) good (omega (arith, is, within)) last_byte)
-
-  pub start_boundary : IsCharBoundary text at
-  start_boundary = IsCharBoundary-before_ascii text at h (subst (λ (b : ℕ). b < 128) (sym e) (begin_ascii c begins))

@@ -1,5 +1,5 @@
 -- Steps of the reader of bytes, as the code takes them.
-use Rattle.std.proofs.Common.{◌≡◌, ◌≢◌, ℕ, ◌+◌, ◌-◌, ◌<◌, ◌≤◌, List, [], ◌∷◌, ◌++◌, length, take, drop, get_or, Bool, true, false, cond, ◌==◌, nat_lt, Option, Some, None, Result, Ok, Err, option_and_then, MatchResult, OnOk, codes, refl, sym, ap, ◌∙◌, subst, arith, ◌⊎◌, inl, inr}
+use Rattle.std.proofs.Common.{◌≡◌, ◌≢◌, ℕ, ◌+◌, ◌-◌, ◌<◌, ◌≤◌, List, [], ◌∷◌, ◌++◌, length, take, drop, get_or, Bool, true, false, cond, ◌==◌, nat_lt, Option, Some, None, Result, Ok, Err, option_and_then, MatchResult, OnOk, OnErr, codes, refl, sym, ap, ◌∙◌, subst, arith, ◌⊎◌, inl, inr}
 use Rattle.std.proofs.lemmas.List.{drop_more, drop-drop, take-append-drop, length-drop, length-append}
 use Rattle.std.proofs.lemmas.Bool.Decides.{eqb_tells}
 use borrow.Author.Tests.{lt-ltb, le-ltb, eqb-true, eqb-false}
@@ -10,7 +10,7 @@ use Rattle.sj_base.specs.ByteClasses.{is_blank}
 use Rattle.sj_json.specs.Machine.{Mode, value, value_or_close, key, key_or_close, colon, after_value, letters, quoted, open_turn, close_turn, start, separate, end_quote, turn, run}
 use Rattle.sj_json.proofs.Complete.{run_step, run_plain}
 use Rattle.sj_json.proofs.Buildings.{total-put, total-open, total-key}
-use Rattle.sj_doc.specs.Builders.{node_total}
+use Rattle.sj_doc.specs.Builders.{Building, node_total}
 use Rattle.sj_doc.specs.Kinds.{want_of}
 use Rattle.sj_doc.specs.declared.node.Want.TheVariants as wants
 use Rattle.sj_read.specs.declared.reader.Mode as coded
@@ -168,10 +168,21 @@ plain_string text from end h = record { reads = λ limit k s. string_goes limit 
 
 -- ---- calls of the builder
 
-pub after_call : {A E : Type 0} (limit : ℕ) (d : Result A E) (r : Result ℕ ReadRefusal) (n : coded.Mode) (to : ℕ) (m : Mode) (s : State) (text : List ℕ) (at : ℕ) (new t : State)
-    → MatchResult d (λ _. r ≡ Ok to) (λ _. r ≡ Err Memory) → OnOk d (new ≡ t) → Went limit m s text at n to t → Turns limit n r m s text at new
-after_call limit (Ok x) r n to m s text at new t h e w = subst (λ z. Turns limit n z m s text at new) (sym h) (subst (Went limit m s text at n to) (sym e) w)
-after_call limit (Err x) r n to m s text at new t h e w = subst (λ z. Turns limit n z m s text at new) (sym h) tt
+pub state_of_pair : {x y : Building} → x ≡ y → x.0 ≡ y.0
+state_of_pair e = ap (λ (z : Building). z.0) e
+
+pub line_of_pair : {x y : Building} → x ≡ y → x.1 ≡ y.1
+line_of_pair e = ap (λ (z : Building). z.1) e
+
+pub after_call : {A E : Type 0} (limit : ℕ) (d : Result A E) (r : Result ℕ ReadRefusal) (n : coded.Mode) (to : ℕ) (m : Mode) (s : State) (text : List ℕ) (at : ℕ) (new : Building) (t : State) (line : List ℕ)
+    → MatchResult d (λ _. r ≡ Ok to) (λ _. r ≡ Err Memory) → OnOk d (new ≡ (t, line)) → Went limit m s text at n to t → Turns limit n r m s text at new.0
+after_call limit (Ok x) r n to m s text at new t line h e w = subst (λ z. Turns limit n z m s text at new.0) (sym h) (subst (Went limit m s text at n to) (sym (state_of_pair e)) w)
+after_call limit (Err x) r n to m s text at new t line h e w = subst (λ z. Turns limit n z m s text at new.0) (sym h) tt
+
+-- the line stays
+pub line_after : {A E : Type 0} (d : Result A E) (new old : Building) (t : State) → OnOk d (new ≡ (t, old.1)) → OnErr d (new ≡ old) → new.1 ≡ old.1
+line_after (Ok x) new old t h e = line_of_pair h
+line_after (Err x) new old t h e = line_of_pair e
 
 -- two steps, one after the other
 pub onward : (limit : ℕ) (m : Mode) (s : State) (text : List ℕ) (at : ℕ) (n : coded.Mode) (to : ℕ) (t : State) → Went limit m s text at n to t

@@ -2,14 +2,14 @@
 //! limited length and depth that spells a tree (RFC 8259).
 //!
 //! `read` is one loop, whose turns take a token or two. It needs no recursion, and no memory but that of the document and of
-//! the longest text with an escape. A text without one is copied once.
+//! the longest text with an escape. The line is copied once, as a whole.
 #![tactic(auto)]
 
 mod escape;
+mod numeral;
 mod plain;
 mod reader;
 mod scan;
-mod short;
 mod unescape;
 mod utf8;
 

@@ -1,21 +1,21 @@
 // The reader: a loop over the tokens that drives a `DocBuilder`.
-ghost use Rattle.std.specs.Prelude.{◌≡◌, ◌≢◌, ℕ, List, ◌+◌, ◌-◌, ◌<◌, ◌≤◌, length, take, drop, get_or, slice_index, true, false, IfSome, MatchResult, IfOk, Ok, Err};
+ghost use Rattle.std.specs.Prelude.{◌≡◌, ◌≢◌, ℕ, List, ◌+◌, ◌-◌, ◌<◌, ◌≤◌, length, drop, get_or, slice_index, IsUtf8, true, false, IfSome, MatchResult, IfOk, Ok, Err};
 ghost use Rattle.sj_base.specs.ByteClasses.{is_blank as blank_byte};
 ghost use Rattle.sj_decimal.specs.Number.{begins_number as beginning_byte};
+ghost use Rattle.sj_decimal.specs.Shorts.{between};
 ghost use Rattle.sj_json.specs.Tree.{Tree};
-ghost use Rattle.sj_json.specs.Building.{State, fresh};
+ghost use Rattle.sj_json.specs.Building.{State};
 ghost use Rattle.sj_json.specs.Spelling.{SpellsText, IsJson};
 ghost use Rattle.sj_json.specs.Machine.{value as value_mode, key as key_mode, after_value as after_mode};
 ghost use Rattle.sj_doc.specs.Builders.{node_total};
 ghost use Rattle.sj_read.specs.Scans.{EndsPlain};
 ghost use Rattle.sj_read.specs.Turns.{mode_of, closes_at, Ready, TakesOneKey, Turns};
 
+use crate::numeral::{Numeral, judged, plain_number_end};
 use crate::scan::{begins_number, follows, number_end, string_end, token_at};
-use crate::short::short_number;
 use crate::unescape::unescape;
 use crate::utf8::text_of;
 use sj_base::{Memory, is_blank};
-use sj_decimal::{Decimal, Parsed};
 use sj_doc::{Doc, DocBuilder, Want};
 use std::alloc::Global;
 use thiserror::Error;
@@ -74,15 +74,19 @@ fn anew(turn: Turn) -> Turn
     }
 }
 
-// The text of a string that begins at `from`, behind its quotation mark, and where it ends, if it has no escape.
+// Where a string ends that begins at `from`, behind its quotation mark, if it has no escape.
 #[inline(always)]
-fn string_text(text: &str, from: usize) -> Option<(&str, usize)>
+fn text_end(text: &str, from: usize) -> Option<usize>
     requires within { (0 < from) × (from ≤ length text.now) }
     requires quote { slice_index text.now (from - 1) ≡ 34 }
-    ensures { IfSome result (λ r. EndsPlain text.now from r.1 × (r.0.now ≡ take (r.1 - from) (drop from text.now))) }
+    ensures { IfSome result (λ end. EndsPlain text.now from end × IsUtf8 (between text.now from end)) }
 {
     match string_end(text.as_bytes(), from) {
-        Some(end) => Some((&text[from..end], end)),
+        Some(end) => {
+            // shows the proof that this is text
+            let _ = &text[from..end];
+            Some(end)
+        }
         None => None,
     }
 }
@@ -99,9 +103,10 @@ fn escaped_value(
     requires within { (at < length text.now) × (length text.now ≤ MAX_LENGTH) }
     requires here { slice_index text.now at ≡ c }
     requires quote { c ≡ 34 }
-    requires ready { Ready value_mode builder.old }
-    requires room { node_total builder.old ≤ at }
-    ensures { Turns MAX_DEPTH Mode.AfterValue result value_mode builder.old text.now at builder.new }
+    requires ready { Ready value_mode builder.old.0 }
+    requires room { node_total builder.old.0 ≤ at }
+    ensures turns { Turns MAX_DEPTH Mode.AfterValue result value_mode builder.old.0 text.now at builder.new.0 }
+    ensures line { builder.new.1 ≡ builder.old.1 }
 {
     match unescape(text, at + 1, buffer) {
         Ok(Some(end)) => after(builder.text(buffer.as_str()), end + 1),
@@ -116,9 +121,10 @@ fn escaped_key(builder: &mut DocBuilder, buffer: &mut String, text: &str, at: us
     requires within { (at < length text.now) × (length text.now ≤ MAX_LENGTH) }
     requires here { slice_index text.now at ≡ c }
     requires quote { c ≡ 34 }
-    requires ready { Ready key_mode builder.old }
-    requires room { node_total builder.old ≤ at }
-    ensures { Turns MAX_DEPTH Mode.Colon result key_mode builder.old text.now at builder.new }
+    requires ready { Ready key_mode builder.old.0 }
+    requires room { node_total builder.old.0 ≤ at }
+    ensures turns { Turns MAX_DEPTH Mode.Colon result key_mode builder.old.0 text.now at builder.new.0 }
+    ensures line { builder.new.1 ≡ builder.old.1 }
 {
     match unescape(text, at + 1, buffer) {
         Ok(Some(end)) => after(builder.key(buffer.as_str()), end + 1),
@@ -127,37 +133,40 @@ fn escaped_key(builder: &mut DocBuilder, buffer: &mut String, text: &str, at: us
     }
 }
 
-// The number that begins with the byte c at the place, of any length.
+// The number that begins with the byte c at the place, with an exponent or without.
 #[inline(never)]
 fn any_number(builder: &mut DocBuilder, text: &str, at: usize, c: u8) -> Turn
+    requires line { builder.old.1 ≡ text.now }
     requires within { (at < length text.now) × (length text.now ≤ MAX_LENGTH) }
     requires here { slice_index text.now at ≡ c }
     requires begins { beginning_byte c ≡ true }
-    requires ready { Ready value_mode builder.old }
-    requires room { node_total builder.old ≤ at }
-    ensures { Turns MAX_DEPTH Mode.AfterValue result value_mode builder.old text.now at builder.new }
+    requires ready { Ready value_mode builder.old.0 }
+    requires room { node_total builder.old.0 ≤ at }
+    ensures turns { Turns MAX_DEPTH Mode.AfterValue result value_mode builder.old.0 text.now at builder.new.0 }
+    ensures line { builder.new.1 ≡ builder.old.1 }
 {
     let end = number_end(text.as_bytes(), at + 1);
-    let spelling = &text[at..end];
-    match Decimal::parse(spelling.as_bytes()) {
-        Parsed::Exact(n) => after(builder.exact(n), end),
-        Parsed::Wide => after(builder.wide(spelling), end),
-        Parsed::NotNumber => Err(ReadRefusal::NotJson),
+    match judged(&text.as_bytes()[at..end]) {
+        Numeral::Kept => after(builder.number_at(at, end), end),
+        Numeral::Exact(n) => after(builder.exact(n), end),
+        Numeral::NotNumber => Err(ReadRefusal::NotJson),
     }
 }
 
 // The same, where few numbers need the general way.
 #[inline(always)]
 fn number(builder: &mut DocBuilder, text: &str, at: usize, c: u8) -> Turn
+    requires line { builder.old.1 ≡ text.now }
     requires within { (at < length text.now) × (length text.now ≤ MAX_LENGTH) }
     requires here { slice_index text.now at ≡ c }
     requires begins { beginning_byte c ≡ true }
-    requires ready { Ready value_mode builder.old }
-    requires room { node_total builder.old ≤ at }
-    ensures { Turns MAX_DEPTH Mode.AfterValue result value_mode builder.old text.now at builder.new }
+    requires ready { Ready value_mode builder.old.0 }
+    requires room { node_total builder.old.0 ≤ at }
+    ensures turns { Turns MAX_DEPTH Mode.AfterValue result value_mode builder.old.0 text.now at builder.new.0 }
+    ensures line { builder.new.1 ≡ builder.old.1 }
 {
-    match short_number(text.as_bytes(), at, c) {
-        Some(short) => after(builder.exact(short.decimal(c == b'-')), short.end),
+    match plain_number_end(text.as_bytes(), at, c) {
+        Some(end) => after(builder.number_at(at, end), end),
         None => anew(any_number(builder, text, at, c)),
     }
 }
@@ -165,18 +174,20 @@ fn number(builder: &mut DocBuilder, text: &str, at: usize, c: u8) -> Turn
 // The value that begins with the byte c at the place, where that opens no container.
 #[inline(always)]
 fn scalar(builder: &mut DocBuilder, buffer: &mut String, text: &str, at: usize, c: u8) -> Turn
+    requires line { builder.old.1 ≡ text.now }
     requires within { (at < length text.now) × (length text.now ≤ MAX_LENGTH) }
     requires here { slice_index text.now at ≡ c }
     requires not_blank { blank_byte c ≡ false }
     requires no_array { c ≢ 91 }
     requires no_object { c ≢ 123 }
-    requires ready { Ready value_mode builder.old }
-    requires room { node_total builder.old ≤ at }
-    ensures { Turns MAX_DEPTH Mode.AfterValue result value_mode builder.old text.now at builder.new }
+    requires ready { Ready value_mode builder.old.0 }
+    requires room { node_total builder.old.0 ≤ at }
+    ensures turns { Turns MAX_DEPTH Mode.AfterValue result value_mode builder.old.0 text.now at builder.new.0 }
+    ensures line { builder.new.1 ≡ builder.old.1 }
 {
     match c {
-        b'"' => match string_text(text, at + 1) {
-            Some((s, end)) => after(builder.text(s), end + 1),
+        b'"' => match text_end(text, at + 1) {
+            Some(end) => after(builder.text_at(at + 1, end), end + 1),
             None => anew(escaped_value(builder, buffer, text, at, c)),
         },
         b'n' => {
@@ -217,14 +228,16 @@ fn scalar_and_separator(
     at: usize,
     c: u8,
 ) -> Turn
+    requires line { builder.old.1 ≡ text.now }
     requires within { (at < length text.now) × (length text.now ≤ MAX_LENGTH) }
     requires here { slice_index text.now at ≡ c }
     requires not_blank { blank_byte c ≡ false }
     requires no_array { c ≢ 91 }
     requires no_object { c ≢ 123 }
-    requires ready { Ready value_mode builder.old }
-    requires room { node_total builder.old ≤ at }
-    ensures { Turns MAX_DEPTH mode.new result value_mode builder.old text.now at builder.new }
+    requires ready { Ready value_mode builder.old.0 }
+    requires room { node_total builder.old.0 ≤ at }
+    ensures turns { Turns MAX_DEPTH mode.new result value_mode builder.old.0 text.now at builder.new.0 }
+    ensures line { builder.new.1 ≡ builder.old.1 }
 {
     match scalar(builder, buffer, text, at, c) {
         Ok(end) => match token_at(text.as_bytes(), end) {
@@ -249,12 +262,14 @@ fn value(
     at: usize,
     c: u8,
 ) -> Turn
+    requires line { builder.old.1 ≡ text.now }
     requires within { (at < length text.now) × (length text.now ≤ MAX_LENGTH) }
     requires here { slice_index text.now at ≡ c }
     requires not_blank { blank_byte c ≡ false }
-    requires ready { Ready value_mode builder.old }
-    requires room { node_total builder.old ≤ at }
-    ensures { Turns MAX_DEPTH mode.new result value_mode builder.old text.now at builder.new }
+    requires ready { Ready value_mode builder.old.0 }
+    requires room { node_total builder.old.0 ≤ at }
+    ensures turns { Turns MAX_DEPTH mode.new result value_mode builder.old.0 text.now at builder.new.0 }
+    ensures line { builder.new.1 ≡ builder.old.1 }
 {
     match c {
         b'[' => {
@@ -278,18 +293,23 @@ fn value(
 // The key that begins with the byte c at the place.
 #[inline(always)]
 fn quoted_key(builder: &mut DocBuilder, buffer: &mut String, text: &str, at: usize, c: u8) -> Turn
+    requires line { builder.old.1 ≡ text.now }
     requires within { (at < length text.now) × (length text.now ≤ MAX_LENGTH) }
     requires here { slice_index text.now at ≡ c }
     requires not_blank { blank_byte c ≡ false }
-    requires ready { Ready key_mode builder.old }
-    requires room { node_total builder.old ≤ at }
-    ensures { Turns MAX_DEPTH Mode.Colon result key_mode builder.old text.now at builder.new }
+    requires ready { Ready key_mode builder.old.0 }
+    requires room { node_total builder.old.0 ≤ at }
+    ensures turns { Turns MAX_DEPTH Mode.Colon result key_mode builder.old.0 text.now at builder.new.0 }
+    ensures line { builder.new.1 ≡ builder.old.1 }
 {
     if c != b'"' {
         return Err(ReadRefusal::NotJson);
     }
-    match string_text(text, at + 1) {
-        Some((s, end)) => after(builder.key(s), end + 1),
+    match text_end(text, at + 1) {
+        Some(end) => {
+            builder.key_at(at + 1, end);
+            Ok(end + 1)
+        }
         None => anew(escaped_key(builder, buffer, text, at, c)),
     }
 }
@@ -304,12 +324,14 @@ fn key(
     at: usize,
     c: u8,
 ) -> Turn
+    requires line { builder.old.1 ≡ text.now }
     requires within { (at < length text.now) × (length text.now ≤ MAX_LENGTH) }
     requires here { slice_index text.now at ≡ c }
     requires not_blank { blank_byte c ≡ false }
-    requires ready { Ready key_mode builder.old }
-    requires room { node_total builder.old ≤ at }
-    ensures { Turns MAX_DEPTH mode.new result key_mode builder.old text.now at builder.new }
+    requires ready { Ready key_mode builder.old.0 }
+    requires room { node_total builder.old.0 ≤ at }
+    ensures turns { Turns MAX_DEPTH mode.new result key_mode builder.old.0 text.now at builder.new.0 }
+    ensures line { builder.new.1 ≡ builder.old.1 }
 {
     match quoted_key(builder, buffer, text, at, c) {
         Ok(end) => match token_at(text.as_bytes(), end) {
@@ -332,9 +354,10 @@ fn separator(builder: &mut DocBuilder, mode: &mut Mode, text: &str, at: usize, c
     requires within { (at < length text.now) × (length text.now ≤ MAX_LENGTH) }
     requires here { slice_index text.now at ≡ c }
     requires not_blank { blank_byte c ≡ false }
-    requires ready { Ready after_mode builder.old }
-    requires room { node_total builder.old ≤ at }
-    ensures { Turns MAX_DEPTH mode.new result after_mode builder.old text.now at builder.new }
+    requires ready { Ready after_mode builder.old.0 }
+    requires room { node_total builder.old.0 ≤ at }
+    ensures turns { Turns MAX_DEPTH mode.new result after_mode builder.old.0 text.now at builder.new.0 }
+    ensures line { builder.new.1 ≡ builder.old.1 }
 {
     match builder.wants() {
         Want::ValueOrClose => {
@@ -386,10 +409,12 @@ fn turn(
     text: &str,
     at: usize,
 ) -> Turn
+    requires line { builder.old.1 ≡ text.now }
     requires within { (at < length text.now) × (length text.now ≤ MAX_LENGTH) }
-    requires ready { Ready (mode_of mode.old) builder.old }
-    requires room { node_total builder.old ≤ at }
-    ensures { Turns MAX_DEPTH mode.new result (mode_of mode.old) builder.old text.now at builder.new }
+    requires ready { Ready (mode_of mode.old) builder.old.0 }
+    requires room { node_total builder.old.0 ≤ at }
+    ensures turns { Turns MAX_DEPTH mode.new result (mode_of mode.old) builder.old.0 text.now at builder.new.0 }
+    ensures line { builder.new.1 ≡ builder.old.1 }
 {
     let c = text.as_bytes()[at];
     if is_blank(c) {
@@ -438,9 +463,8 @@ pub fn read_over(alloc: Global, earlier: Option<Doc>, line: &[u8]) -> Result<Doc
     read_into(alloc, builder, line)
 }
 
-// The same, into an empty builder.
+// The same, over the memory of a builder.
 fn read_into(alloc: Global, builder: DocBuilder, line: &[u8]) -> Result<Doc, ReadRefusal>
-    requires { builder ≡ fresh }
     ensures ok { IfOk result (λ doc. SpellsText doc line.now × IsJson line.now) }
     ensures refused { result ≡ Err ReadRefusal.NotJson → IsJson line.now → ⊥ }
 {
@@ -450,7 +474,9 @@ fn read_into(alloc: Global, builder: DocBuilder, line: &[u8]) -> Result<Doc, Rea
     let Some(text) = text_of(line) else {
         return Err(ReadRefusal::NotJson);
     };
-    let mut builder = builder;
+    let Ok(mut builder) = builder.holding(text) else {
+        return Err(ReadRefusal::Memory);
+    };
     let mut buffer = String::new(alloc);
     let mut mode = Mode::Value;
     let mut at = 0;

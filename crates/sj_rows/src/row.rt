@@ -10,11 +10,12 @@ use itoa::Buffer;
 use sj_base::{Bytes, Memory, State};
 use sj_value::SqlValue;
 
-/// Appends a row: the line's number, TAB, the statement's number, TAB, `R`, then TAB and a field for each value, and LF.
+/// Appends a row: the line's number, TAB, the statement's number, TAB, `R`, then TAB and a field for each value, and
+/// LF.
 ///
-/// The field of NULL is `\N`, and that of a truth value `TRUE` or `FALSE`. A number has its text, with the decimals that it is to
-/// print. A text and a JSON value stand as they are, but for backslash, TAB, LF and CR, which are `\\`, `\t`, `\n` and `\r`. So a
-/// field has no TAB and no LF, and the text `\N` is not the field of NULL.
+/// The field of NULL is `\N`, and that of a truth value `TRUE` or `FALSE`. A number has its text, with the decimals
+/// that it is to print. A text and a JSON value stand as they are, but for backslash, TAB, LF and CR, which are `\\`,
+/// `\t`, `\n` and `\r`. So a field has no TAB and no LF, and the text `\N` is not the field of NULL.
 ///
 /// # Errors
 /// `Memory` where memory ran out. `out` has then grown by a first part of the row.
@@ -34,7 +35,8 @@ pub fn row_text(
     out.push(b"\n")
 }
 
-/// Appends an error row: the line's number, TAB, the statement's number, TAB, `E`, TAB, the five characters of the state, and LF.
+/// Appends an error row: the line's number, TAB, the statement's number, TAB, `E`, TAB, the five characters of the
+/// state, and LF.
 ///
 /// # Errors
 /// `Memory` where memory ran out. `out` has then grown by a first part of the row.

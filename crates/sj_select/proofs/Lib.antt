@@ -1,5 +1,4 @@
 mod Aggregating
-pub mod Distinct
 mod Finding
 mod Gathering
 mod Listing

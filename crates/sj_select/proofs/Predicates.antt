@@ -7,9 +7,9 @@ use Rattle.sj_statement.specs.declared.clauses.IsJsonCall.{IsJsonCall}
 use Rattle.sj_value.specs.declared.value.SqlValue.TheVariants.{Bool as truth}
 use Rattle.sj_func.specs.Json.{is_of, Fits, IsJsonAs}
 use Rattle.sj_func.specs.declared.context.Outcome.TheVariants.{Value}
-use Rattle.sj_select.specs.Keys.{has_unique_keys}
+use Rattle.sj_json.specs.UniqueKeys.{has_unique_keys}
 use Rattle.sj_select.specs.Values.{is_json_as, is_json_outcome}
-use Rattle.sj_select.proofs.Distinct.{both, unique_from, unique_to}
+use Rattle.sj_json.proofs.Distinct.{both, unique_from, unique_to}
 
 asked : (unique h : Bool) → (not unique || h) ≡ true → unique ≡ true → h ≡ true
 asked true h e u = e

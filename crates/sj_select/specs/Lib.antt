@@ -1,4 +1,3 @@
-pub mod Keys
 pub mod Line
 pub mod Values
 pub mod Columns

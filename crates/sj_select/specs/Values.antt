@@ -20,7 +20,7 @@ use Rattle.sj_build.specs.Constructors.{array_value, object_value}
 use Rattle.sj_build.specs.declared.field.Field.{Field}
 use Rattle.sj_bind.specs.Bound as b
 use Rattle.sj_bind.specs.Bound.{PathWith}
-use Rattle.sj_select.specs.Keys.{has_unique_keys}
+use Rattle.sj_json.specs.UniqueKeys.{has_unique_keys}
 use Rattle.sj_select.specs.Line.{Line, context, tree_of}
 
 -- a literal as a value; a number prints its plain text

@@ -1,5 +1,5 @@
 // The operations of a statement.
-ghost use Rattle.std.specs.Prelude.{◌≡◌, ◌≤◌, ◌<◌, ◌+◌, ◌++◌, length, IfOk, OnOk};
+ghost use Rattle.std.specs.Prelude.{◌≡◌, ◌≤◌, ◌<◌, ◌+◌, ◌++◌, ◌∷◌, [], length, IfOk, OnOk};
 ghost use Rattle.sj_bind.specs.View.{bound_of, items_of, value_of, values_of, members_of, path_with_of};
 ghost use Rattle.sj_select.specs.Operations.{steps_of, steps_to, steps_to_values, steps_to_members, steps_to_all, value_count, member_count, path_with};
 ghost use Rattle.sj_select.specs.Rows.{values_in};
@@ -78,6 +78,15 @@ pub(crate) fn boxed_cursor<'d>(
     Ok(Box::new(alloc, cursor)?)
 }
 
+// Appends an operation. With a `?` at each place where this is called, the calls that recur would have as many ways out
+// more.
+fn push<'d>(operation: Operation<'d>, operations: &mut Vec<Operation<'d>>) -> Result<(), Memory>
+    ensures { OnOk result (operations.new.items ≡ operations.old.items ++ operation.entry ∷ []) }
+{
+    operations.push(operation)?;
+    Ok(())
+}
+
 // Appends the operations that find a value: what it is made of first. They are one at least.
 #[cycle(push_value)]
 fn push_value<'d>(
@@ -89,19 +98,19 @@ fn push_value<'d>(
     ensures grows { OnOk result (length operations.old.items < length operations.new.items) }
 {
     match value {
-        BoundValue::Lit(literal) => Ok(operations.push(Operation::Literal(literal))?),
-        BoundValue::Column(number) => Ok(operations.push(Operation::Column(*number))?),
+        BoundValue::Lit(literal) => push(Operation::Literal(literal), operations),
+        BoundValue::Column(number) => push(Operation::Column(*number), operations),
         BoundValue::Exists(path, on_error) => {
             let cursor = cursor_of(alloc, path)?;
             let call = ExistsCall {
                 cursor,
                 on_error: *on_error,
             };
-            Ok(operations.push(Operation::Exists(call))?)
+            push(Operation::Exists(call), operations)
         }
         BoundValue::Value(path, clauses) => {
             let cursor = cursor_of(alloc, path)?;
-            Ok(operations.push(Operation::Value(ValueCall { cursor, clauses }))?)
+            push(Operation::Value(ValueCall { cursor, clauses }), operations)
         }
         BoundValue::Query(path, clauses) => {
             let cursor = cursor_of(alloc, path)?;
@@ -109,16 +118,16 @@ fn push_value<'d>(
                 cursor,
                 clauses: *clauses,
             };
-            Ok(operations.push(Operation::Query(call))?)
+            push(Operation::Query(call), operations)
         }
-        BoundValue::IsJson(call) => Ok(operations.push(Operation::IsJson(*call))?),
+        BoundValue::IsJson(call) => push(Operation::IsJson(*call), operations),
         BoundValue::Object(members, nulls, unique) => {
             let count = push_members(alloc, members, operations)?;
-            Ok(operations.push(Operation::Object(count, *nulls, *unique))?)
+            push(Operation::Object(count, *nulls, *unique), operations)
         }
         BoundValue::Array(values, nulls) => {
             let count = push_values(alloc, values, operations)?;
-            Ok(operations.push(Operation::Array(count, *nulls))?)
+            push(Operation::Array(count, *nulls), operations)
         }
     }
 }
@@ -160,7 +169,7 @@ fn push_members<'d>(
     while let BoundMembers::More(key, value, others) = rest {
         push_value(alloc, key, operations)?;
         push_value(alloc, value, operations)?;
-        operations.push(Operation::Member)?;
+        push(Operation::Member, operations)?;
         count += 1;
         rest = others;
     }

@@ -20,7 +20,6 @@ mod calls;
 mod columns;
 mod find;
 mod finder;
-mod law;
 mod line;
 mod operation;
 mod pile;
@@ -28,6 +27,5 @@ mod rows;
 mod source;
 mod table;
 
-pub use law::unique_keys;
 pub use line::LineDoc;
 pub use rows::{RowsOf, Turn};

@@ -25,6 +25,7 @@ mod plan;
 mod refusal;
 mod row_member;
 mod row_value;
+mod script;
 mod select;
 mod seq;
 mod single;
@@ -34,6 +35,7 @@ mod value;
 
 pub use answer::Refused;
 pub use file::{NextStatement, next_statement};
+pub use script::{FileFault, Script, Statements, parse_file};
 pub use seq::Seq;
 pub use sj_statement::{
     BindKind, Encoding, FileKind, InOut, IsJsonCall, Passed, Quotes, Siblings, TypeName, ValueDo,

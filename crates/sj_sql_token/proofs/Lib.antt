@@ -1,5 +1,10 @@
+-- for `number_of` and `undoubled`, and for other lemmas
 pub mod Quotes
+-- for `utf8`, and for other lemmas
 pub mod Texts
+-- for `number_of` and `number`
 pub mod Numbers
+-- for `name`, `next_token`, `string` and `word`
 pub mod Pieces
+-- for sj_sql and sj_statement
 pub mod Keywords

@@ -1,7 +1,8 @@
 -- Words, and the part that each plays in a statement.
-use Rattle.std.specs.Prelude.{ℕ, Bool, true, false, List, Option, Some, None, map, codes, if◌then◌else◌}
+use Rattle.std.specs.Prelude.{ℕ, Bool, true, false, List, [], ◌∷◌, map, codes}
 use Rattle.std.specs.Char.{to_ascii_lowercase}
 use Rattle.std.specs.Str.{bytes_eq}
+use Rattle.sj_base.specs.Words.{first_like}
 use Rattle.sj_sql_token.specs.declared.keyword.Keyword.{Keyword}
 use Rattle.sj_sql_token.specs.declared.keyword.Keyword.TheVariants as w
 
@@ -9,109 +10,89 @@ use Rattle.sj_sql_token.specs.declared.keyword.Keyword.TheVariants as w
 abbrev pub is_spelt : List ℕ → List ℕ → Bool
 is_spelt word keyword = bytes_eq (map to_ascii_lowercase word) (map to_ascii_lowercase keyword)
 
--- reserved words, which are no names
-abbrev pub reserved_word : List ℕ → Option Keyword
-reserved_word word =
-    if is_spelt word (codes "SELECT") then Some w.Select
-    else (if is_spelt word (codes "FROM") then Some w.From
-    else (if is_spelt word (codes "AS") then Some w.As
-    else (if is_spelt word (codes "KEY") then Some w.Key
-    else (if is_spelt word (codes "TRUE") then Some w.True
-    else (if is_spelt word (codes "FALSE") then Some w.False
-    else (if is_spelt word (codes "NULL") then Some w.Null
-    else (if is_spelt word (codes "NESTED") then Some w.Nested
-    else (if is_spelt word (codes "JSON_EXISTS") then Some w.JsonExists
-    else (if is_spelt word (codes "JSON_VALUE") then Some w.JsonValue
-    else (if is_spelt word (codes "JSON_QUERY") then Some w.JsonQuery
-    else (if is_spelt word (codes "JSON_TABLE") then Some w.JsonTable
-    else (if is_spelt word (codes "JSON_OBJECT") then Some w.JsonObject
-    else (if is_spelt word (codes "JSON_ARRAY") then Some w.JsonArray
-    else (if is_spelt word (codes "JSON_OBJECTAGG") then Some w.JsonObjectAgg
-    else (if is_spelt word (codes "JSON_ARRAYAGG") then Some w.JsonArrayAgg
-    else None)))))))))))))))
-
--- words of the clauses of query functions
-abbrev pub call_word : List ℕ → Option Keyword
-call_word word =
-    if is_spelt word (codes "PASSING") then Some w.Passing
-    else (if is_spelt word (codes "RETURNING") then Some w.Returning
-    else (if is_spelt word (codes "ON") then Some w.On
-    else (if is_spelt word (codes "ERROR") then Some w.Error
-    else (if is_spelt word (codes "EMPTY") then Some w.Empty
-    else (if is_spelt word (codes "DEFAULT") then Some w.Default
-    else (if is_spelt word (codes "UNKNOWN") then Some w.Unknown
-    else (if is_spelt word (codes "ABSENT") then Some w.Absent
-    else (if is_spelt word (codes "WITH") then Some w.With
-    else (if is_spelt word (codes "WITHOUT") then Some w.Without
-    else (if is_spelt word (codes "CONDITIONAL") then Some w.Conditional
-    else (if is_spelt word (codes "UNCONDITIONAL") then Some w.Unconditional
-    else (if is_spelt word (codes "WRAPPER") then Some w.Wrapper
-    else (if is_spelt word (codes "KEEP") then Some w.Keep
-    else (if is_spelt word (codes "OMIT") then Some w.Omit
-    else (if is_spelt word (codes "QUOTES") then Some w.Quotes
-    else None)))))))))))))))
-
--- words of the forms of JSON
-abbrev pub json_word : List ℕ → Option Keyword
-json_word word =
-    if is_spelt word (codes "FORMAT") then Some w.Format
-    else (if is_spelt word (codes "JSON") then Some w.Json
-    else (if is_spelt word (codes "ENCODING") then Some w.Encoding
-    else (if is_spelt word (codes "UTF8") then Some w.Utf8
-    else (if is_spelt word (codes "UTF16") then Some w.Utf16
-    else (if is_spelt word (codes "UTF32") then Some w.Utf32
-    else (if is_spelt word (codes "IS") then Some w.Is
-    else (if is_spelt word (codes "NOT") then Some w.Not
-    else (if is_spelt word (codes "VALUE") then Some w.Value
-    else (if is_spelt word (codes "ARRAY") then Some w.Array
-    else (if is_spelt word (codes "OBJECT") then Some w.Object
-    else (if is_spelt word (codes "SCALAR") then Some w.Scalar
-    else (if is_spelt word (codes "STRING") then Some w.String
-    else (if is_spelt word (codes "UNIQUE") then Some w.Unique
-    else (if is_spelt word (codes "KEYS") then Some w.Keys
-    else None))))))))))))))
-
--- words of types
-abbrev pub type_word : List ℕ → Option Keyword
-type_word word =
-    if is_spelt word (codes "VARCHAR") then Some w.Varchar
-    else (if is_spelt word (codes "NUMERIC") then Some w.Numeric
-    else (if is_spelt word (codes "DECIMAL") then Some w.Decimal
-    else (if is_spelt word (codes "INTEGER") then Some w.Integer
-    else (if is_spelt word (codes "INT") then Some w.Int
-    else (if is_spelt word (codes "BIGINT") then Some w.Bigint
-    else (if is_spelt word (codes "BOOLEAN") then Some w.Boolean
-    else (if is_spelt word (codes "FLOAT") then Some w.Float
-    else (if is_spelt word (codes "REAL") then Some w.Real
-    else (if is_spelt word (codes "DOUBLE") then Some w.Double
-    else (if is_spelt word (codes "PRECISION") then Some w.Precision
-    else (if is_spelt word (codes "DATE") then Some w.Date
-    else (if is_spelt word (codes "TIME") then Some w.Time
-    else (if is_spelt word (codes "TIMESTAMP") then Some w.Timestamp
-    else None)))))))))))))
-
--- words of tables and plans
-abbrev pub table_word : List ℕ → Option Keyword
-table_word word =
-    if is_spelt word (codes "COLUMNS") then Some w.Columns
-    else (if is_spelt word (codes "FOR") then Some w.For
-    else (if is_spelt word (codes "ORDINALITY") then Some w.Ordinality
-    else (if is_spelt word (codes "EXISTS") then Some w.Exists
-    else (if is_spelt word (codes "PATH") then Some w.Path
-    else (if is_spelt word (codes "PLAN") then Some w.Plan
-    else (if is_spelt word (codes "OUTER") then Some w.Outer
-    else (if is_spelt word (codes "INNER") then Some w.Inner
-    else (if is_spelt word (codes "UNION") then Some w.Union
-    else (if is_spelt word (codes "CROSS") then Some w.Cross
-    else None)))))))))
-
--- the first that there is
-abbrev pub or_else : {A : Type 0} → Option A → A → A
-or_else None other = other
-or_else (Some x) other = x
+-- each keyword with the word that spells it
+abbrev pub keywords : List (List ℕ × Keyword)
+keywords =
+    -- reserved words, which are no names
+    (codes "SELECT", w.Select) ∷
+    (codes "FROM", w.From) ∷
+    (codes "AS", w.As) ∷
+    (codes "KEY", w.Key) ∷
+    (codes "TRUE", w.True) ∷
+    (codes "FALSE", w.False) ∷
+    (codes "NULL", w.Null) ∷
+    (codes "NESTED", w.Nested) ∷
+    (codes "JSON_EXISTS", w.JsonExists) ∷
+    (codes "JSON_VALUE", w.JsonValue) ∷
+    (codes "JSON_QUERY", w.JsonQuery) ∷
+    (codes "JSON_TABLE", w.JsonTable) ∷
+    (codes "JSON_OBJECT", w.JsonObject) ∷
+    (codes "JSON_ARRAY", w.JsonArray) ∷
+    (codes "JSON_OBJECTAGG", w.JsonObjectAgg) ∷
+    (codes "JSON_ARRAYAGG", w.JsonArrayAgg) ∷
+    -- words of the clauses of query functions
+    (codes "PASSING", w.Passing) ∷
+    (codes "RETURNING", w.Returning) ∷
+    (codes "ON", w.On) ∷
+    (codes "ERROR", w.Error) ∷
+    (codes "EMPTY", w.Empty) ∷
+    (codes "DEFAULT", w.Default) ∷
+    (codes "UNKNOWN", w.Unknown) ∷
+    (codes "ABSENT", w.Absent) ∷
+    (codes "WITH", w.With) ∷
+    (codes "WITHOUT", w.Without) ∷
+    (codes "CONDITIONAL", w.Conditional) ∷
+    (codes "UNCONDITIONAL", w.Unconditional) ∷
+    (codes "WRAPPER", w.Wrapper) ∷
+    (codes "KEEP", w.Keep) ∷
+    (codes "OMIT", w.Omit) ∷
+    (codes "QUOTES", w.Quotes) ∷
+    -- words of the forms of JSON
+    (codes "FORMAT", w.Format) ∷
+    (codes "JSON", w.Json) ∷
+    (codes "ENCODING", w.Encoding) ∷
+    (codes "UTF8", w.Utf8) ∷
+    (codes "UTF16", w.Utf16) ∷
+    (codes "UTF32", w.Utf32) ∷
+    (codes "IS", w.Is) ∷
+    (codes "NOT", w.Not) ∷
+    (codes "VALUE", w.Value) ∷
+    (codes "ARRAY", w.Array) ∷
+    (codes "OBJECT", w.Object) ∷
+    (codes "SCALAR", w.Scalar) ∷
+    (codes "STRING", w.String) ∷
+    (codes "UNIQUE", w.Unique) ∷
+    (codes "KEYS", w.Keys) ∷
+    -- words of types
+    (codes "VARCHAR", w.Varchar) ∷
+    (codes "NUMERIC", w.Numeric) ∷
+    (codes "DECIMAL", w.Decimal) ∷
+    (codes "INTEGER", w.Integer) ∷
+    (codes "INT", w.Int) ∷
+    (codes "BIGINT", w.Bigint) ∷
+    (codes "BOOLEAN", w.Boolean) ∷
+    (codes "FLOAT", w.Float) ∷
+    (codes "REAL", w.Real) ∷
+    (codes "DOUBLE", w.Double) ∷
+    (codes "PRECISION", w.Precision) ∷
+    (codes "DATE", w.Date) ∷
+    (codes "TIME", w.Time) ∷
+    (codes "TIMESTAMP", w.Timestamp) ∷
+    -- words of tables and plans
+    (codes "COLUMNS", w.Columns) ∷
+    (codes "FOR", w.For) ∷
+    (codes "ORDINALITY", w.Ordinality) ∷
+    (codes "EXISTS", w.Exists) ∷
+    (codes "PATH", w.Path) ∷
+    (codes "PLAN", w.Plan) ∷
+    (codes "OUTER", w.Outer) ∷
+    (codes "INNER", w.Inner) ∷
+    (codes "UNION", w.Union) ∷
+    (codes "CROSS", w.Cross) ∷
+    []
 
 unfoldable pub keyword_of : List ℕ → Keyword
-keyword_of word = or_else (reserved_word word) (or_else (call_word word) (or_else (json_word word) (or_else (type_word word) (or_else (table_word word) w.Other))))
+keyword_of word = first_like is_spelt w.Other keywords word
 
 -- no name
 abbrev pub is_reserved : Keyword → Bool

@@ -1,81 +1,9 @@
--- Whether two keywords are one, by their numbers.
-use Rattle.std.specs.Prelude.{ℕ, Bool, ◌==◌}
+-- Whether two keywords are one.
+use Rattle.std.specs.Prelude.{Bool}
+use denote.Enum.Bare.{sameb}
+use Rattle.sj_sql_token.specs.contracts.keyword.Keyword.{the_type}
 use Rattle.sj_sql_token.specs.declared.keyword.Keyword.{Keyword}
-use Rattle.sj_sql_token.specs.declared.keyword.Keyword.TheVariants as w
 
-abbrev pub number_of : Keyword → ℕ
-number_of w.Select = 0
-number_of w.From = 1
-number_of w.As = 2
-number_of w.Key = 3
-number_of w.True = 4
-number_of w.False = 5
-number_of w.Null = 6
-number_of w.Nested = 7
-number_of w.JsonExists = 8
-number_of w.JsonValue = 9
-number_of w.JsonQuery = 10
-number_of w.JsonTable = 11
-number_of w.JsonObject = 12
-number_of w.JsonArray = 13
-number_of w.JsonObjectAgg = 14
-number_of w.JsonArrayAgg = 15
-number_of w.Passing = 16
-number_of w.Returning = 17
-number_of w.On = 18
-number_of w.Error = 19
-number_of w.Empty = 20
-number_of w.Default = 21
-number_of w.Unknown = 22
-number_of w.Absent = 23
-number_of w.With = 24
-number_of w.Without = 25
-number_of w.Conditional = 26
-number_of w.Unconditional = 27
-number_of w.Wrapper = 28
-number_of w.Keep = 29
-number_of w.Omit = 30
-number_of w.Quotes = 31
-number_of w.Format = 32
-number_of w.Json = 33
-number_of w.Encoding = 34
-number_of w.Utf8 = 35
-number_of w.Utf16 = 36
-number_of w.Utf32 = 37
-number_of w.Is = 38
-number_of w.Not = 39
-number_of w.Value = 40
-number_of w.Array = 41
-number_of w.Object = 42
-number_of w.Scalar = 43
-number_of w.String = 44
-number_of w.Unique = 45
-number_of w.Keys = 46
-number_of w.Varchar = 47
-number_of w.Numeric = 48
-number_of w.Decimal = 49
-number_of w.Integer = 50
-number_of w.Int = 51
-number_of w.Bigint = 52
-number_of w.Boolean = 53
-number_of w.Float = 54
-number_of w.Real = 55
-number_of w.Double = 56
-number_of w.Precision = 57
-number_of w.Date = 58
-number_of w.Time = 59
-number_of w.Timestamp = 60
-number_of w.Columns = 61
-number_of w.For = 62
-number_of w.Ordinality = 63
-number_of w.Exists = 64
-number_of w.Path = 65
-number_of w.Plan = 66
-number_of w.Outer = 67
-number_of w.Inner = 68
-number_of w.Union = 69
-number_of w.Cross = 70
-number_of w.Other = 71
-
+-- they are the same variant
 abbrev pub same : Keyword → Keyword → Bool
-same v w = number_of v == number_of w
+same v w = sameb the_type v w

@@ -1,7 +1,7 @@
 //! The words of statements.
 
-/// The part that a word may play in a statement. Of these `Select` to `JsonArrayAgg` are reserved: such a word is no name.
-/// The others play their part only where a rule has them, and are names elsewhere.
+/// The part that a word may play in a statement. Of these `Select` to `JsonArrayAgg` are reserved: such a word is no
+/// name. The others play their part only where a rule has them, and are names elsewhere.
 #[derive(Clone, Copy, Debug, PartialEq, Eq)]
 pub enum Keyword {
     Select,
@@ -78,3 +78,83 @@ pub enum Keyword {
     /// A word that is no keyword.
     Other,
 }
+
+/// Each keyword with the word that spells it.
+pub(crate) const KEYWORDS: [(&[u8], Keyword); 71] = [
+    // Reserved words, which are no names
+    (b"SELECT", Keyword::Select),
+    (b"FROM", Keyword::From),
+    (b"AS", Keyword::As),
+    (b"KEY", Keyword::Key),
+    (b"TRUE", Keyword::True),
+    (b"FALSE", Keyword::False),
+    (b"NULL", Keyword::Null),
+    (b"NESTED", Keyword::Nested),
+    (b"JSON_EXISTS", Keyword::JsonExists),
+    (b"JSON_VALUE", Keyword::JsonValue),
+    (b"JSON_QUERY", Keyword::JsonQuery),
+    (b"JSON_TABLE", Keyword::JsonTable),
+    (b"JSON_OBJECT", Keyword::JsonObject),
+    (b"JSON_ARRAY", Keyword::JsonArray),
+    (b"JSON_OBJECTAGG", Keyword::JsonObjectAgg),
+    (b"JSON_ARRAYAGG", Keyword::JsonArrayAgg),
+    // Words of the clauses of query functions
+    (b"PASSING", Keyword::Passing),
+    (b"RETURNING", Keyword::Returning),
+    (b"ON", Keyword::On),
+    (b"ERROR", Keyword::Error),
+    (b"EMPTY", Keyword::Empty),
+    (b"DEFAULT", Keyword::Default),
+    (b"UNKNOWN", Keyword::Unknown),
+    (b"ABSENT", Keyword::Absent),
+    (b"WITH", Keyword::With),
+    (b"WITHOUT", Keyword::Without),
+    (b"CONDITIONAL", Keyword::Conditional),
+    (b"UNCONDITIONAL", Keyword::Unconditional),
+    (b"WRAPPER", Keyword::Wrapper),
+    (b"KEEP", Keyword::Keep),
+    (b"OMIT", Keyword::Omit),
+    (b"QUOTES", Keyword::Quotes),
+    // Words of the forms of JSON
+    (b"FORMAT", Keyword::Format),
+    (b"JSON", Keyword::Json),
+    (b"ENCODING", Keyword::Encoding),
+    (b"UTF8", Keyword::Utf8),
+    (b"UTF16", Keyword::Utf16),
+    (b"UTF32", Keyword::Utf32),
+    (b"IS", Keyword::Is),
+    (b"NOT", Keyword::Not),
+    (b"VALUE", Keyword::Value),
+    (b"ARRAY", Keyword::Array),
+    (b"OBJECT", Keyword::Object),
+    (b"SCALAR", Keyword::Scalar),
+    (b"STRING", Keyword::String),
+    (b"UNIQUE", Keyword::Unique),
+    (b"KEYS", Keyword::Keys),
+    // Words of types
+    (b"VARCHAR", Keyword::Varchar),
+    (b"NUMERIC", Keyword::Numeric),
+    (b"DECIMAL", Keyword::Decimal),
+    (b"INTEGER", Keyword::Integer),
+    (b"INT", Keyword::Int),
+    (b"BIGINT", Keyword::Bigint),
+    (b"BOOLEAN", Keyword::Boolean),
+    (b"FLOAT", Keyword::Float),
+    (b"REAL", Keyword::Real),
+    (b"DOUBLE", Keyword::Double),
+    (b"PRECISION", Keyword::Precision),
+    (b"DATE", Keyword::Date),
+    (b"TIME", Keyword::Time),
+    (b"TIMESTAMP", Keyword::Timestamp),
+    // Words of tables and plans
+    (b"COLUMNS", Keyword::Columns),
+    (b"FOR", Keyword::For),
+    (b"ORDINALITY", Keyword::Ordinality),
+    (b"EXISTS", Keyword::Exists),
+    (b"PATH", Keyword::Path),
+    (b"PLAN", Keyword::Plan),
+    (b"OUTER", Keyword::Outer),
+    (b"INNER", Keyword::Inner),
+    (b"UNION", Keyword::Union),
+    (b"CROSS", Keyword::Cross),
+];

@@ -120,7 +120,8 @@ fn piece<'a>(bytes: &'a [u8], first: u8, after: &'a [u8]) -> Piece<'a>
     }
 }
 
-/// What stands first in a file, or in what is left of one behind a token. It takes time linear in the bytes that it passes.
+/// What stands first in a file, or in what is left of one behind a token. It takes time linear in the bytes that it
+/// passes.
 pub fn next_token(file: &[u8]) -> Next<'_>
     ensures { IsNext file.now result }
 {

@@ -1,8 +1,8 @@
 //! The tokens of a statement file.
 //!
 //! A file breaks into tokens from left to right, each the longest that fits. `lexed` in `specs/Tokens.antt` says which
-//! tokens a file has, up to its end or to the first piece that is no token, and `next_token` gives exactly these, one by one. It copies
-//! nothing: words, strings and quoted names are lent by the file.
+//! tokens a file has, up to its end or to the first piece that is no token, and `next_token` gives exactly these, one
+//! by one. It copies nothing: words, strings and quoted names are lent by the file.
 //!
 //! It stands on the texts of sj_base and the numbers of sj_decimal.
 #![tactic(auto)]

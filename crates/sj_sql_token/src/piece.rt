@@ -19,7 +19,8 @@ pub enum Next<'a> {
     Token(Token<'a>, &'a [u8]),
     /// Nothing: the file ends.
     End,
-    /// A piece that is no token: a byte that begins none, a number that is not exact, a string or a quoted name that is not
-    /// closed or a quoted name that is empty, or bytes inside a string, a quoted name or a comment that are not UTF-8.
+    /// A piece that is no token: a byte that begins none, a number that is not exact, a string or a quoted name that is
+    /// not closed or a quoted name that is empty, or bytes inside a string, a quoted name or a comment that are not
+    /// UTF-8.
     Fault,
 }

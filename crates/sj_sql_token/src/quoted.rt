@@ -8,8 +8,8 @@ use sj_base::{Memory, Text, next_is};
 use std::alloc::Global;
 use std::marker::Model;
 
-/// What stands between quotation marks, lent by the file. It is seen as what it stands for: a mark inside, which the file has
-/// twice, is there once.
+/// What stands between quotation marks, lent by the file. It is seen as what it stands for: a mark inside, which the
+/// file has twice, is there once.
 #[derive(Drop)]
 pub struct Quoted<'a> {
     /// The quotation mark.

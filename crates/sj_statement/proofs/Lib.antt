@@ -12,5 +12,6 @@ pub mod Marks
 pub mod Firsts
 pub mod Faults
 pub mod Verdicts
+pub mod Answered
 pub mod Scripts
 mod Examples

@@ -142,6 +142,10 @@ pub data IsScript : ℕ → List Tokens → Ending → List (Statement Path) →
   accepted : {k : ℕ} {ts : Tokens} {tss : List Tokens} {e : Ending} {s : Statement Path} {ss : List (Statement Path)} {refusal : Option (ℕ × FileKind)} → Accepted ts s
       → IsScript (suc k) tss e ss refusal → IsScript k (ts ∷ tss) e (s ∷ ss) refusal
 
+-- how long a file may be, in bytes
+abbrev pub max_file : ℕ
+max_file = 1048576
+
 -- what a file is read as: its statements are numbered from 1
 abbrev pub IsFile : Lexed → List (Statement Path) → Option (ℕ × FileKind) → Type 0
 IsFile file = IsScript 1 (pieces file).statements (pieces file).ending

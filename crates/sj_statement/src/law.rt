@@ -65,8 +65,18 @@ pub fn one_answer()
     ensures { (ts : Tokens) (a b : Result (Statement Path) FileKind) → IsAnswer ts a → IsAnswer ts b → a ≡ b }
 {}
 
+/// Every statement has an answer.
+pub fn some_answer()
+    ensures { (ts : Tokens) → (a : Result (Statement Path) FileKind) × IsAnswer ts a }
+{}
+
 /// A file has at most one list of statements with at most one refusal behind it.
 pub fn one_file()
     ensures { (file : Lexed) (ss us : List (Statement Path)) (x y : Option (ℕ × FileKind))
         → IsFile file ss x → IsFile file us y → (ss ≡ us) × (x ≡ y) }
+{}
+
+/// Every file is read as some statements, and at most one refusal behind them.
+pub fn some_file()
+    ensures { (file : Lexed) → (ss : List (Statement Path)) × (refusal : Option (ℕ × FileKind)) × IsFile file ss refusal }
 {}

@@ -12,6 +12,6 @@ mod refusal;
 pub use clauses::{Encoding, InOut, IsJsonCall, Passed, Quotes, Siblings, TypeName, ValueDo};
 pub use law::{
     noted_answer, noted_faults, noted_reading, one_answer, one_file, one_reading, one_tree,
-    path_answers,
+    path_answers, some_answer, some_file,
 };
 pub use refusal::{BindKind, FileKind};

@@ -35,7 +35,7 @@ module _ (mode : Mode) (key : List ℕ) (found : Bool) (c : Named) (ms : List Na
       omega (arith, ap (λ (xs : List Named). length xs) others)
   fewer_by false d cs e f ih = omega (arith, ih (chosen key false d cs (c ∷ ms) e f))
 
-  fewer : (cs : List Named) → from_key key cs ≡ c ∷ ms → length ms < length cs
+  pub fewer : (cs : List Named) → from_key key cs ≡ c ∷ ms → length ms < length cs
   fewer [] e = cc
   fewer (d ∷ cs) e = fewer_by (is_key key d.0) d cs refl e (fewer cs)
 

@@ -114,9 +114,9 @@ range Strict a b cs = strict_range a b cs
 -- ---- where an accessor does not fit
 
 -- a structural error: no item in lax mode, and a fault in strict mode
-abbrev pub misfit : Mode → State → Trace
-misfit Lax s = stop
-misfit Strict s = fail s
+abbrev pub structural_error : Mode → State → Trace
+structural_error Lax s = stop
+structural_error Strict s = fail s
 
 -- in lax mode an item that is no array counts as an array of that one item
 abbrev pub range_of_one : Mode → ℤ → ℤ → ItemValue → Trace
@@ -134,8 +134,8 @@ unwrap_array Lax x = every_of x
 unwrap_array Strict x = only x
 
 abbrev pub on_array : ReachValue → Mode → ItemValue → Trace
-on_array (by_key key) mode x = misfit mode S2203C
-on_array all_members mode x = misfit mode S2203C
+on_array (by_key key) mode x = structural_error mode S2203C
+on_array all_members mode x = structural_error mode S2203C
 on_array all_elements mode x = every_of x
 on_array (by_range a b) mode x = range mode a b (children_of x)
 on_array unwrapped mode x = unwrap_array mode x
@@ -148,8 +148,8 @@ on_object (by_range a b) mode x = range_of_one mode a b x
 on_object unwrapped mode x = only x
 
 abbrev pub on_scalar : ReachValue → Mode → ItemValue → Trace
-on_scalar (by_key key) mode x = misfit mode S2203C
-on_scalar all_members mode x = misfit mode S2203C
+on_scalar (by_key key) mode x = structural_error mode S2203C
+on_scalar all_members mode x = structural_error mode S2203C
 on_scalar all_elements mode x = elements_of_one mode x
 on_scalar (by_range a b) mode x = range_of_one mode a b x
 on_scalar unwrapped mode x = only x

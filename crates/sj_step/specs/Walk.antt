@@ -9,8 +9,8 @@ use Rattle.sj_step.specs.declared.walk.Left.TheVariants as lefts
 use Rattle.sj_step.specs.declared.members.Members.{Members}
 use Rattle.sj_step.specs.declared.elements.Elements.{Elements}
 use Rattle.sj_step.specs.declared.parts.Parts.{Parts}
-use Rattle.sj_step.specs.declared.parts.Part.{Part}
-use Rattle.sj_step.specs.declared.parts.Part.TheVariants as parts
+use Rattle.sj_step.specs.declared.parts.PairPart.{PairPart}
+use Rattle.sj_step.specs.declared.parts.PairPart.TheVariants as parts
 
 abbrev pub members_left : Members → Trace
 members_left m = under_key 1 m.mode m.key.now m.found (map child_item m.left)
@@ -19,7 +19,7 @@ abbrev pub elements_left : Elements → Trace
 elements_left e = pay (length (take e.skip e.left)) (every 1 (map child_item (take e.count (drop e.skip e.left))))
 
 -- the children of a pair from a part on
-abbrev pub from_part : Part → List Child → List Child
+abbrev pub from_part : PairPart → List Child → List Child
 from_part parts.Name cs = cs
 from_part parts.Value cs = drop 1 cs
 from_part parts.Id cs = drop 2 cs

@@ -6,9 +6,9 @@ ghost use Rattle.sj_step.specs.Answers.{answer_value};
 use sj_base::State;
 use sj_item::{Item, Pull};
 
-/// What came next of a sequence. Its item, where there is one, was put into the place that was given: an item is large, and on its way
-/// through the parts of a path it is not copied from one to the next. Contracts see an answer and the item at the place
-/// as the `answer_value`, which is that of a [`Pull`].
+/// What came next of a sequence. Its item, where there is one, was put into the place that was given: an item is large,
+/// and on its way through the parts of a path it is not copied from one to the next. Contracts see an answer and the
+/// item at the place as the `answer_value`, which is that of a [`Pull`].
 #[derive(Clone, Copy)]
 pub enum Answer {
     /// One more item, which is at the place.

@@ -10,9 +10,9 @@ use crate::answer::Answer;
 use crate::whole::whole_number;
 use sj_item::{Item, Pair, PairValue};
 
-/// A member of a made pair, the next one of a walk.
+/// A member of a made pair, the next one of a walk over it.
 #[derive(Clone, Copy)]
-pub(crate) enum Part {
+pub enum PairPart {
     Name,
     Value,
     Id,
@@ -23,7 +23,7 @@ pub(crate) enum Part {
 #[derive(Clone, Copy)]
 pub(crate) struct Parts<'d> {
     pub(crate) pair: Pair<'d>,
-    pub(crate) part: Part,
+    pub(crate) part: PairPart,
 }
 
 /// The value of a pair, as an item.
@@ -50,22 +50,22 @@ impl<'d> Parts<'d> {
         ensures leaves { parts_left self.new ≡ rest (parts_left self.old) }
     {
         match self.part {
-            Part::Name => {
-                self.part = Part::Value;
+            PairPart::Name => {
+                self.part = PairPart::Value;
                 *place = Item::Text(self.pair.name);
                 Answer::Item
             }
-            Part::Value => {
-                self.part = Part::Id;
+            PairPart::Value => {
+                self.part = PairPart::Id;
                 *place = value_of(self.pair);
                 Answer::Item
             }
-            Part::Id => {
-                self.part = Part::Nothing;
+            PairPart::Id => {
+                self.part = PairPart::Nothing;
                 *place = id_of(self.pair);
                 Answer::Item
             }
-            Part::Nothing => Answer::End,
+            PairPart::Nothing => Answer::End,
         }
     }
 }

@@ -22,8 +22,8 @@ pub enum Reach<'d> {
     Unwrap,
 }
 
-/// The greatest index of an array. In lax mode it is 0 of an item that is no array; in strict mode exactly such an item has
-/// none. An empty array has the index -1. An index is below 2^64.
+/// The greatest index of an array. In lax mode it is 0 of an item that is no array; in strict mode exactly such an item
+/// has none. An empty array has the index -1. An index is below 2^64.
 #[tactic(auto, unfolding(crate::specs::Reach::last))]
 pub fn last_index(item: Item<'_>, mode: Mode) -> Option<i128>
     ensures is { result ≡ last mode (item_value item.entry) }

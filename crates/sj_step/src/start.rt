@@ -4,13 +4,13 @@ ghost use Rattle.std.specs.Int.{int_min, int_max};
 ghost use Rattle.sj_json.specs.Tree.{children};
 ghost use Rattle.sj_doc.specs.Listed.{node_id, node_tree};
 ghost use Rattle.sj_item.specs.Items.{item_value, pair_value, node as node_value, made_pair};
-ghost use Rattle.sj_step.specs.Reach.{reach_value, on_array, on_object, on_scalar, children_of, every_of, members_under, range as range_of, lax_range, strict_range, range_of_one, elements_of_one, misfit, between, unwrap_array};
+ghost use Rattle.sj_step.specs.Reach.{reach_value, on_array, on_object, on_scalar, children_of, every_of, members_under, range as range_of, lax_range, strict_range, range_of_one, elements_of_one, structural_error, between, unwrap_array};
 ghost use Rattle.sj_step.specs.Reach.{reach as reach_of};
 ghost use Rattle.sj_step.specs.Walk.{walk_left};
 
 use crate::elements::Elements;
 use crate::members::Members;
-use crate::parts::{Part, Parts, id_of, value_of};
+use crate::parts::{PairPart, Parts, id_of, value_of};
 use crate::reach::Reach;
 use crate::walk::{Left, Walk};
 use sj_base::State;
@@ -19,9 +19,9 @@ use sj_grammar::Mode;
 use sj_item::{Item, Pair};
 
 impl<'d> Walk<'d> {
-    /// The walk over what is reached of an item. In strict mode a fault is left where the item does not fit: 2203C where a member is
-    /// reached of what is no object, 22039 where an element is reached of what is no array, and 22033 where a range does not lie in
-    /// the array; 2203A comes behind the members where none has the key.
+    /// The walk over what is reached of an item. In strict mode a fault is left where the item does not fit: 2203C
+    /// where a member is reached of what is no object, 22039 where an element is reached of what is no array, and 22033
+    /// where a range does not lie in the array; 2203A comes behind the members where none has the key.
     #[tactic(auto, unfolding(crate::specs::Reach::reach))]
     pub fn start(reach: Reach<'d>, item: Item<'d>, mode: Mode) -> Walk<'d>
         ensures { walk_left result ≡ reach_of (reach_value reach.entry) mode (item_value item.entry) }
@@ -72,7 +72,7 @@ impl<'d> Walk<'d> {
         ensures { walk_left result ≡ on_array (reach_value reach.entry) mode (node_value (node_id node.entry) (node_tree node.entry)) }
     {
         match reach {
-            Reach::Member(_) | Reach::AllMembers => Walk::misfit(State::S2203C, mode),
+            Reach::Member(_) | Reach::AllMembers => Walk::structural_error(State::S2203C, mode),
             Reach::AllElements => Walk::every(node),
             Reach::Range(from, to) => Walk::range(from, to, node, mode),
             Reach::Unwrap => Walk::unwrap_array(node, mode),
@@ -104,15 +104,15 @@ impl<'d> Walk<'d> {
         ensures { walk_left result ≡ on_scalar (reach_value reach.entry) mode (item_value item.entry) }
     {
         match reach {
-            Reach::Member(_) | Reach::AllMembers => Walk::misfit(State::S2203C, mode),
+            Reach::Member(_) | Reach::AllMembers => Walk::structural_error(State::S2203C, mode),
             Reach::AllElements => Walk::elements_of_one(item, mode),
             Reach::Range(from, to) => Walk::range_of_one(from, to, item, mode),
             Reach::Unwrap => Walk::of_item(item),
         }
     }
 
-    fn misfit(state: State, mode: Mode) -> Walk<'d>
-        ensures { walk_left result ≡ misfit mode state }
+    fn structural_error(state: State, mode: Mode) -> Walk<'d>
+        ensures { walk_left result ≡ structural_error mode state }
     {
         match mode {
             Mode::Lax => Walk::ended(),
@@ -208,7 +208,7 @@ impl<'d> Walk<'d> {
         Walk {
             left: Left::Made(Parts {
                 pair,
-                part: Part::Name,
+                part: PairPart::Name,
             }),
         }
     }
@@ -226,7 +226,7 @@ impl<'d> Walk<'d> {
         if "id" == key {
             return Walk::of_item(id_of(pair));
         }
-        Walk::misfit(State::S2203A, mode)
+        Walk::structural_error(State::S2203A, mode)
     }
 }
 

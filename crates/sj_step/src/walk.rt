@@ -38,8 +38,8 @@ pub(crate) enum Left<'d> {
 }
 
 impl<'d> Walk<'d> {
-    /// The next item or, where none is left, the end. The counter rises by one for each child of a node that is handed out on the
-    /// way. An end and a fault come again, without a step.
+    /// The next item or, where none is left, the end. The counter rises by one for each child of a node that is handed
+    /// out on the way. An end and a fault come again, without a step.
     pub fn next<L: Ledger>(&mut self, steps: &mut Steps<L>) -> Pull<'d>
         ensures { Takes (walk_left self.old) (pull_value result) (walk_left self.new) steps.old steps.new }
     {

@@ -1,5 +1,10 @@
+-- for `key_text`, `pair_text`, `push_escaped` and `visit_text`, and for other lemmas and crates above
 pub mod Appends
+-- for `push_escaped`, and for crates above
 pub mod PlainRuns
+-- for the lemmas of `Printings`
 pub mod Rendered
+-- for `node_text`
 pub mod Printings
+-- for `pair_text`
 pub mod PairTexts

@@ -8,6 +8,7 @@ use Rattle.std.specs.Fmt.{sign_text}
 use Rattle.std.specs.Str.Parse.{AllDigits, IsNumeral as IsDigits}
 use Rattle.sj_base.specs.ByteClasses.{is_blank, is_word_byte, is_plain, letter_char}
 use Rattle.sj_base.specs.Options.{◌>>=◌}
+use Rattle.sj_base.proofs.ByteClasses.{word_ascii}
 use Rattle.sj_decimal.specs.Number.{NumberParts, IsFraction, IsExponent, IsNumberOf}
 use Rattle.sj_decimal.proofs.Digits.{digit_byte}
 use Rattle.sj_token.specs.declared.token.Token.{Token}
@@ -80,13 +81,6 @@ unit_ascii a b c d n h =
     let r = bound (hex_digit c) _ n q.2 in
     let t = bound (hex_digit d) _ n r.2 in
     hex_ascii d t.0 t.1
-
-nat_gt : (a b : ℕ) → b < a → nat_le a b ≡ false
-nat_gt a b h = go (nat_le a b) refl
-  where
-    go : (x : Bool) → nat_le a b ≡ x → nat_le a b ≡ false
-    go true q = absurd (omega (arith, leb-true a b q))
-    go false q = q
 
 short_ascii : (e c : ℕ) → letter_char e ≡ Some c → e < 128
 short_ascii e c h = go (nat_le 128 e) refl
@@ -224,34 +218,6 @@ unfolding inside_from
 string_no_turn n at rest value so_far over e = let none : n - at ≡ 0 = omega arith in e ∙ ap (λ m. inside_from m rest >>= behind value so_far) none
 
 -- ---- words
-
-word_ascii : (b : ℕ) → is_word_byte b ≡ true → b < 128
-word_ascii b h = go (nat_le 128 b) refl
-  where
-    apart : false ≡ true → ⊥
-    apart q = cc
-
-    above : 128 ≤ b → is_word_byte b ≡ false
-    above l =
-        ap (λ x. (nat_le 65 b && x) || (nat_le 97 b && nat_le b 122) || (b == 95) || (nat_le 48 b && nat_le b 57)) (nat_gt b 90 (omega arith))
-        ∙ ap (λ x. (nat_le 65 b && false) || (nat_le 97 b && x) || (b == 95) || (nat_le 48 b && nat_le b 57)) (nat_gt b 122 (omega arith))
-        ∙ ap (λ x. (nat_le 65 b && false) || (nat_le 97 b && false) || x || (nat_le 48 b && nat_le b 57)) (ne_eqb b 95 (λ q. absurd (omega arith)))
-        ∙ ap (λ x. (nat_le 65 b && false) || (nat_le 97 b && false) || false || (nat_le 48 b && x)) (nat_gt b 57 (omega arith))
-        ∙ none (nat_le 65 b) (nat_le 97 b) (nat_le 48 b)
-      where
-        none : (x y z : Bool) → ((x && false) || (y && false) || false || (z && false)) ≡ false
-        none true true true = refl
-        none true true false = refl
-        none true false true = refl
-        none true false false = refl
-        none false true true = refl
-        none false true false = refl
-        none false false true = refl
-        none false false false = refl
-
-    go : (x : Bool) → nat_le 128 b ≡ x → b < 128
-    go true q = absurd (apart (sym (above (leb-true 128 b q)) ∙ h))
-    go false q = omega (arith, leb-false 128 b q)
 
 -- the end of a word is a place where a text may be cut
 pub word_boundary : (bs : List ℕ) (n : ℕ) → n ≡ run is_word_byte bs → IsUtf8 bs → IsCharBoundary bs n

@@ -2,8 +2,8 @@
 //!
 //! It stands on `sj_item` for items, on `sj_decimal` for numbers, and on `sj_base` for texts, bytes and states.
 //!
-//! Contracts see an [`SqlValue`] as it is written, with its text and its bytes as lists: it has no pointers, so two values are
-//! compared by `≡`. A [`Plan`] has pointers, and contracts see it as its `plan_tree`.
+//! Contracts see an [`SqlValue`] as it is written, with its text and its bytes as lists: it has no pointers, so two
+//! values are compared by `≡`. A [`Plan`] has pointers, and contracts see it as its `plan_tree`.
 #![tactic(auto)]
 
 mod casts;

@@ -5,8 +5,8 @@ use sj_decimal::Decimal;
 
 /// An SQL value (ISO/IEC 9075-2, data types).
 ///
-/// Contracts see it with its text and its bytes as lists, and two values are the same where these are equal. A number carries how
-/// many decimals it is printed with, so 9.5 as NUMERIC(10, 2) and 9.5 as NUMERIC are not the same value.
+/// Contracts see it with its text and its bytes as lists, and two values are the same where these are equal. A number
+/// carries how many decimals it is printed with, so 9.5 as NUMERIC(10, 2) and 9.5 as NUMERIC are not the same value.
 #[derive(Debug, Drop)]
 pub enum SqlValue {
     /// The null value.

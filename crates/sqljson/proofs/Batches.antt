@@ -13,8 +13,8 @@ use Rattle.sj_json.specs.Keys.{HasUniqueKeys}
 use Rattle.sj_bind.specs.Bound.{Bound}
 use Rattle.sj_bind.specs.View.{bound_of}
 use Rattle.sj_bind.specs.declared.bound.Bound.{Bound as BoundHeld}
-use Rattle.sj_select.specs.Keys.{has_unique_keys}
-use Rattle.sj_select.proofs.Distinct.{unique_from, unique_to}
+use Rattle.sj_json.specs.UniqueKeys.{has_unique_keys}
+use Rattle.sj_json.proofs.Distinct.{unique_from, unique_to}
 use Rattle.sj_select.specs.Line.{Line}
 use Rattle.sj_select.specs.Seen.{Seen}
 use Rattle.sj_page.specs.Pages.{nothing, followed_by}

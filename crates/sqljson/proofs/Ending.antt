@@ -17,7 +17,8 @@ use Rattle.sqljson.specs.Job.{Job, job}
 use Rattle.sqljson.specs.Input.{InputSide}
 use Rattle.sqljson.specs.Output.{output, whole_output, allowed}
 use Rattle.sqljson.specs.Stream.{IsPrefix, IsWhy, Streamed, IsFrontOf, WroteLeast, WroteWhole, StepsWithin, max_piece, max_input, TookMost}
-use Rattle.sqljson.specs.File.{ShelfSide, Form, running, checking, generating, name_in, file_named, file_run, file_shown, IsFile, IsTooLong, max_file}
+use Rattle.sj_statement.specs.Answers.{max_file}
+use Rattle.sqljson.specs.File.{ShelfSide, Form, running, checking, generating, name_in, file_named, file_run, file_shown, IsFile, IsTooLong}
 use Rattle.sqljson.specs.Verdict.{Accepts, Refuses}
 use Rattle.sqljson.specs.Summary.{summary_text}
 use Rattle.sqljson.specs.Ran.{Moment, Accepted, RefusedFile, IsUnaccepted, accepted_text, Tells, RanGenerated, Does, Idle, Did, Ran, IsBefore}

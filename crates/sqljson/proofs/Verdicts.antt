@@ -8,7 +8,8 @@ use Rattle.sj_statement.specs.declared.refusal.BindKind.{BindKind}
 use Rattle.sj_statement.specs.declared.refusal.FileKind.{FileKind}
 use Rattle.sj_statement.specs.declared.refusal.FileKind.TheVariants.{Bind}
 use Rattle.sj_statement.specs.Tree.{Statement}
-use Rattle.sj_statement.specs.Answers.{closed}
+use Rattle.sj_statement.specs.Answers.{closed, pieces}
+use Rattle.sj_statement.proofs.Answered.{some_script}
 use Rattle.sj_statement.proofs.Scripts.{one_file}
 use Rattle.sj_sql.specs.declared.answer.Refused.{Refused as RefusedTree}
 use Rattle.sj_sql.specs.declared.answer.Refused.TheVariants as no
@@ -31,7 +32,7 @@ use Rattle.sqljson.specs.declared.job.FileRefusal.{FileRefusal}
 use Rattle.sqljson.specs.declared.job.FileRefusal.TheVariants.{Refused, Memory}
 use Rattle.sqljson.specs.declared.verdict.NextBound.{NextBound}
 use Rattle.sqljson.specs.declared.verdict.NextBound.TheVariants as next
-use Rattle.sqljson.specs.Refusals.{refusal_of, AcceptsSoMany, IsReadable, IsRefused, IsVerdictFrom, IsFirstBound, IsNextBound}
+use Rattle.sqljson.specs.Refusals.{refusal_of, AcceptsSoMany, IsRefused, IsVerdictFrom, IsFirstBound, IsNextBound}
 
 -- ---- a file has one verdict
 
@@ -135,10 +136,9 @@ refused_counted file rest count refusal t d = one_refused file rest t.taken (cou
 pub no_tree : (k : ℕ) (rest : List ℕ) (kind : FileKind) → RefusesFirst rest kind → IsVerdictFrom k rest (Err (k, kind))
 no_tree k rest kind h = record { statements = []; refusal = Some (k, kind); read = h k; is = refl }
 
-pub rule_broken : (k : ℕ) (rest behind : List ℕ) (s : Statement Path) (why : BindKind) → IsFirst rest s behind → bind_fault s ≡ Some why → IsReadable behind
-    → IsVerdictFrom k rest (Err (k, Bind why))
-rule_broken k rest behind s why h broken others =
-    let o = others (suc k) in
+pub rule_broken : (k : ℕ) (rest behind : List ℕ) (s : Statement Path) (why : BindKind) → IsFirst rest s behind → bind_fault s ≡ Some why → IsVerdictFrom k rest (Err (k, Bind why))
+rule_broken k rest behind s why h broken =
+    let o = some_script (suc k) (pieces (lexed behind)).statements (pieces (lexed behind)).ending in
     record {
       statements = s ∷ o.0;
       refusal = o.1;
@@ -173,18 +173,3 @@ bound_so k rest x b behind e h = subst (λ (y : NextBound). IsNextBound k rest (
 
 pub end_so : (k : ℕ) (rest : List ℕ) (x : NextBound) → x ≡ next.End → IsNextBound k rest (Ok x) → EndsBy rest closed
 end_so k rest x e h = subst (λ (y : NextBound). IsNextBound k rest (Ok y)) e h
-
--- ---- what is left can be read
-
-pub end_readable : (rest : List ℕ) (x : NextStatement) → x ≡ tree.End → IsNext rest (Ok x) → IsReadable rest
-end_readable rest x e h =
-    let ends : EndsBy rest closed = subst (λ (y : NextStatement). IsNext rest (Ok y)) e h in
-    λ k. ([], None, none_read k rest ends)
-
-pub refused_readable : (rest : List ℕ) (x : RefusedTree) (kind : FileKind) → x ≡ no.For kind → IsNext rest (Err x) → IsReadable rest
-refused_readable rest x kind e h =
-    let refuses : RefusesFirst rest kind = subst (λ (y : RefusedTree). IsNext rest (Err y)) e h in
-    λ k. ([], Some (k, kind), refuses k)
-
-pub one_more_readable : (rest behind : List ℕ) (s : Statement Path) → IsFirst rest s behind → IsReadable behind → IsReadable rest
-one_more_readable rest behind s h others = λ k. let o = others (suc k) in (s ∷ o.0, o.1, first_read k rest behind s o.0 o.1 h o.2)

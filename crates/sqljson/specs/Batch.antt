@@ -7,7 +7,7 @@ use Rattle.sj_json.specs.Tree.{Tree}
 use Rattle.sj_json.specs.Document.{document}
 use Rattle.sj_bind.specs.Bound.{Bound}
 use Rattle.sj_bind.specs.View.{bound_of}
-use Rattle.sj_select.specs.Keys.{has_unique_keys}
+use Rattle.sj_json.specs.UniqueKeys.{has_unique_keys}
 use Rattle.sj_select.specs.Line.{Line, not_json, repeated, json}
 use Rattle.sj_select.specs.Seen.{Seen}
 use Rattle.sqljson.specs.declared.batch.ReadLine.{ReadLine}

@@ -11,8 +11,8 @@ use sj_read::{ReadRefusal, read_over};
 use sj_rows::{Line, Lines, is_blank};
 use std::alloc::Global;
 
-/// How many lines are read before their rows are made: the cursors of the statements, which are made for the documents that
-/// are there, serve all of them.
+/// How many lines are read before their rows are made: the cursors of the statements, which are made for the documents
+/// that are there, serve all of them.
 const LINES_TOGETHER: usize = 64;
 
 /// A line that is not blank, with its number.
@@ -94,8 +94,8 @@ impl Batch {
         Ok(Behind::Perhaps)
     }
 
-    /// Sets the lines aside. The document of the first is the first to be taken again, so that the memory of a long line,
-    /// which stands first in its piece, is taken once.
+    /// Sets the lines aside. The document of the first is the first to be taken again, so that the memory of a long
+    /// line, which stands first in its piece, is taken once.
     fn clear(&mut self) -> Result<(), Memory>
         ensures { OnOk result (self.new.lines.items ≡ []) }
     {

@@ -8,7 +8,8 @@ use sj_sql::FileKind;
 pub(crate) enum Keys {
     /// An object may have two equal keys.
     Any,
-    /// `--unique-keys`: a line in which some object has two equal keys gives functions the error 22037 in place of its root.
+    /// `--unique-keys`: a line in which some object has two equal keys gives functions the error 22037 in place of its
+    /// root.
     Unique,
 }
 

@@ -1,5 +1,5 @@
-// Runs over the objects in memory: calls that fail, sinks without room, the cuts of an input, and how many steps and reads
-// a run takes. What statements give for lines is in the tables of `checks/rows/`.
+// Runs over the objects in memory: calls that fail, sinks without room, the cuts of an input, and how many steps and
+// reads a run takes. What statements give for lines is in the tables of `checks/rows/`.
 mod generated;
 mod steps;
 
@@ -143,8 +143,8 @@ const ROOT: &[u8] = b"SELECT JSON_EXISTS(doc, 'lax $');";
 
 const THREE: &[u8] = b"{\"a\":{\"b\":null}}\n{\"a\":{\"b\":null}}\n{\"a\":{\"b\":null}}\n";
 
-/// Runs over three lines of 17 bytes, with what fails or is short: the words, the calls of the shelf and of the input that
-/// fail, how many bytes a read gives at most, and the room for what is written and for the message.
+/// Runs over three lines of 17 bytes, with what fails or is short: the words, the calls of the shelf and of the input
+/// that fail, how many bytes a read gives at most, and the room for what is written and for the message.
 const FAULTS: &str = r#"run f;-;-;0;99;99 => Done "1\t1\tR\tTRUE\n2\t1\tR\tTRUE\n3\t1\tR\tTRUE\n" ""
 run f;0;-;0;99;99 => ShelfFault "" "statement file cannot be read\n"
 run f;1;-;0;99;99 => ShelfFault "" "statement file cannot be read\n"

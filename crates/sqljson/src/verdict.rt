@@ -1,13 +1,12 @@
 // What is made of a file of statements, which are read and bound one after the other.
-ghost use Rattle.std.specs.Prelude.{◌≡◌, ◌<◌, ◌≤◌, ◌^◌, length, map, IfOk, IfErr};
+ghost use Rattle.std.specs.Prelude.{◌≡◌, ◌<◌, ◌≤◌, length, map, IfOk, IfErr};
 ghost use Rattle.sj_bind.specs.View.{bound_of};
-ghost use Rattle.sqljson.specs.File.{max_file};
-ghost use Rattle.sqljson.specs.Job.{AreSound};
+ghost use Rattle.sj_statement.specs.Answers.{max_file};
+ghost use Rattle.sqljson.specs.Job.{AreSound, statement_limit};
 ghost use Rattle.sqljson.specs.Verdict.{Accepts};
-ghost use Rattle.sqljson.specs.Refusals.{AcceptsSoMany, IsNextBound, IsReadable, IsRefused, refusal_of};
+ghost use Rattle.sqljson.specs.Refusals.{AcceptsSoMany, IsNextBound, IsRefused, refusal_of};
 
 use crate::job::FileRefusal;
-use sj_base::Memory;
 use sj_bind::{BindRefusal, Bound, bind};
 use sj_sql::{FileKind, NextStatement, Refused, next_statement};
 use std::alloc::Global;
@@ -31,36 +30,16 @@ fn refusal_of(number: u32, refused: Refused) -> FileRefusal
     }
 }
 
-/// Reads what is left of a file, up to a statement that has no tree, and keeps nothing of it.
-fn read_on(alloc: Global, rest: &[u8]) -> Result<(), Memory>
-    ensures { IfOk result (λ _. IsReadable rest.now) }
-{
-    let mut left = rest;
-    loop {
-        match next_statement(alloc, left) {
-            Ok(NextStatement::Statement(statement, behind)) => {
-                drop(statement);
-                left = behind;
-            }
-            Ok(NextStatement::End) => return Ok(()),
-            Err(Refused::For(_)) => return Ok(()),
-            Err(Refused::Memory) => return Err(Memory),
-        }
-    }
-}
-
-/// The first statement of what is left of a file as it is bound, where it has this number. Where binding refuses it, what is
-/// behind it is read too, since the verdict on a file speaks of all statements that have trees.
+/// The first statement of what is left of a file as it is bound, where it has this number.
 fn next_bound<'a>(alloc: Global, rest: &'a [u8], number: u32) -> Result<NextBound<'a>, FileRefusal>
     ensures { IsNextBound number rest.now result }
 {
     match next_statement(alloc, rest) {
         Ok(NextStatement::Statement(statement, behind)) => match bind(alloc, statement) {
             Ok(bound) => Ok(NextBound::Statement(bound, behind)),
-            Err(BindRefusal::Kind(why)) => match read_on(alloc, behind) {
-                Ok(()) => Err(FileRefusal::Refused(number, FileKind::Bind(why))),
-                Err(Memory) => Err(FileRefusal::Memory),
-            },
+            Err(BindRefusal::Kind(why)) => {
+                Err(FileRefusal::Refused(number, FileKind::Bind(why)))
+            }
             Err(BindRefusal::Memory) => Err(FileRefusal::Memory),
         },
         Ok(NextStatement::End) => Ok(NextBound::End),
@@ -72,7 +51,7 @@ fn next_bound<'a>(alloc: Global, rest: &'a [u8], number: u32) -> Result<NextBoun
 pub(crate) fn statements_of(alloc: Global, file: &[u8]) -> Result<Vec<Bound>, FileRefusal>
     requires { length file.now ≤ max_file }
     ensures accepted { IfOk result (λ statements. Accepts file.now (map bound_of statements.items)) }
-    ensures few { IfOk result (λ statements. length statements.items < 2 ^ 32) }
+    ensures few { IfOk result (λ statements. length statements.items < statement_limit) }
     ensures sound { IfOk result (λ statements. AreSound statements.items) }
     ensures refused { IfErr result (λ refusal. IsRefused file.now refusal) }
 {

@@ -81,7 +81,7 @@ fn bound_regular(alloc: Global, column: RegularColumn, path: u32) -> Result<Boun
     ensures { IfOk result (λ c. bound.column_of c ≡ column_under path (t.Regular (regular_of column))) }
 {
     let clauses = value_clauses(alloc, column.ty, &column.on_empty, &column.on_error)?;
-    Ok(BoundColumn::Regular(path, column.path, Box::new(alloc, clauses)?))
+    Ok(BoundColumn::Regular(path, column.path, clauses))
 }
 
 fn bound_formatted(column: FormattedColumn, path: u32) -> BoundColumn

@@ -6,7 +6,7 @@ ghost use Rattle.sj_bind.specs.Tables as spec;
 ghost use Rattle.sj_bind.specs.Tables.{names_in, names_below, path_names_in, path_names_below, has_twice};
 ghost use Rattle.sj_bind.specs.Names.{names_of};
 
-use indexmap::IndexSet;
+use crate::name_set::NameSet;
 use sj_base::Memory;
 use sj_sql::{Column, Columns, Table};
 use std::alloc::Global;
@@ -15,16 +15,16 @@ use std::alloc::Global;
 pub fn has_column_twice(alloc: Global, table: &Table) -> Result<bool, Memory>
     ensures { IfOk result (λ b. b ≡ spec.has_column_twice (table_of table.now)) }
 {
-    let mut seen = IndexSet::new(alloc);
+    let mut seen = NameSet::new(alloc);
     note_columns(&table.columns, &mut seen)
 }
 
 /// The names of the columns, each at its number.
-pub fn column_index<'a>(alloc: Global, table: &'a Table) -> Result<IndexSet<&'a str>, Memory>
+pub fn column_index<'a>(alloc: Global, table: &'a Table) -> Result<NameSet<'a>, Memory>
     requires { spec.has_column_twice (table_of table.now) ≡ false }
     ensures { IfOk result (λ names. names_of names ≡ spec.column_names (table_of table.now)) }
 {
-    let mut names = IndexSet::new(alloc);
+    let mut names = NameSet::new(alloc);
     note_columns(&table.columns, &mut names)?;
     Ok(names)
 }
@@ -32,7 +32,7 @@ pub fn column_index<'a>(alloc: Global, table: &'a Table) -> Result<IndexSet<&'a 
 /// Notes the names of columns, up to the first that was seen before. Whether there was one.
 #[cycle(note_columns)]
 #[tactic(auto, using(crate::proofs::NameLists::twice_within))]
-fn note_columns<'a>(columns: &'a Columns, seen: &mut IndexSet<&'a str>) -> Result<bool, Memory>
+fn note_columns<'a>(columns: &'a Columns, seen: &mut NameSet<'a>) -> Result<bool, Memory>
     requires { has_twice (names_of seen.old) ≡ false }
     ensures twice { IfOk result (λ b. b ≡ has_twice (names_of seen.old ++ names_below (columns_of columns.now))) }
     ensures noted { IfOk result (λ b. b ≡ false → names_of seen.new ≡ (names_of seen.old ++ names_below (columns_of columns.now))) }
@@ -53,7 +53,7 @@ fn note_columns<'a>(columns: &'a Columns, seen: &mut IndexSet<&'a str>) -> Resul
 
 /// The same for one column.
 #[cycle(note_columns)]
-fn note_column<'a>(column: &'a Column, seen: &mut IndexSet<&'a str>) -> Result<bool, Memory>
+fn note_column<'a>(column: &'a Column, seen: &mut NameSet<'a>) -> Result<bool, Memory>
     requires { has_twice (names_of seen.old) ≡ false }
     ensures twice { IfOk result (λ b. b ≡ has_twice (names_of seen.old ++ names_in (column_of column.now))) }
     ensures noted { IfOk result (λ b. b ≡ false → names_of seen.new ≡ (names_of seen.old ++ names_in (column_of column.now))) }
@@ -68,19 +68,19 @@ fn note_column<'a>(column: &'a Column, seen: &mut IndexSet<&'a str>) -> Result<b
 }
 
 /// Notes one name. Whether it was seen before.
-pub fn note<'a>(name: &'a str, seen: &mut IndexSet<&'a str>) -> Result<bool, Memory>
+pub fn note<'a>(name: &'a str, seen: &mut NameSet<'a>) -> Result<bool, Memory>
     requires { has_twice (names_of seen.old) ≡ false }
     ensures twice { IfOk result (λ b. b ≡ has_twice (names_of seen.old ++ name.now ∷ [])) }
     ensures noted { IfOk result (λ b. b ≡ false → names_of seen.new ≡ (names_of seen.old ++ name.now ∷ [])) }
 {
-    Ok(!seen.insert(name)?)
+    Ok(!seen.names.insert(name)?)
 }
 
 /// Whether two paths have equal names. The names are kept in a set, which takes memory.
 pub fn has_path_name_twice(alloc: Global, table: &Table) -> Result<bool, Memory>
     ensures { IfOk result (λ b. b ≡ spec.has_path_name_twice (table_of table.now)) }
 {
-    let mut seen = IndexSet::new(alloc);
+    let mut seen = NameSet::new(alloc);
     if let Some(name) = &table.name {
         let _ = note(name.as_str(), &mut seen)?;
     }
@@ -90,7 +90,7 @@ pub fn has_path_name_twice(alloc: Global, table: &Table) -> Result<bool, Memory>
 /// Notes the names of the nested paths of columns, up to the first that was seen before. Whether there was one.
 #[cycle(note_paths)]
 #[tactic(auto, using(crate::proofs::NameLists::twice_within))]
-fn note_paths<'a>(columns: &'a Columns, seen: &mut IndexSet<&'a str>) -> Result<bool, Memory>
+fn note_paths<'a>(columns: &'a Columns, seen: &mut NameSet<'a>) -> Result<bool, Memory>
     requires { has_twice (names_of seen.old) ≡ false }
     ensures twice { IfOk result (λ b. b ≡ has_twice (names_of seen.old ++ path_names_below (columns_of columns.now))) }
     ensures noted { IfOk result (λ b. b ≡ false → names_of seen.new ≡ names_of seen.old ++ path_names_below (columns_of columns.now)) }
@@ -112,7 +112,7 @@ fn note_paths<'a>(columns: &'a Columns, seen: &mut IndexSet<&'a str>) -> Result<
 /// The same for one column, which may be a nested path.
 #[cycle(note_paths)]
 #[tactic(auto, using(crate::proofs::NameLists::twice_from))]
-fn note_nested<'a>(column: &'a Column, seen: &mut IndexSet<&'a str>) -> Result<bool, Memory>
+fn note_nested<'a>(column: &'a Column, seen: &mut NameSet<'a>) -> Result<bool, Memory>
     requires { has_twice (names_of seen.old) ≡ false }
     ensures twice { IfOk result (λ b. b ≡ has_twice (names_of seen.old ++ path_names_in (column_of column.now))) }
     ensures noted { IfOk result (λ b. b ≡ false → names_of seen.new ≡ names_of seen.old ++ path_names_in (column_of column.now)) }

@@ -1,6 +1,6 @@
-// Lines, each with statements and how many steps these take for it, or how many at most. What they give is in the tables of
-// `checks/rows/`. A step is a member, element or value that is looked at. A function of one item asks for a second one and
-// no further, and a table is asked for its rows alone.
+// Lines, each with statements and how many steps these take for it, or how many at most. What they give is in the
+// tables of `checks/rows/`. A step is a member, element or value that is looked at. A function of one item asks for a
+// second one and no further, and a table is asked for its rows alone.
 
 pub(super) const STEPS: &str = r##"{"a":{"b":null}}
 SELECT JSON_EXISTS(doc, 'lax $.a.b' FALSE ON ERROR); => = 2

@@ -6,9 +6,9 @@ use Rattle.sj_bind.proofs.row_values.number_of.Goals as goal
 
 pub unreachable-requires : goal.unreachable-requires
 unreachable-requires c =
-    let known = any_mapped (bytes_eq c.args.name.now) (λ (k : Bor (List ℕ)). k.now) c.args.columns.now.keys in
+    let known = any_mapped (bytes_eq c.args.name.now) (λ (k : Bor (List ℕ)). k.now) c.args.columns.now.names.keys in
     let missing = c.in-None.ensures.found in
     absurd cc
 
 pub returns : goal.returns
-returns c = place_of (bytes_eq c.args.name.now) c.args.columns.now.keys _ c.in-Some.ensures.index
+returns c = place_of (bytes_eq c.args.name.now) c.args.columns.now.names.keys _ c.in-Some.ensures.index

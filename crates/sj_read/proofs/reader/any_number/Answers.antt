@@ -1,53 +1,65 @@
-use Rattle.std.proofs.Common.{◌≡◌, ℕ, ◌+◌, ◌-◌, List, take, drop, ◌∙◌, sym, ap, subst}
+use Rattle.std.proofs.Common.{◌≡◌, ℕ, ◌+◌, length, List, drop, ◌∙◌, sym, ap, subst, arith}
 use Rattle.std.specs.List.{prefix_len}
-use Rattle.sj_decimal.specs.Number.{is_number_byte, IsNumber, SpellsExact, SpellsWide}
-use Rattle.sj_json.specs.Tree.{number, exact, wide}
+use Rattle.sj_decimal.specs.Number.{is_number_byte, IsNumber, SpellsExact}
+use Rattle.sj_decimal.specs.Shorts.{between}
+use Rattle.sj_json.specs.Tree.{number, exact}
 use Rattle.sj_json.specs.Building.{with_value}
 use Rattle.sj_json.specs.Machine.{value}
-use Rattle.sj_json.proofs.Numbers.{number_complete, number_none}
+use Rattle.sj_json.proofs.Numbers.{number_none, number_complete}
+use Rattle.sj_doc.specs.Nodes.{IsNumeral, spelled}
+use Rattle.sj_doc.proofs.Numerals.{number_spelled}
 use Rattle.sj_read.specs.declared.reader.TheConstants.{MAX_DEPTH}
 use Rattle.sj_read.specs.declared.reader.Mode.TheVariants as modes
+use Rattle.sj_read.specs.Turns.{Went}
 use Rattle.sj_read.proofs.Steps.{after_call}
-use Rattle.sj_read.proofs.Numerals.{number_value, no_number_value, end_boundary}
+use Rattle.sj_read.proofs.Numerals.{number_value, no_number_value, within}
 use Rattle.sj_read.proofs.reader.any_number.Goals as goal
-use Rattle.sj_read.proofs.reader.any_number.Goals.{After-number_end-end, After-range-spelling}
+use Rattle.sj_read.proofs.reader.any_number.Goals.{After-number_end-end}
 
 end_is : (c : After-number_end-end) → c.number_end-end.result ≡ c.args.at + 1 + prefix_len is_number_byte (drop (c.args.at + 1) c.args.text.now)
 end_is c = c.number_end-end.ensures.value ∙ ap (λ (x : List ℕ). c.args.at + 1 + prefix_len is_number_byte (drop (c.args.at + 1) x)) c.as_bytes.ensures.value
 
-pub range-spelling-requires-clause-end_boundary : goal.range-spelling-requires-clause-end_boundary
-range-spelling-requires-clause-end_boundary c =
-    end_boundary MAX_DEPTH c.args.builder.now c.args.text.now c.args.at c.args.c c.requires.within.0 c.requires.here c.requires.begins c.number_end-end.result (end_is (goal.at.range-spelling-requires-clause-end_boundary c).After-number_end-end) c.utf8.text
+pub number_at-requires-clause-wanted : goal.number_at-requires-clause-wanted
+number_at-requires-clause-wanted c = c.requires.ready
+
+pub number_at-requires-clause-within : goal.number_at-requires-clause-within
+number_at-requires-clause-within c =
+    let e = end_is (goal.at.number_at-requires-clause-within c).After-number_end-end in
+    (omega (arith, e), omega (arith, ap length c.requires.line, within MAX_DEPTH c.args.builder.now.0 c.args.text.now c.args.at c.args.c c.requires.within.0 c.requires.here c.requires.begins c.number_end-end.result e))
+
+pub number_at-requires-clause-number : goal.number_at-requires-clause-number
+number_at-requires-clause-number c =
+    subst (λ (t : List ℕ). IsNumeral (between t c.args.at c.number_end-end.result)) (c.as_bytes-2.ensures.value ∙ sym c.requires.line) c.in-Kept.ensures
 
 pub exact-requires-clause-wanted : goal.exact-requires-clause-wanted
 exact-requires-clause-wanted c = c.requires.ready
 
-pub wide-requires-clause-wanted : goal.wide-requires-clause-wanted
-wide-requires-clause-wanted c = c.requires.ready
-
-pub returns-in-Exact : goal.returns-in-Exact
-returns-in-Exact c =
-    let s = c.args.builder.now in
+pub returns-in-NotNumber-clause-turns : goal.returns-in-NotNumber-clause-turns
+returns-in-NotNumber-clause-turns c =
+    let s = c.args.builder.now.0 in
     let t = c.args.text.now in
     let end = c.number_end-end.result in
-    let spelled : SpellsExact (take (end - c.args.at) (drop c.args.at t)) c.in-Exact.n = subst (λ (b : List ℕ). SpellsExact b c.in-Exact.n) (c.as_bytes-2.ensures.value ∙ c.range-spelling.ensures.value) c.in-Exact.ensures.value in
-    let w = number_value MAX_DEPTH s t c.args.at c.args.c c.requires.within.0 c.requires.here c.requires.begins end (end_is (goal.at.returns-in-Exact c).After-number_end-end) (exact c.in-Exact.n) (number_complete (exact c.in-Exact.n) (take (end - c.args.at) (drop c.args.at t)) spelled) c.requires.ready c.requires.room in
-    after_call MAX_DEPTH c.exact.result c.after.result modes.AfterValue end value s t c.args.at c.exact.new.self (with_value (number (exact c.in-Exact.n)) s) c.after.ensures c.exact.ensures.ok w
+    let missing : IsNumber (between t c.args.at end) → ⊥ = subst (λ (x : List ℕ). IsNumber (between x c.args.at end) → ⊥) c.as_bytes-2.ensures.value c.in-NotNumber.ensures in
+    no_number_value MAX_DEPTH s t c.args.at c.args.c c.requires.within.0 c.requires.here c.requires.begins end (end_is (goal.at.returns-in-NotNumber-clause-turns c).After-number_end-end) (number_none (between t c.args.at end) missing)
 
-pub returns-in-Wide : goal.returns-in-Wide
-returns-in-Wide c =
-    let s = c.args.builder.now in
+pub returns-in-Exact-clause-turns : goal.returns-in-Exact-clause-turns
+returns-in-Exact-clause-turns c =
+    let s = c.args.builder.now.0 in
     let t = c.args.text.now in
     let end = c.number_end-end.result in
-    let spelling : c.range-spelling.result.now ≡ take (end - c.args.at) (drop c.args.at t) = c.range-spelling.ensures.value in
-    let spelled : SpellsWide (take (end - c.args.at) (drop c.args.at t)) = subst SpellsWide (c.as_bytes-2.ensures.value ∙ spelling) c.in-Wide.ensures.value in
-    let w = number_value MAX_DEPTH s t c.args.at c.args.c c.requires.within.0 c.requires.here c.requires.begins end (end_is (goal.at.returns-in-Wide c).After-number_end-end) (wide c.range-spelling.result.now) (number_complete (wide c.range-spelling.result.now) (take (end - c.args.at) (drop c.args.at t)) (spelled, sym spelling)) c.requires.ready c.requires.room in
-    after_call MAX_DEPTH c.wide.result c.after-in-Wide.result modes.AfterValue end value s t c.args.at c.wide.new.self (with_value (number (wide c.range-spelling.result.now)) s) c.after-in-Wide.ensures c.wide.ensures.ok w
+    let n = c.in-Exact.n in
+    let spelled : SpellsExact (between t c.args.at end) n = subst (λ (x : List ℕ). SpellsExact (between x c.args.at end) n) c.as_bytes-2.ensures.value c.in-Exact.ensures in
+    let w = number_value MAX_DEPTH s t c.args.at c.args.c c.requires.within.0 c.requires.here c.requires.begins end (end_is (goal.at.returns-in-Exact-clause-turns c).After-number_end-end) (exact n) (number_complete (exact n) (between t c.args.at end) spelled) c.requires.ready c.requires.room in
+    after_call MAX_DEPTH c.exact.result c.after-in-Exact.result modes.AfterValue end value s t c.args.at c.exact.new.self (with_value (number (exact n)) s) c.args.builder.now.1 c.after-in-Exact.ensures c.exact.ensures.ok w
 
-pub returns-in-NotNumber : goal.returns-in-NotNumber
-returns-in-NotNumber c =
-    let s = c.args.builder.now in
+pub returns-in-Kept-clause-turns : goal.returns-in-Kept-clause-turns
+returns-in-Kept-clause-turns c =
+    let s = c.args.builder.now.0 in
     let t = c.args.text.now in
+    let line = c.args.builder.now.1 in
     let end = c.number_end-end.result in
-    let missing : IsNumber (take (end - c.args.at) (drop c.args.at t)) → ⊥ = subst (λ (b : List ℕ). IsNumber b → ⊥) (c.as_bytes-2.ensures.value ∙ c.range-spelling.ensures.value) c.in-NotNumber.ensures.value in
-    no_number_value MAX_DEPTH s t c.args.at c.args.c c.requires.within.0 c.requires.here c.requires.begins end (end_is (goal.at.returns-in-NotNumber c).After-number_end-end) (number_none (take (end - c.args.at) (drop c.args.at t)) missing)
+    let numeral = subst (λ (x : List ℕ). IsNumeral (between x c.args.at end)) c.as_bytes-2.ensures.value c.in-Kept.ensures in
+    let w : Went MAX_DEPTH value s t c.args.at modes.AfterValue end (with_value (number (spelled (between t c.args.at end))) s) =
+    number_value MAX_DEPTH s t c.args.at c.args.c c.requires.within.0 c.requires.here c.requires.begins end (end_is (goal.at.returns-in-Kept-clause-turns c).After-number_end-end) (spelled (between t c.args.at end)) (number_spelled (between t c.args.at end) numeral.number) c.requires.ready c.requires.room in
+    let v = subst (λ (x : List ℕ). Went MAX_DEPTH value s t c.args.at modes.AfterValue end (with_value (number (spelled (between x c.args.at end))) s)) (sym c.requires.line) w in
+    after_call MAX_DEPTH c.number_at.result c.after.result modes.AfterValue end value s t c.args.at c.number_at.new.self (with_value (number (spelled (between line c.args.at end))) s) line c.after.ensures c.number_at.ensures.ok v

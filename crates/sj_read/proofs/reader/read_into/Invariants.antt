@@ -8,9 +8,10 @@ use Rattle.sj_read.proofs.reader.read_into.Given as goal
 abbrev pub invariant-loop-at : goal.invariant-loop-at
 invariant-loop-at l = record {
   within : l.at ≤ length l.text;
-  ready : Ready (mode_of l.mode) l.builder;
-  room : node_total l.builder ≤ l.at;
-  same : run MAX_DEPTH (mode_of l.mode) l.builder (drop l.at l.text) ≡ reading MAX_DEPTH l.text;
+  line : l.builder.1 ≡ l.text;
+  ready : Ready (mode_of l.mode) l.builder.0;
+  room : node_total l.builder.0 ≤ l.at;
+  same : run MAX_DEPTH (mode_of l.mode) l.builder.0 (drop l.at l.text) ≡ reading MAX_DEPTH l.text;
 }
 
 abbrev pub decreases-loop-at : goal.decreases-loop-at

@@ -1,20 +1,24 @@
-use Rattle.std.proofs.Common.{refl, subst}
+use Rattle.std.proofs.Common.{Err, refl, sym, subst}
+use Rattle.sj_statement.specs.declared.refusal.BindKind.{BindKind}
+use Rattle.sj_statement.specs.declared.refusal.FileKind.TheVariants.{Bind}
 use Rattle.sj_sql.specs.View.{statement_of}
 use Rattle.sj_bind.proofs.Bindable.{IsBindableNext, next_bindable}
+use Rattle.sqljson.specs.Refusals.{IsVerdictFrom}
 use Rattle.sqljson.proofs.Verdicts.{first_so, broken_so, rule_broken, refused_so}
 use Rattle.sqljson.proofs.verdict.next_bound.Goals as goal
 
 pub bind-requires : goal.bind-requires
 bind-requires c = subst IsBindableNext c.in-Ok-Statement.field-0-is (next_bindable c.args.rest.now c.in-Ok-Statement.field-0 c.in-Ok-Statement.ensures)
 
-pub returns-in-Ok-read_on : goal.returns-in-Ok-read_on
-returns-in-Ok-read_on c =
+pub returns-in-Err-Kind : goal.returns-in-Err-Kind
+returns-in-Err-Kind c =
     let rest = c.args.rest.now in
     let s = c.in-Ok-Statement.statement in
     let behind = c.in-Ok-Statement.behind in
     let first = first_so rest c.in-Ok-Statement.field-0 s behind c.in-Ok-Statement.field-0-is c.in-Ok-Statement.ensures in
     let broken = broken_so (statement_of s) c.in-Err-Kind.field-0 c.in-Err-Kind.why c.in-Err-Kind.field-0-is c.in-Err-Kind.ensures.binds in
-    (refl, rule_broken c.args.number rest behind.now (statement_of s) c.in-Err-Kind.why first broken c.in-Ok-read_on.ensures)
+    let refused = rule_broken c.args.number rest behind.now (statement_of s) c.in-Err-Kind.why first broken in
+    (refl, subst (λ (why : BindKind). IsVerdictFrom c.args.number rest (Err (c.args.number, Bind why))) (sym c.in-Err-Kind.why-is) refused)
 
 pub returns-in-Err : goal.returns-in-Err
 returns-in-Err c = refused_so c.args.number c.args.rest.now c.in-Err.refused c.refusal_of.result c.refusal_of.ensures c.in-Err.ensures

@@ -1,9 +1,9 @@
 use Rattle.std.proofs.Common.{length, ◌∙◌, ap}
 use Rattle.sj_json.specs.Building.{State}
-use Rattle.sj_doc.proofs.Builders.{state_is}
+use Rattle.sj_doc.proofs.Builders.{state_seen, state_is}
 use Rattle.sj_doc.proofs.builder.DocBuilder.depth.Goals as goal
 
 pub returns : goal.returns
 returns c =
     let f = c.self.inside in
-    c.from.ensures ∙ c.self.invariant.depth_is ∙ ap (λ (s : State). length s.1) (state_is (f.arena.items, f.numbers.items) f.nodes.items f.key f.inner f.count f.depth c.self.invariant c.args.self.now c.self.view_is)
+    c.from.ensures ∙ c.self.invariant.0.depth_is ∙ ap (λ (s : State). length s.1) (state_is f.arena.items f.nodes.items f.key f.inner f.count f.depth c.self.invariant.0 c.args.self.now.0 (state_seen c.self.view_is))

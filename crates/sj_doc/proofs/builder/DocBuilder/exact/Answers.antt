@@ -1,52 +1,17 @@
-use Rattle.std.proofs.Common.{◌≡◌, ℕ, ℤ, List, [], ◌∷◌, ◌+◌, ◌-◌, None, Result, Ok, Err, OnErr, arith, refl, subst, sym, ap, ◌∙◌}
-use Rattle.sj_decimal.specs.Normal.{IsDecimal}
-use Rattle.sj_json.specs.Tree.{number, exact}
+use Rattle.std.proofs.Common.{arith, List, ℕ, OnOk, subst, sym, ◌≡◌}
+use Rattle.sj_decimal.specs.Number.{IsNumber, SpellsExact}
+use Rattle.sj_json.specs.Tree.{Number, number}
 use Rattle.sj_json.specs.Building.{with_value}
-use Rattle.sj_doc.specs.declared.node.Body.TheVariants.{Exact}
-use Rattle.sj_doc.specs.declared.node.Node.{Node}
-use Rattle.sj_doc.specs.Builders.{built, IsBuilder}
-use Rattle.sj_doc.proofs.Builders.{count_small, value_comes, number_comes, last_decimal, IsAlone}
-use Rattle.sj_json.specs.Cells.{number_cell}
+use Rattle.sj_doc.proofs.Numerals.{spelled_exact}
 use Rattle.sj_doc.proofs.builder.DocBuilder.exact.Goals as goal
-use Rattle.sj_doc.proofs.builder.DocBuilder.exact.Goals.{In_ok-at, In_ok-push_in}
 
-on_err : {T E P : Type 0} (r : Result T E) → P → OnErr r P
-on_err (Ok x) p = tt
-on_err (Err e) p = p
-
-stored : (c : In_ok-at) → IsBuilder (c.self.inside.arena.items, c.store_number.new.numbers.items) c.self.inside.nodes.items c.self.inside.key c.self.inside.inner c.self.inside.count c.self.inside.depth × (built (c.self.inside.arena.items, c.store_number.new.numbers.items) c.self.inside.nodes.items c.self.inside.key ≡ c.args.self.now)
-stored c =
-    let f = c.self.inside in
-    let st = c.in_ok-at.ensures.ok in
-    let g = number_comes (f.arena.items, f.numbers.items) f.nodes.items f.key f.inner f.count f.depth c.self.invariant c.args.n c.store_number.new.numbers.items st.grown st.few in
-    (g.0, g.1 ∙ c.self.view_is)
-
-both : (c : In_ok-push_in) → IsBuilder (c.self.inside.arena.items, c.store_number.new.numbers.items) c.push_in.new.list.items None c.self.inside.inner (c.self.inside.count + 1) c.self.inside.depth × (built (c.self.inside.arena.items, c.store_number.new.numbers.items) c.push_in.new.list.items None ≡ with_value (number (exact c.args.n)) c.args.self.now)
-both c =
-    let f = c.self.inside in
-    let st = c.in_ok-at.ensures.ok in
-    let g = stored (goal.at-In_ok-push_in c).In_ok-at in
-    let here = last_decimal f.numbers.items c.store_number.new.numbers.items c.args.n c.in_ok-at.at st.grown st.here in
-    let alone : IsAlone (f.arena.items, c.store_number.new.numbers.items) (number (exact c.args.n)) (Exact c.in_ok-at.at) = λ k. ap (λ (d : ℤ × ℕ). (k, number_cell (exact d)) ∷ []) (sym here.1) in
-    value_comes _ _ _ _ _ _ g.0 c.args.self.now g.1 (number (exact c.args.n)) (Exact c.in_ok-at.at) c.requires.wanted c.requires.room alone (λ n. refl) (here.0, subst IsDecimal (sym here.1) c.parts.ensures.decimal) (c.len.result - c.self.inside.inner) (omega (arith, c.len.ensures, c.self.inside.nodes.ok.0)) c.push_in.new.list.items c.in_ok-push_in.ensures.ok
-
-pub invariant_of-self-in_err-push_in : goal.invariant_of-self-in_err-push_in
-invariant_of-self-in_err-push_in c =
-    let f = c.self.inside in
-    subst (λ (ns : List Node). IsBuilder (f.arena.items, c.store_number.new.numbers.items) ns f.key f.inner f.count f.depth) (sym {A = List Node} c.in_err-push_in.ensures.err) (stored (goal.at.invariant_of-self-in_err-push_in c).In_ok-at).0
-
-pub returns-in_err-push_in-clause-err : goal.returns-in_err-push_in-clause-err
-returns-in_err-push_in-clause-err c =
-    let f = c.self.inside in
-    on_err c.from_residual-in_err-push_in.result (ap (λ (ns : List Node). built (f.arena.items, c.store_number.new.numbers.items) ns f.key) c.in_err-push_in.ensures.err ∙ (stored (goal.at.returns-in_err-push_in-clause-err c).In_ok-at).1)
-
-pub overflow_add-self : goal.overflow_add-self
-overflow_add-self c =
-    let f = c.self.inside in
-    omega (arith, count_small (f.arena.items, f.numbers.items) f.nodes.items f.key f.inner f.count f.depth c.self.invariant c.args.self.now c.self.view_is, c.self.invariant.small)
-
-pub invariant_of-self-2 : goal.invariant_of-self-2
-invariant_of-self-2 c = (both (goal.at.invariant_of-self-2 c).In_ok-push_in).0
+pub number-requires-clause-number : goal.number-requires-clause-number
+number-requires-clause-number c =
+    let h = c.text.ensures.spells in
+    let number = subst IsNumber (sym c.as_str.ensures.value) (h.value, h.spells) in
+    record { number = number; long = λ more. absurd (omega (arith, more, c.as_str.ensures.fits)) }
 
 pub returns-clause-ok : goal.returns-clause-ok
-returns-clause-ok c = (both (goal.at.returns-clause-ok c).In_ok-push_in).1
+returns-clause-ok c =
+    let spells = subst (λ (b : List ℕ). SpellsExact b c.args.n) (sym c.as_str.ensures.value) c.text.ensures.spells in
+    subst (λ (v : Number). OnOk c.number.result (c.number.new.self ≡ (with_value (number v) c.args.self.now.0, c.args.self.now.1))) (spelled_exact c.as_str.result.now c.args.n spells) c.number.ensures.ok

@@ -1,5 +1,10 @@
+use Rattle.std.proofs.Common.{◌<◌, ◌^◌, length, ap, arith}
 use Rattle.sj_doc.proofs.Builders.{starts}
 use Rattle.sj_doc.proofs.builder.DocBuilder.over.Goals as goal
+use Rattle.sj_doc.proofs.builder.DocBuilder.over.Goals.{Start}
+
+small : (c : Start) → length c.args.arena.items < 2 ^ 32
+small c = omega (arith, ap length c.requires.no_text)
 
 pub invariant_of-result : goal.invariant_of-result
-invariant_of-result c = (starts _ _ _ c.requires.no_text c.requires.no_numbers c.requires.no_nodes).0
+invariant_of-result c = ((starts c.args.arena.items c.args.nodes.items c.requires.no_nodes (small (goal.at.invariant_of-result c).Start)).0, omega arith)

@@ -1,51 +1,12 @@
-use Rattle.std.proofs.Common.{◌≡◌, ℕ, List, [], ◌∷◌, ◌+◌, ◌-◌, None, Result, Ok, Err, OnErr, arith, refl, subst, sym, ap, ◌∙◌}
-use Rattle.sj_decimal.specs.Number.{SpellsWide}
-use Rattle.sj_json.specs.Tree.{number, wide}
+use Rattle.std.proofs.Common.{OnOk, subst, ◌≡◌}
+use Rattle.sj_json.specs.Tree.{Number, number}
 use Rattle.sj_json.specs.Building.{with_value}
-use Rattle.sj_doc.specs.declared.node.Body.TheVariants.{Wide}
-use Rattle.sj_doc.specs.declared.node.Node.{Node}
-use Rattle.sj_doc.specs.Builders.{built, IsBuilder}
-use Rattle.sj_doc.proofs.Builders.{count_small, value_comes, text_comes, IsAlone}
-use Rattle.sj_json.specs.Cells.{number_cell}
+use Rattle.sj_doc.proofs.Numerals.{spelled_wide}
 use Rattle.sj_doc.proofs.builder.DocBuilder.wide.Goals as goal
-use Rattle.sj_doc.proofs.builder.DocBuilder.wide.Goals.{In_ok-span, In_ok-push_in}
 
-on_err : {T E P : Type 0} (r : Result T E) → P → OnErr r P
-on_err (Ok x) p = tt
-on_err (Err e) p = p
-
-stored : (c : In_ok-span) → IsBuilder (c.store.new.arena.items, c.self.inside.numbers.items) c.self.inside.nodes.items c.self.inside.key c.self.inside.inner c.self.inside.count c.self.inside.depth × (built (c.store.new.arena.items, c.self.inside.numbers.items) c.self.inside.nodes.items c.self.inside.key ≡ c.args.self.now)
-stored c =
-    let f = c.self.inside in
-    let st = c.in_ok-span.ensures.ok in
-    let g = text_comes (f.arena.items, f.numbers.items) f.nodes.items f.key f.inner f.count f.depth c.self.invariant c.args.spelling.now c.store.new.arena.items st.grown st.narrow in
-    (g.0, g.1 ∙ c.self.view_is)
-
-both : (c : In_ok-push_in) → IsBuilder (c.store.new.arena.items, c.self.inside.numbers.items) c.push_in.new.list.items None c.self.inside.inner (c.self.inside.count + 1) c.self.inside.depth × (built (c.store.new.arena.items, c.self.inside.numbers.items) c.push_in.new.list.items None ≡ with_value (number (wide c.args.spelling.now)) c.args.self.now)
-both c =
-    let f = c.self.inside in
-    let st = c.in_ok-span.ensures.ok in
-    let g = stored (goal.at-In_ok-push_in c).In_ok-span in
-    let alone : IsAlone (c.store.new.arena.items, c.self.inside.numbers.items) (number (wide c.args.spelling.now)) (Wide c.in_ok-span.span) = λ k. ap (λ (x : List ℕ). (k, number_cell (wide x)) ∷ []) (sym st.same) in
-    value_comes _ _ _ _ _ _ g.0 c.args.self.now g.1 (number (wide c.args.spelling.now)) (Wide c.in_ok-span.span) c.requires.wanted c.requires.room alone (λ n. refl) (st.fits, subst SpellsWide (sym st.same) c.requires.wide) (c.len.result - c.self.inside.inner) (omega (arith, c.len.ensures, c.self.inside.nodes.ok.0)) c.push_in.new.list.items c.in_ok-push_in.ensures.ok
-
-pub invariant_of-self-in_err-push_in : goal.invariant_of-self-in_err-push_in
-invariant_of-self-in_err-push_in c =
-    let f = c.self.inside in
-    subst (λ (ns : List Node). IsBuilder (c.store.new.arena.items, c.self.inside.numbers.items) ns f.key f.inner f.count f.depth) (sym {A = List Node} c.in_err-push_in.ensures.err) (stored (goal.at.invariant_of-self-in_err-push_in c).In_ok-span).0
-
-pub returns-in_err-push_in-clause-err : goal.returns-in_err-push_in-clause-err
-returns-in_err-push_in-clause-err c =
-    let f = c.self.inside in
-    on_err c.from_residual-in_err-push_in.result (ap (λ (ns : List Node). built (c.store.new.arena.items, c.self.inside.numbers.items) ns f.key) c.in_err-push_in.ensures.err ∙ (stored (goal.at.returns-in_err-push_in-clause-err c).In_ok-span).1)
-
-pub overflow_add-self : goal.overflow_add-self
-overflow_add-self c =
-    let f = c.self.inside in
-    omega (arith, count_small (f.arena.items, f.numbers.items) f.nodes.items f.key f.inner f.count f.depth c.self.invariant c.args.self.now c.self.view_is, c.self.invariant.small)
-
-pub invariant_of-self-2 : goal.invariant_of-self-2
-invariant_of-self-2 c = (both (goal.at.invariant_of-self-2 c).In_ok-push_in).0
+pub number-requires-clause-number : goal.number-requires-clause-number
+number-requires-clause-number c = record { number = (c.requires.wide.value, c.requires.wide.spells); long = λ _. c.requires.wide }
 
 pub returns-clause-ok : goal.returns-clause-ok
-returns-clause-ok c = (both (goal.at.returns-clause-ok c).In_ok-push_in).1
+returns-clause-ok c =
+    subst (λ (v : Number). OnOk c.number.result (c.number.new.self ≡ (with_value (number v) c.args.self.now.0, c.args.self.now.1))) (spelled_wide c.args.spelling.now c.requires.wide) c.number.ensures.ok

@@ -14,13 +14,13 @@ first c = next_kid c.self.inside.doc.now c.self.inside.at c.self.inside.left c.s
 pub index-node-requires : goal.index-node-requires
 index-node-requires c =
     let d = c.doc.inside in
-    omega (arith, count (d.arena.items, d.numbers.items) d.nodes.items c.self.inside.doc.now c.doc.invariant c.doc.view_is, (first (goal.at.index-node-requires c).After-doc).within, d.nodes.ok.0)
+    omega (arith, count d.arena.items d.nodes.items c.self.inside.doc.now c.doc.invariant c.doc.view_is, (first (goal.at.index-node-requires c).After-doc).within, d.nodes.ok.0)
 
 pub text_at-requires : goal.text_at-requires
 text_at-requires c =
     let d = c.doc.inside in
     let a = c.self.inside in
-    let fits = node_fits (d.arena.items, d.numbers.items) d.nodes.items a.doc.now c.doc.invariant c.doc.view_is a.at a.left (first (goal.at.text_at-requires c).After-doc) c.index-node.result.now c.index-node.ensures in
+    let fits = node_fits d.arena.items d.nodes.items a.doc.now c.doc.invariant c.doc.view_is a.at a.left (first (goal.at.text_at-requires c).After-doc) c.index-node.result.now c.index-node.ensures in
     let span : IsSpan d.arena.items c.in-Some.span = subst (λ (k : Option Span). IfSome k (IsSpan d.arena.items)) c.in-Some.is fits.0 in
     subst (λ (x : List ℕ). IsSpan x c.in-Some.span) (sym c.deref.ensures.value) span
 
@@ -28,13 +28,13 @@ below_is : (c : After-below) → c.below.result ≡ below (first (goal.at-After-
 below_is c =
     let d = c.doc.inside in
     let a = c.self.inside in
-    c.below.ensures ∙ node_below (d.arena.items, d.numbers.items) d.nodes.items a.doc.now c.doc.invariant c.doc.view_is a.at a.left (first (goal.at-After-below c).After-doc) c.index-node.result.now c.index-node.ensures
+    c.below.ensures ∙ node_below d.arena.items d.nodes.items a.doc.now c.doc.invariant c.doc.view_is a.at a.left (first (goal.at-After-below c).After-doc) c.index-node.result.now c.index-node.ensures
 
 small : (c : After-below) → c.self.inside.at + 1 + c.below.result ≤ 2 ^ 25
 small c =
     let d = c.doc.inside in
     let a = c.self.inside in
-    omega (arith, below_is c, (first (goal.at-After-below c).After-doc).small, count (d.arena.items, d.numbers.items) d.nodes.items a.doc.now c.doc.invariant c.doc.view_is, c.doc.invariant.small)
+    omega (arith, below_is c, (first (goal.at-After-below c).After-doc).small, count d.arena.items d.nodes.items a.doc.now c.doc.invariant c.doc.view_is, c.doc.invariant.small)
 
 pub overflow_add-self : goal.overflow_add-self
 overflow_add-self c = omega (arith, small (goal.at.overflow_add-self c).After-below)
@@ -46,7 +46,7 @@ pub invariant_of-child : goal.invariant_of-child
 invariant_of-child c =
     let d = c.doc.inside in
     let f = first (goal.at.invariant_of-child c).After-doc in
-    record { in_range = f.within; small = omega (arith, f.within, count (d.arena.items, d.numbers.items) d.nodes.items c.self.inside.doc.now c.doc.invariant c.doc.view_is, c.doc.invariant.small) }
+    record { in_range = f.within; small = omega (arith, f.within, count d.arena.items d.nodes.items c.self.inside.doc.now c.doc.invariant c.doc.view_is, c.doc.invariant.small) }
 
 later : (c : After-below) → c.self.inside.at + 1 + below (first (goal.at-After-below c).After-doc).kid.1 ≡ c.self.inside.at + (1 + c.below.result)
 later c = omega (arith, below_is c)
@@ -69,7 +69,7 @@ returns c =
     let d = c.doc.inside in
     let a = c.self.inside in
     let f = first (goal.at.returns c).After-doc in
-    let k = key_is (goal.at.returns c).After-below ∙ node_key (d.arena.items, d.numbers.items) d.nodes.items a.doc.now c.doc.invariant c.doc.view_is a.at a.left f c.index-node.result.now c.index-node.ensures in
+    let k = key_is (goal.at.returns c).After-below ∙ node_key d.arena.items d.nodes.items a.doc.now c.doc.invariant c.doc.view_is a.at a.left f c.index-node.result.now c.index-node.ensures in
     sym c.self.view_is ∙ f.splits
     ∙ ap (λ (x : Option (List ℕ)). (x, a.at, f.kid.1) ∷ children_left a.doc.now (a.at + 1 + below f.kid.1) (a.left - 1)) (sym k)
     ∙ ap (λ (x : Tree). (option_map (λ s. s.now) c.match-node.key, a.at, x) ∷ children_left a.doc.now (a.at + 1 + below f.kid.1) (a.left - 1)) (sym f.tree)

@@ -8,23 +8,23 @@ use Rattle.sj_doc.proofs.doc.Doc.end_of.Goals.{After-below-below}
 pub overflow_add-result : goal.overflow_add-result
 overflow_add-result c =
     let d = c.self.inside in
-    omega (arith, count (d.arena.items, d.numbers.items) d.nodes.items c.args.self.now c.self.invariant c.self.view_is, c.self.invariant.small, c.requires)
+    omega (arith, count d.arena.items d.nodes.items c.args.self.now c.self.invariant c.self.view_is, c.self.invariant.small, c.requires)
 
 pub index-requires : goal.index-requires
 index-requires c =
     let d = c.self.inside in
-    omega (arith, count (d.arena.items, d.numbers.items) d.nodes.items c.args.self.now c.self.invariant c.self.view_is, d.nodes.ok.0, c.requires)
+    omega (arith, count d.arena.items d.nodes.items c.args.self.now c.self.invariant c.self.view_is, d.nodes.ok.0, c.requires)
 
 below_is : (c : After-below-below) → c.below-below.result ≡ below (subtree c.args.self.now c.args.at)
 below_is c =
     let d = c.self.inside in
     let t = c.args.self.now in
-    c.below-below.ensures ∙ below-head (d.arena.items, d.numbers.items) c.index.result.now.body (subtree t c.args.at) (cell_at (d.arena.items, d.numbers.items) d.nodes.items t c.self.invariant c.self.view_is c.args.at c.index.result.now c.requires c.index.ensures)
+    c.below-below.ensures ∙ below-head d.arena.items c.index.result.now.body (subtree t c.args.at) (cell_at d.arena.items d.nodes.items t c.self.invariant c.self.view_is c.args.at c.index.result.now c.requires c.index.ensures)
 
 pub overflow_add-result-2 : goal.overflow_add-result-2
 overflow_add-result-2 c =
     let d = c.self.inside in
-    omega (arith, below_is (goal.at.overflow_add-result-2 c).After-below-below, reach c.args.self.now c.args.at c.requires, count (d.arena.items, d.numbers.items) d.nodes.items c.args.self.now c.self.invariant c.self.view_is, c.self.invariant.small)
+    omega (arith, below_is (goal.at.overflow_add-result-2 c).After-below-below, reach c.args.self.now c.args.at c.requires, count d.arena.items d.nodes.items c.args.self.now c.self.invariant c.self.view_is, c.self.invariant.small)
 
 pub returns : goal.returns
 returns c = omega (arith, below_is (goal.at.returns c).After-below-below)

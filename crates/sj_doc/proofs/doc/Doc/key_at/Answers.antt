@@ -10,13 +10,13 @@ use Rattle.sj_doc.proofs.doc.Doc.key_at.Goals.{After-index}
 pub index-requires : goal.index-requires
 index-requires c =
     let d = c.self.inside in
-    omega (arith, count (d.arena.items, d.numbers.items) d.nodes.items c.args.self.now c.self.invariant c.self.view_is, d.nodes.ok.0, c.requires)
+    omega (arith, count d.arena.items d.nodes.items c.args.self.now c.self.invariant c.self.view_is, d.nodes.ok.0, c.requires)
 
 pub text_at-requires : goal.text_at-requires
 text_at-requires c =
     let d = c.self.inside in
-    let within : c.args.at < length d.nodes.items = omega (arith, count (d.arena.items, d.numbers.items) d.nodes.items c.args.self.now c.self.invariant c.self.view_is, c.requires) in
-    let fits = all_at (IsNode (d.arena.items, d.numbers.items)) d.nodes.items c.args.at c.index.result.now c.self.invariant.fits within c.index.ensures in
+    let within : c.args.at < length d.nodes.items = omega (arith, count d.arena.items d.nodes.items c.args.self.now c.self.invariant c.self.view_is, c.requires) in
+    let fits = all_at (IsNode d.arena.items) d.nodes.items c.args.at c.index.result.now c.self.invariant.fits within c.index.ensures in
     let span : IsSpan d.arena.items c.in-Some.span = subst (λ (k : Option Span). IfSome k (IsSpan d.arena.items)) c.in-Some.is fits.0 in
     subst (λ (x : List ℕ). IsSpan x c.in-Some.span) (sym c.deref.ensures.value) span
 
@@ -24,9 +24,9 @@ key_is : (c : After-index) → option_map (text_in c.self.inside.arena.items) c.
 key_is c =
     let d = c.self.inside in
     let t = c.args.self.now in
-    let at = lies_here (d.arena.items, d.numbers.items) d.nodes.items t c.self.invariant c.self.view_is c.args.at c.requires in
-    node_key_at (d.arena.items, d.numbers.items) d.nodes.items t c.self.invariant c.self.view_is c.args.at c.index.result.now c.requires c.index.ensures
-    ∙ sym (key_read t c.args.at c.requires at.0 at.1 (ap (drop c.args.at) (sym (laid_as (d.arena.items, d.numbers.items) d.nodes.items t c.self.invariant c.self.view_is)) ∙ at.2))
+    let at = lies_here d.arena.items d.nodes.items t c.self.invariant c.self.view_is c.args.at c.requires in
+    node_key_at d.arena.items d.nodes.items t c.self.invariant c.self.view_is c.args.at c.index.result.now c.requires c.index.ensures
+    ∙ sym (key_read t c.args.at c.requires at.0 at.1 (ap (drop c.args.at) (sym (laid_as d.arena.items d.nodes.items t c.self.invariant c.self.view_is)) ∙ at.2))
 
 pub returns-in-Some : goal.returns-in-Some
 returns-in-Some c =

@@ -8,4 +8,4 @@ returns-clause-tree c = whole c.args.self.now
 pub returns-clause-made : goal.returns-clause-made
 returns-clause-made c =
     let d = c.self.inside in
-    doc_made (d.arena.items, d.numbers.items) d.nodes.items c.args.self.now c.self.invariant c.self.view_is
+    doc_made d.arena.items d.nodes.items c.args.self.now c.self.invariant c.self.view_is

@@ -6,11 +6,11 @@ use Rattle.sj_doc.proofs.doc.NodeRef.kind.Goals as goal
 pub index-requires : goal.index-requires
 index-requires c =
     let d = c.doc.inside in
-    omega (arith, count (d.arena.items, d.numbers.items) d.nodes.items c.args.self.doc.now c.doc.invariant c.doc.view_is, d.nodes.ok.0, c.args.self.in_range)
+    omega (arith, count d.arena.items d.nodes.items c.args.self.doc.now c.doc.invariant c.doc.view_is, d.nodes.ok.0, c.args.self.in_range)
 
 pub returns : goal.returns
 returns c =
     let d = c.doc.inside in
     let n = c.index.result.now in
     let t = c.args.self.doc.now in
-    c.kind.ensures ∙ kind-head (d.arena.items, d.numbers.items) n.body (subtree t c.args.self.at) (cell_at (d.arena.items, d.numbers.items) d.nodes.items t c.doc.invariant c.doc.view_is c.args.self.at n c.args.self.in_range c.index.ensures)
+    c.kind.ensures ∙ kind-head d.arena.items n.body (subtree t c.args.self.at) (cell_at d.arena.items d.nodes.items t c.doc.invariant c.doc.view_is c.args.self.at n c.args.self.in_range c.index.ensures)

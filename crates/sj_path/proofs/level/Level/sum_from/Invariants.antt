@@ -1,9 +1,9 @@
 use Rattle.std.proofs.Common.{◌≡◌, ◌-◌, length}
-use Rattle.sj_grammar.specs.Reading.{thing_at, sum_from}
+use Rattle.sj_grammar.specs.Reading.{expr_or_pred_at, sum_from}
 use Rattle.sj_path.specs.Raw.{expr_of}
 use Rattle.sj_path.proofs.level.Level.sum_from.Given as goal
 
 abbrev pub invariant-loop-turn : goal.invariant-loop-turn
 invariant-loop-turn g l =
-    sum_from (thing_at l.self.depth) (length l.tokens) (expr_of l.fn.x.value) l.tokens
-    ≡ sum_from (thing_at l.self.depth) (l._turn-end - l._turn) (expr_of l.e.value) l.rest
+    sum_from (expr_or_pred_at l.self.depth) (length l.tokens) (expr_of l.fn.x.value) l.tokens
+    ≡ sum_from (expr_or_pred_at l.self.depth) (l._turn-end - l._turn) (expr_of l.e.value) l.rest
