@@ -7,19 +7,13 @@ use std::alloc::{AllocError, AllocFailed};
 use thiserror::Error;
 
 /// A part of the standard that this implementation does not have.
-#[derive(Clone, Copy, Debug, PartialEq, Eq, Error)]
+#[derive(Clone, Copy, Debug, PartialEq, Eq)]
 pub enum Name {
-    #[error("like_regex")]
     LikeRegex,
-    #[error("double")]
     Double,
-    #[error("datetime")]
     Datetime,
-    #[error("approximate type")]
     ApproximateType,
-    #[error("datetime type")]
     DatetimeType,
-    #[error("encoding")]
     Encoding,
 }
 

@@ -6,3 +6,4 @@ pub mod Reading
 pub mod Answers
 pub mod PathAnswers
 pub mod Faults
+pub mod Messages
