@@ -2,7 +2,8 @@
 //! relations, the functional reading of the tokens of a statement, and the law that these have at most one tree.
 //!
 //! It stands on the tokens of statement files, the paths of sj_grammar and the clauses of sj_value. The parser, which is proved
-//! against these definitions, is a crate of its own.
+//! against these definitions, is a crate of its own. `refusal.rt` has the reasons for which a file is refused, each with its
+//! message.
 #![tactic(auto)]
 
 mod clauses;
