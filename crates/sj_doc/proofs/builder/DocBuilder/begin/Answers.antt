@@ -1,4 +1,4 @@
-use Rattle.std.proofs.Common.{◌≡◌, ℕ, ◌+◌, ◌-◌, Option, None, length, arith, refl, subst, sym, ap, ◌∙◌}
+use Rattle.std.proofs.Common.{arith, ◌∙◌}
 use Rattle.sj_doc.proofs.Builders.{has_room, container_opened, depth_small, state_seen}
 use Rattle.sj_doc.proofs.builder.DocBuilder.begin.Goals as goal
 
