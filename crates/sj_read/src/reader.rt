@@ -81,14 +81,7 @@ fn text_end(text: &str, from: usize) -> Option<usize>
     requires quote { slice_index text.now (from - 1) ≡ 34 }
     ensures { IfSome result (λ end. EndsPlain text.now from end × IsUtf8 (between text.now from end)) }
 {
-    match string_end(text.as_bytes(), from) {
-        Some(end) => {
-            // shows the proof that this is text
-            let _ = &text[from..end];
-            Some(end)
-        }
-        None => None,
-    }
+    string_end(text.as_bytes(), from)
 }
 
 // The string that begins with the byte c at the place, where it may have escapes.
