@@ -1,11 +1,12 @@
 -- What the calls of a builder keep.
-use Rattle.std.proofs.Common.{◌≡◌, ℕ, suc, zero, ◌+◌, ◌-◌, ◌<◌, ◌≤◌, ◌^◌, List, [], ◌∷◌, ◌++◌, length, take, drop, get_or, set, Bool, true, false, Option, Some, None, option_map, IfSome, refl, sym, ap, ap₂, ◌∙◌, subst, length-append, arith}
+use Rattle.std.proofs.Common.{◌≡◌, ℕ, suc, zero, ◌+◌, ◌-◌, ◌<◌, ◌≤◌, ◌^◌, List, [], ◌∷◌, ◌++◌, length, take, drop, get_or, set, Bool, true, false, Option, Some, None, option_map, IfSome, Result, Ok, Err, OnOk, OnErr, MatchResult, refl, sym, ap, ap₂, ◌∙◌, subst, length-append, arith}
 use Rattle.std.specs.List.{AllByRecursion}
 use Rattle.std.specs.Str.{IsUtf8}
 use Rattle.std.proofs.Math.ListN.{get_or-map}
+use Rattle.std.proofs.lemmas.Option.{same_Some}
 use Rattle.std.proofs.lemmas.List.{append-nil, length-map, map-append, map-set, set_at, get_or_at, take-append-drop, take-append-le, length-take-le, drop-append-le, take_at, drop_at, length-set, length-drop}
 use Rattle.sj_decimal.specs.Shorts.{between}
-use Rattle.sj_json.specs.Tree.{Tree}
+use Rattle.sj_json.specs.Tree.{Tree, null, truth, string, number}
 use Rattle.sj_json.specs.Cells.{Cell, string_cell, number_cell, closed, opened, Entry, layout, tree_of}
 use Rattle.sj_json.specs.Building.{Part, top, elements, pairs, State, TakesValue, TakesKey, TakesClose, put, put_key, empty, with_value, with_key, with_open, put_option, with_close, fresh, IsComplete, part_entries, part_kids, part_key, is_object, laid, place, IsState, state_of}
 use Rattle.sj_json.specs.Layouts.{tree_of-layout}
@@ -20,7 +21,8 @@ use Rattle.sj_doc.specs.declared.node.Span.{Span}
 use Rattle.sj_json.specs.Links.{ups, laid_ups}
 use Rattle.sj_json.proofs.Links.{ups-put, ups-empty, ups-put_key, ups-close}
 use Rattle.sj_doc.specs.Nodes.{spelled, text_in, cell_of, entry_of, entries, links, IsSpan, IsNumeral, IsBody, IsNode, IsDoc}
-use Rattle.sj_doc.specs.Builders.{Building, built, node_total, IsBuilder}
+use Rattle.sj_doc.specs.declared.builder.OpenTree.{OpenTree}
+use Rattle.sj_doc.specs.Builders.{Building, built, node_total, IsBuilder, IsOpenTree, built_tree, HasRoom, IsBetween, IsEmpty, Adds, Stays}
 
 pub all_push : {X : Type 0} (P : X → Type 0) (xs : List X) (x : X) → AllByRecursion P xs → P x → AllByRecursion P (xs ++ x ∷ [])
 all_push P [] x h p = (p, tt)
@@ -233,7 +235,7 @@ last_span a x new s e good at long =
     ((omega (arith, ap length e, length-append a x), subst IsUtf8 (sym same) good), same)
 
 -- what stands in the line
-pub line_span : (a line : List ℕ) (k from to : ℕ) (s : Span) → take k a ≡ line → k ≤ length a → from ≤ to → to ≤ length line → s.start ≡ from → s.len ≡ to - from → IsUtf8 (between line from to)
+line_span : (a line : List ℕ) (k from to : ℕ) (s : Span) → take k a ≡ line → k ≤ length a → from ≤ to → to ≤ length line → s.start ≡ from → s.len ≡ to - from → IsUtf8 (between line from to)
     → IsSpan a s × (text_in a s ≡ between line from to)
 line_span a line k from to s is within later inside start long good =
     let here : text_in line s ≡ between line from to = ap (λ (i : ℕ). take s.len (drop i line)) start ∙ ap (λ (n : ℕ). take n (drop from line)) long in
@@ -242,7 +244,7 @@ line_span a line k from to s is within later inside start long good =
     (subst (λ (x : List ℕ). IsSpan x s) (sym whole) (span-grown line (drop k a) s span), ap (λ (x : List ℕ). text_in x s) whole ∙ text-grown line (drop k a) s span ∙ here)
 
 -- it has places of 32 bits
-pub line_room : (a line : List ℕ) (k : ℕ) → take k a ≡ line → k ≤ length a → length a < 2 ^ 32 → length line < 2 ^ 32
+line_room : (a line : List ℕ) (k : ℕ) → take k a ≡ line → k ≤ length a → length a < 2 ^ 32 → length line < 2 ^ 32
 line_room a line k is within small = omega (arith, ap length (sym is), length-take-le k a within)
 
 -- ---- what is seen of a builder
@@ -256,10 +258,116 @@ line_seen e = ap (λ (z : Building). z.1) e
 pub both_seen : {s t : State} {a b : List ℕ} → s ≡ t → a ≡ b → ◌≡◌ {A = Building} (s, a) (t, b)
 both_seen e f = ap₂ (λ (s : State) (a : List ℕ). (s, a)) e f
 
+-- ---- a node comes last
+
+-- what holds of the fields holds of a tree that has them
+same_fields : (P : List Node → Option Span → ℕ → ℕ → ℕ → Type 0) (u : OpenTree) (ns : List Node) (k : Option Span) (i n d : ℕ)
+    → u.nodes.items ≡ ns → u.key ≡ k → u.inner ≡ i → u.count ≡ n → u.depth ≡ d → P ns k i n d → P u.nodes.items u.key u.inner u.count u.depth
+same_fields P u ns k i n d e f g h j p =
+    subst (λ (x : List Node). P x u.key u.inner u.count u.depth) (sym e)
+    (subst (λ (x : Option Span). P ns x u.inner u.count u.depth) (sym f)
+    (subst (λ (x : ℕ). P ns k x u.count u.depth) (sym g)
+    (subst (λ (x : ℕ). P ns k i x u.depth) (sym h)
+    (subst (λ (x : ℕ). P ns k i n x) (sym j) p))))
+
+place_within : (p : Part) (qs : List Part) → place p qs ≤ length (laid p qs)
+place_within p [] = omega arith
+place_within p (q ∷ qs) = omega (arith, length-append (laid q qs) ((part_key q, opened (is_object p) (place q qs) (length (part_kids q))) ∷ part_entries p))
+
+-- the value that a scalar stands for
+abbrev pub scalar_of : List ℕ → Body → Option Tree
+scalar_of a Null = Some null
+scalar_of a (Truth b) = Some (truth b)
+scalar_of a (Text s) = Some (string (text_in a s))
+scalar_of a (Numeral s) = Some (number (spelled (text_in a s)))
+scalar_of a (Closed kind n size) = None
+scalar_of a (Opened kind parent n) = None
+
+scalar_alone : (a : List ℕ) (body : Body) (v : Tree) → scalar_of a body ≡ Some v → IsAlone a v body × IsLeaf v
+scalar_alone a Null v e = subst (λ (t : Tree). IsAlone a t Null × IsLeaf t) (same_Some _ _ e) (λ k. refl, λ n. refl)
+scalar_alone a (Truth b) v e = subst (λ (t : Tree). IsAlone a t (Truth b) × IsLeaf t) (same_Some _ _ e) (λ k. refl, λ n. refl)
+scalar_alone a (Text s) v e = subst (λ (t : Tree). IsAlone a t (Text s) × IsLeaf t) (same_Some _ _ e) (λ k. refl, λ n. refl)
+scalar_alone a (Numeral s) v e = subst (λ (t : Tree). IsAlone a t (Numeral s) × IsLeaf t) (same_Some _ _ e) (λ k. refl, λ n. refl)
+scalar_alone a (Closed kind n size) v e = cc
+scalar_alone a (Opened kind parent n) v e = cc
+
+-- the fields of a builder with this text, whose line has k bytes, stand for b
+abbrev pub Stands : List ℕ → ℕ → OpenTree → Building → Type 0
+Stands a k t b = (IsOpenTree a t × (k ≤ length a)) × (◌≡◌ {A = Building} (built_tree a t, take k a) b)
+
+-- the value v came, or nothing changed
+abbrev pub Comes : List ℕ → ℕ → OpenTree → Building → Tree → {E : Type 0} → Result (Unit {0}) E → Type 0
+Comes a k u b v r = MatchResult r (λ x. Stands a k u (with_value v b.0, b.1)) (λ e. Stands a k u b)
+
+module _ (a : List ℕ) (k : ℕ) (t : OpenTree) (b : Building) (now : Stands a k t b) where
+  pub text_stored : (x new : List ℕ) → new ≡ a ++ x → length new < 2 ^ 32 → Stands new k t b
+  text_stored x new e small =
+      let g = text_comes a t.nodes.items t.key t.inner t.count t.depth now.0.0 x new e small in
+      let line = line_kept a x new k now.0.1 e in
+      ((g.0, line.1), both_seen (g.1 ∙ state_seen now.1) (line.0 ∙ line_seen now.1))
+
+  pub line_narrow : length b.1 < 2 ^ 32
+  line_narrow = line_room a b.1 k (line_seen now.1) now.0.1 now.0.0.narrow
+
+  -- what stands in the line from the one place up to the other
+  pub line_range : (from to : ℕ) → (from ≤ to) × (to ≤ length b.1) → IsUtf8 (between b.1 from to) → (s : Span) → IsBetween from to s → IsSpan a s × (text_in a s ≡ between b.1 from to)
+  line_range from to within good s ends = line_span a b.1 k from to s (line_seen now.1) now.0.1 within.0 within.1 ends.start ends.len good
+
+  pub key_given : (s : Span) → TakesKey b.0.0 → IsSpan a s → (x : List ℕ) → text_in a s ≡ x
+      → (IsBuilder a t.nodes.items (Some s) t.inner t.count t.depth × (k ≤ length a)) × (◌≡◌ {A = Building} (built a t.nodes.items (Some s), take k a) (with_key x b.0, b.1))
+  key_given s wanted good x same =
+      let g = key_comes a t.nodes.items t.key t.inner t.count t.depth now.0.0 b.0 (state_seen now.1) s wanted good in
+      ((g.0, now.0.1), both_seen (g.1 ∙ ap (λ (y : List ℕ). with_key y b.0) same) (line_seen now.1))
+
+  stays : (u : OpenTree) → Stays t u → Stands a k u b
+  stays u h = same_fields (λ ns l i n d. (IsBuilder a ns l i n d × (k ≤ length a)) × (◌≡◌ {A = Building} (built a ns l, take k a) b)) u t.nodes.items t.key t.inner t.count t.depth h.nodes_are h.key_is h.inner_is h.count_is h.depth_is now
+
+  module _ (room : node_total b.0 < 2 ^ 25) where
+    pub has_room : HasRoom t
+    has_room = record {
+      few = room_left a t.nodes.items t.key t.inner t.count t.depth now.0.0 b.0 (state_seen now.1) room;
+      within = omega (arith, now.0.0.inner_is, place_within now.0.0.part now.0.0.outer, total a t.nodes.items t.key t.inner t.count t.depth now.0.0);
+      counted = count_small a t.nodes.items t.key t.inner t.count t.depth now.0.0 b.0 (state_seen now.1);
+    }
+
+    -- the scalar v was added, or nothing changed
+    pub scalar_added : TakesValue b.0.0 → (body : Body) → IsBody a body → (v : Tree) → scalar_of a body ≡ Some v
+        → (u : OpenTree) → {E : Type 0} → (r : Result (Unit {0}) E) → MatchResult r (λ x. Adds t body u) (λ e. Stays t u)
+        → Comes a k u b v r
+    scalar_added wanted body good v is u (Ok x) h =
+        let alone = scalar_alone a body v is in
+        let p = value_comes a t.nodes.items t.key t.inner t.count t.depth now.0.0 b.0 (state_seen now.1) v body wanted room alone.0 alone.1 good (length t.nodes.items - t.inner) refl _ refl in
+        same_fields (λ ns l i n d. (IsBuilder a ns l i n d × (k ≤ length a)) × (◌≡◌ {A = Building} (built a ns l, take k a) (with_value v b.0, b.1))) u _ None t.inner (t.count + 1) t.depth h.nodes_are h.key_is h.inner_is h.count_is h.depth_is
+        ((p.0, now.0.1), both_seen p.1 (line_seen now.1))
+    scalar_added wanted body good v is u (Err e) h = stays u h
+
+    -- a container was added, and is the innermost one
+    pub container_opened : TakesValue b.0.0 → (kind : Bool) → (u : OpenTree) → Adds t (Opened kind t.inner t.count) u → (at : ℕ) → at ≡ length t.nodes.items
+        → (IsBuilder a u.nodes.items u.key at 0 (u.depth + 1) × (k ≤ length a)) × (◌≡◌ {A = Building} (built_tree a u, take k a) (with_open kind b.0, b.1))
+    container_opened wanted kind u h at here =
+        let p = opens a t.nodes.items t.key t.inner t.count t.depth now.0.0 b.0 (state_seen now.1) kind wanted room (length t.nodes.items - t.inner) refl u.nodes.items h.nodes_are in
+        let P = λ (l : Option Span) (i d : ℕ). (IsBuilder a u.nodes.items l i 0 d × (k ≤ length a)) × (◌≡◌ {A = Building} (built a u.nodes.items l, take k a) (with_open kind b.0, b.1)) in
+        subst (λ (l : Option Span). P l at (u.depth + 1)) (sym h.key_is)
+        (subst (λ (i : ℕ). P None i (u.depth + 1)) (sym here)
+        (subst (λ (d : ℕ). P None (length t.nodes.items) (d + 1)) (sym h.depth_is) ((p.0, now.0.1), both_seen p.1 (line_seen now.1))))
+
+module _ {E : Type 0} (a : List ℕ) (k : ℕ) (u : OpenTree) (b : Building) (v : Tree) where
+  pub kept : (r : Result (Unit {0}) E) → Comes a k u b v r → IsOpenTree a u × (k ≤ length a)
+  kept (Ok x) h = h.0
+  kept (Err e) h = h.0
+
+  pub on_ok : (r : Result (Unit {0}) E) → Comes a k u b v r → OnOk r (◌≡◌ {A = Building} (built_tree a u, take k a) (with_value v b.0, b.1))
+  on_ok (Ok x) h = h.1
+  on_ok (Err e) h = tt
+
+  pub on_err : (r : Result (Unit {0}) E) → Comes a k u b v r → OnErr r (◌≡◌ {A = Building} (built_tree a u, take k a) b)
+  on_err (Ok x) h = tt
+  on_err (Err e) h = h.1
+
 -- ---- a new builder
 
-pub starts : (a : List ℕ) (ns : List Node) → ns ≡ [] → length a < 2 ^ 32 → IsBuilder a ns None 0 0 0 × (built a ns None ≡ fresh)
-starts a ns e small =
+pub starts : (a : List ℕ) (ns : List Node) (t : OpenTree) → IsEmpty ns t → ns ≡ [] → length a < 2 ^ 32 → IsOpenTree a t × (built_tree a t ≡ fresh)
+starts a ns t h e small =
     let none : IsBuilder a [] None 0 0 0 = record {
       part = top None;
       outer = [];
@@ -275,8 +383,7 @@ starts a ns e small =
       small = omega arith;
       narrow = small;
     } in
-    let P : List Node → Type 0 = λ l. IsBuilder a l None 0 0 0 × (built a l None ≡ fresh) in
-    subst P (sym e) (none, refl)
+    same_fields (λ ns l i n d. IsBuilder a ns l i n d × (built a ns l ≡ fresh)) t [] None 0 0 0 (h.nodes_are ∙ e) h.key_is h.inner_is h.count_is h.depth_is (none, refl)
 
 -- ---- a container closes
 

@@ -10,7 +10,7 @@ use Rattle.sj_doc.specs.Stops.{key_in}
 use Rattle.sj_doc.proofs.Listing.{next_kid, left_is}
 use Rattle.sj_doc.proofs.Touring.{key_read}
 
--- the first child that is left, by its place
+-- the first child that is left, by its number
 pub record Turned (t : Tree) (i : ℕ) (n : ℕ) : Type 0 where
   pub within : i < node_count t
   pub splits : children_left t i n ≡ (key_in t i, i, subtree t i) ∷ children_left t (i + 1 + below (subtree t i)) (n - 1)

@@ -6,7 +6,7 @@ use Rattle.std.proofs.lemmas.Bool.Decides.{eqb_tells}
 use Rattle.sj_json.specs.Tree.{Tree, null, truth, string, number, array, object, Items, no_items, item, Members, no_members, member, below, items_size, members_size}
 use Rattle.sj_doc.specs.declared.node.Kind.TheVariants as kinds
 use Rattle.sj_doc.specs.Tours.{Visited, enter, leave, tour, item_tours, member_tours}
-use Rattle.sj_doc.specs.Stops.{Place, Stop, arrive, depart, stops, item_stops, member_stops, visit, begins, ends, Leads, visits_from}
+use Rattle.sj_doc.specs.Stops.{TourPosition, Stop, arrive, depart, stops, item_stops, member_stops, visit, begins, ends, Leads, visits_from}
 
 -- ---- the visits
 
@@ -37,14 +37,14 @@ mutual
 
 -- ---- where they lead
 
-leads-append : (x y z : Place) (xs ys : List Stop) → Leads x xs y → Leads y ys z → Leads x (xs ++ ys) z
-leads-append x y z [] ys h g = subst (λ (w : Place). Leads w ys z) (sym h) g
+leads-append : (x y z : TourPosition) (xs ys : List Stop) → Leads x xs y → Leads y ys z → Leads x (xs ++ ys) z
+leads-append x y z [] ys h g = subst (λ (w : TourPosition). Leads w ys z) (sym h) g
 leads-append x y z (s ∷ xs) ys h g = (h.0, leads-append (ends s) y z xs ys h.1 g)
 
-moved : (a b d p : ℕ) (z : Place) (ss : List Stop) → a ≡ b → Leads (a, d, p) ss z → Leads (b, d, p) ss z
+moved : (a b d p : ℕ) (z : TourPosition) (ss : List Stop) → a ≡ b → Leads (a, d, p) ss z → Leads (b, d, p) ss z
 moved a b d p z ss e h = subst (λ (x : ℕ). Leads (x, d, p) ss z) e h
 
-ended : (a b d p : ℕ) (x : Place) (ss : List Stop) → a ≡ b → Leads x ss (a, d, p) → Leads x ss (b, d, p)
+ended : (a b d p : ℕ) (x : TourPosition) (ss : List Stop) → a ≡ b → Leads x ss (a, d, p) → Leads x ss (b, d, p)
 ended a b d p x ss e h = subst (λ (y : ℕ). Leads x ss (y, d, p)) e h
 
 mutual
@@ -168,7 +168,7 @@ mutual
       let j = i + 1 + below t in
       ordered-append i j (j + members_size ms) d (stops d p (Some k) i t) (member_stops d p j ms) (ordered_all d p (Some k) i t) (ordered_members d p j ms) (between_all d p (Some k) i t) (between_members d p j ms)
 
--- ---- a place is that of one stop alone
+-- ---- a position is that of one stop alone
 
 other_place : (a b d e : ℕ) → (a ≡ b → d ≡ e → ⊥) → ((a == b) && (d == e)) ≡ false
 other_place a b d e h =

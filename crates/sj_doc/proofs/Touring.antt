@@ -12,7 +12,7 @@ use Rattle.sj_doc.specs.declared.node.Kind.{Kind}
 use Rattle.sj_doc.specs.declared.node.Kind.TheVariants as kinds
 use Rattle.sj_doc.specs.Kinds.{kind_of}
 use Rattle.sj_doc.specs.Tours.{Visited, enter, leave, leaf, tour}
-use Rattle.sj_doc.specs.Stops.{Place, Stop, arrive, depart, stops, item_stops, member_stops, arrival, visit, begins, beyond, ends, Leads, visits_from, up_of, stops_of, tour_left, IsTour, key_in}
+use Rattle.sj_doc.specs.Stops.{TourPosition, Stop, arrive, depart, stops, item_stops, member_stops, arrival, visit, begins, beyond, ends, Leads, visits_from, up_of, stops_of, tour_left, IsTour, key_in}
 use Rattle.sj_doc.proofs.Docs.{layout-cons}
 use Rattle.sj_doc.proofs.Listing.{same_laid}
 use Rattle.sj_doc.proofs.Ups.{length-ups, ups_at}
@@ -150,7 +150,7 @@ module _ (t : Tree) (first : ℕ) where
 
 -- ---- the next stop
 
-abbrev final : Tree → ℕ → Place
+abbrev final : Tree → ℕ → TourPosition
 final t first = (first + 1 + below (subtree t first), 0, first - up_of t first)
 
 -- where a container is open: its nodes end before those of the document
@@ -170,16 +170,16 @@ pub record Leaving (t : Tree) (first : ℕ) (at : ℕ) (inner : ℕ) (depth : �
   pub left : visits_from at depth (stops_of t first) ≡ leave (kind_of (subtree t inner)) ∷ visits_from at (depth - 1) (stops_of t first)
   pub after : IsTour t first at (inner - up_of t inner) (depth - 1)
 
-abbrev pub place_after : Tree → ℕ → ℕ → ℕ → Place
-place_after t at inner depth = beyond at depth inner (subtree t at)
+abbrev pub position_after : Tree → ℕ → ℕ → ℕ → TourPosition
+position_after t at inner depth = beyond at depth inner (subtree t at)
 
 -- where a node is handed out
 pub record Arriving (t : Tree) (first : ℕ) (at : ℕ) (inner : ℕ) (depth : ℕ) (key : Option (List ℕ)) : Type 0 where
   pub within : at < node_count t
   pub begun : first ≤ at
   pub small : depth ≤ 2 * at
-  pub left : visits_from at depth (stops_of t first) ≡ arrival key at (subtree t at) ∷ visits_from (place_after t at inner depth).0 (place_after t at inner depth).1 (stops_of t first)
-  pub after : IsTour t first (place_after t at inner depth).0 (place_after t at inner depth).2 (place_after t at inner depth).1
+  pub left : visits_from at depth (stops_of t first) ≡ arrival key at (subtree t at) ∷ visits_from (position_after t at inner depth).0 (position_after t at inner depth).1 (stops_of t first)
+  pub after : IsTour t first (position_after t at inner depth).0 (position_after t at inner depth).2 (position_after t at inner depth).1
 
 abbrev pub shown_key : Tree → ℕ → ℕ → Option (List ℕ)
 shown_key t at depth = cond (depth == 0) None (key_in t at)
@@ -188,9 +188,9 @@ module _ (t : Tree) (first : ℕ) (in_range : first < node_count t) where
   -- the view, from the stops that are left
   left_is : (at depth inner : ℕ) (before after : List Stop) → stops_of t first ≡ before ++ after → Leads (at, depth, inner) after (final t first) → visits_from at depth (stops_of t first) ≡ map visit after
   left_is at depth inner before [] splits leads =
-      ap (λ (p : Place). visits_from p.0 p.1 (stops_of t first)) leads ∙ from_end first (first + 1 + below (subtree t first)) 0 (stops_of t first) (between_all 0 (first - up_of t first) None first (subtree t first))
+      ap (λ (p : TourPosition). visits_from p.0 p.1 (stops_of t first)) leads ∙ from_end first (first + 1 + below (subtree t first)) 0 (stops_of t first) (between_all 0 (first - up_of t first) None first (subtree t first))
   left_is at depth inner before (s ∷ ss) splits leads =
-      ap (λ (p : Place). visits_from p.0 p.1 (stops_of t first)) (sym leads.0) ∙ ap (visits_from (begins s).0 (begins s).1) splits
+      ap (λ (p : TourPosition). visits_from p.0 p.1 (stops_of t first)) (sym leads.0) ∙ ap (visits_from (begins s).0 (begins s).1) splits
       ∙ from_here before ss s (subst Ordered splits (ordered_all 0 (first - up_of t first) None first (subtree t first)))
 
   good_here : (before after : List Stop) (s : Stop) → stops_of t first ≡ before ++ s ∷ after → Good t first s
@@ -203,7 +203,7 @@ module _ (t : Tree) (first : ℕ) (in_range : first < node_count t) where
     before = before ++ s ∷ [];
     after = after;
     splits = splits ∙ sym (append_assoc before (s ∷ []) after);
-    leads = subst (λ (p : Place). Leads p after (final t first)) e leads;
+    leads = subst (λ (p : TourPosition). Leads p after (final t first)) e leads;
   }
 
   -- what follows the stop s
@@ -211,7 +211,7 @@ module _ (t : Tree) (first : ℕ) (in_range : first < node_count t) where
       → visits_from at depth (stops_of t first) ≡ visit s ∷ visits_from to_at to_depth (stops_of t first)
   follows at depth inner to_at to_depth to_inner before after s splits leads e =
       left_is at depth inner before (s ∷ after) splits leads
-      ∙ ap (λ (x : List Visited). visit s ∷ x) (sym (left_is to_at to_depth to_inner (before ++ s ∷ []) after (splits ∙ sym (append_assoc before (s ∷ []) after)) (subst (λ (p : Place). Leads p after (final t first)) e leads.1)))
+      ∙ ap (λ (x : List Visited). visit s ∷ x) (sym (left_is to_at to_depth to_inner (before ++ s ∷ []) after (splits ∙ sym (append_assoc before (s ∷ []) after)) (subst (λ (p : TourPosition). Leads p after (final t first)) e leads.1)))
 
   between_here : (before after : List Stop) (s : Stop) → stops_of t first ≡ before ++ s ∷ after → Between first (first + 1 + below (subtree t first)) 0 s
   between_here before after s splits =
@@ -221,40 +221,40 @@ module _ (t : Tree) (first : ℕ) (in_range : first < node_count t) where
   done_of at depth inner before [] splits leads e n = left_is at depth inner before [] splits leads
   done_of at depth inner before (arrive a d p k v ∷ ss) splits leads e n =
       let g = good_here before ss (arrive a d p k v) splits in
-      let at_is : a ≡ at = ap (λ (x : Place). x.0) leads.0 in
-      let depth_is : d ≡ depth = ap (λ (x : Place). x.1) leads.0 in
+      let at_is : a ≡ at = ap (λ (x : TourPosition). x.0) leads.0 in
+      let depth_is : d ≡ depth = ap (λ (x : TourPosition). x.1) leads.0 in
       absurd (n (sym at_is ∙ (g.3 (depth_is ∙ e)).1))
   done_of at depth inner before (depart a d p o kind ∷ ss) splits leads e n =
-      let depth_is : d + 1 ≡ depth = ap (λ (x : Place). x.1) leads.0 in
+      let depth_is : d + 1 ≡ depth = ap (λ (x : TourPosition). x.1) leads.0 in
       absurd (omega (arith, depth_is, e))
 
   open_of : (at depth inner : ℕ) (before after : List Stop) → stops_of t first ≡ before ++ after → Leads (at, depth, inner) after (final t first) → 0 < depth → Open t inner
-  open_of at depth inner before [] splits leads h = let depth_is : depth ≡ 0 = ap (λ (x : Place). x.1) leads in absurd (omega (arith, depth_is))
+  open_of at depth inner before [] splits leads h = let depth_is : depth ≡ 0 = ap (λ (x : TourPosition). x.1) leads in absurd (omega (arith, depth_is))
   open_of at depth inner before (arrive a d p k v ∷ ss) splits leads h =
       let g = good_here before ss (arrive a d p k v) splits in
-      let depth_is : d ≡ depth = ap (λ (x : Place). x.1) leads.0 in
+      let depth_is : d ≡ depth = ap (λ (x : TourPosition). x.1) leads.0 in
       let in_node = g.4 (omega (arith, depth_is)) in
-      open_at t p inner in_node.0 in_node.1 in_node.2 (ap (λ (x : Place). x.2) leads.0)
+      open_at t p inner in_node.0 in_node.1 in_node.2 (ap (λ (x : TourPosition). x.2) leads.0)
   open_of at depth inner before (depart a d p o kind ∷ ss) splits leads h =
       let g = good_here before ss (depart a d p o kind) splits in
-      open_at t p inner g.0 g.1 g.2 (ap (λ (x : Place). x.2) leads.0)
+      open_at t p inner g.0 g.1 g.2 (ap (λ (x : TourPosition). x.2) leads.0)
 
   leaves_of : (at depth inner : ℕ) (before after : List Stop) → stops_of t first ≡ before ++ after → Leads (at, depth, inner) after (final t first) → 0 < depth → at ≡ inner + 1 + below (subtree t inner) → Leaving t first at inner depth
-  leaves_of at depth inner before [] splits leads h e = let depth_is : depth ≡ 0 = ap (λ (x : Place). x.1) leads in absurd (omega (arith, depth_is))
+  leaves_of at depth inner before [] splits leads h e = let depth_is : depth ≡ 0 = ap (λ (x : TourPosition). x.1) leads in absurd (omega (arith, depth_is))
   leaves_of at depth inner before (arrive a d p k v ∷ ss) splits leads h e =
       let g = good_here before ss (arrive a d p k v) splits in
-      let at_is : a ≡ at = ap (λ (x : Place). x.0) leads.0 in
-      let depth_is : d ≡ depth = ap (λ (x : Place). x.1) leads.0 in
-      let inner_is : p ≡ inner = ap (λ (x : Place). x.2) leads.0 in
+      let at_is : a ≡ at = ap (λ (x : TourPosition). x.0) leads.0 in
+      let depth_is : d ≡ depth = ap (λ (x : TourPosition). x.1) leads.0 in
+      let inner_is : p ≡ inner = ap (λ (x : TourPosition). x.2) leads.0 in
       let in_node = g.4 (omega (arith, depth_is)) in
       let size : below (subtree t inner) ≡ below in_node.1 = ap (λ (i : ℕ). below (subtree t i)) (sym inner_is) ∙ ap below (lies_tree t p in_node.0 in_node.1 in_node.2) in
       absurd (omega (arith, in_node.3, size, at_is, inner_is, e))
   leaves_of at depth inner before (depart a d p o kind ∷ ss) splits leads h e =
       let s = depart a d p o kind in
       let g = good_here before ss s splits in
-      let at_is : a ≡ at = ap (λ (x : Place). x.0) leads.0 in
-      let depth_is : d + 1 ≡ depth = ap (λ (x : Place). x.1) leads.0 in
-      let inner_is : p ≡ inner = ap (λ (x : Place). x.2) leads.0 in
+      let at_is : a ≡ at = ap (λ (x : TourPosition). x.0) leads.0 in
+      let depth_is : d + 1 ≡ depth = ap (λ (x : TourPosition). x.1) leads.0 in
+      let inner_is : p ≡ inner = ap (λ (x : TourPosition). x.2) leads.0 in
       let fewer : d ≡ depth - 1 = omega (arith, depth_is) in
       let outer_is : o ≡ inner - up_of t inner = sym g.5 ∙ ap (λ (i : ℕ). i - up_of t i) inner_is in
       let to : ends s ≡ (at, depth - 1, inner - up_of t inner) = ap (λ (x : ℕ). (x, d, o)) at_is ∙ ap (λ (x : ℕ). (at, x, o)) fewer ∙ ap (λ (x : ℕ). (at, depth - 1, x)) outer_is in
@@ -268,31 +268,31 @@ module _ (t : Tree) (first : ℕ) (in_range : first < node_count t) where
   arrives_of : (at depth inner : ℕ) (before after : List Stop) → stops_of t first ≡ before ++ after → Leads (at, depth, inner) after (final t first) → (depth ≡ 0 → at ≡ first) → (0 < depth → at ≢ inner + 1 + below (subtree t inner))
       → Arriving t first at inner depth (shown_key t at depth)
   arrives_of at depth inner before [] splits leads top not_end =
-      let at_is : at ≡ first + 1 + below (subtree t first) = ap (λ (x : Place). x.0) leads in
-      let depth_is : depth ≡ 0 = ap (λ (x : Place). x.1) leads in
+      let at_is : at ≡ first + 1 + below (subtree t first) = ap (λ (x : TourPosition). x.0) leads in
+      let depth_is : depth ≡ 0 = ap (λ (x : TourPosition). x.1) leads in
       absurd (omega (arith, at_is, top depth_is))
   arrives_of at depth inner before (depart a d p o kind ∷ ss) splits leads top not_end =
       let g = good_here before ss (depart a d p o kind) splits in
-      let at_is : a ≡ at = ap (λ (x : Place). x.0) leads.0 in
-      let depth_is : d + 1 ≡ depth = ap (λ (x : Place). x.1) leads.0 in
-      let inner_is : p ≡ inner = ap (λ (x : Place). x.2) leads.0 in
+      let at_is : a ≡ at = ap (λ (x : TourPosition). x.0) leads.0 in
+      let depth_is : d + 1 ≡ depth = ap (λ (x : TourPosition). x.1) leads.0 in
+      let inner_is : p ≡ inner = ap (λ (x : TourPosition). x.2) leads.0 in
       let size : below (subtree t inner) ≡ below g.1 = ap (λ (i : ℕ). below (subtree t i)) (sym inner_is) ∙ ap below (lies_tree t p g.0 g.1 g.2) in
       absurd (not_end (omega (arith, depth_is)) (omega (arith, g.4, size, at_is, inner_is)))
   arrives_of at depth inner before (arrive a d p k v ∷ ss) splits leads top not_end =
       let s = arrive a d p k v in
       let g = good_here before ss s splits in
-      let at_is : a ≡ at = ap (λ (x : Place). x.0) leads.0 in
-      let depth_is : d ≡ depth = ap (λ (x : Place). x.1) leads.0 in
-      let inner_is : p ≡ inner = ap (λ (x : Place). x.2) leads.0 in
+      let at_is : a ≡ at = ap (λ (x : TourPosition). x.0) leads.0 in
+      let depth_is : d ≡ depth = ap (λ (x : TourPosition). x.1) leads.0 in
+      let inner_is : p ≡ inner = ap (λ (x : TourPosition). x.2) leads.0 in
       let tree_is : v ≡ subtree t at = sym (lies_tree t a g.0 v g.1) ∙ ap (subtree t) at_is in
       let key_is : k ≡ shown_key t at depth =
       elim (eqb_tells depth 0) as (λ _. k ≡ shown_key t at depth) [
         | inl z ↦ (g.3 (depth_is ∙ z.1)).0 ∙ ap (λ (x : Bool). cond x None (key_in t at)) (sym z.0)
         | inr z ↦ g.2 (omega (arith, depth_is, z.1)) ∙ sym (lies_key t a g.0 v g.1) ∙ ap (key_in t) at_is ∙ ap (λ (x : Bool). cond x None (key_in t at)) (sym z.0)
       ] in
-      let to : ends s ≡ place_after t at inner depth =
+      let to : ends s ≡ position_after t at inner depth =
       ap (λ (x : ℕ). beyond x d p v) at_is ∙ ap (λ (x : ℕ). beyond at x p v) depth_is ∙ ap (λ (x : ℕ). beyond at depth x v) inner_is ∙ ap (λ (x : Tree). beyond at depth inner x) tree_is in
-      let x = place_after t at inner depth in
+      let x = position_after t at inner depth in
       record {
         within = subst (λ (i : ℕ). i < node_count t) at_is (lies_within t a g.0 v g.1);
         begun = omega (arith, (between_here before ss s splits).0, at_is);

@@ -1,11 +1,13 @@
 -- What the fields of a `DocBuilder` stand for.
-use Rattle.std.specs.Prelude.{◌≡◌, ℕ, ◌≤◌, ◌<◌, ◌^◌, List, ◌++◌, length, Option, option_map, IfSome}
+use Rattle.std.specs.Prelude.{◌≡◌, ℕ, ◌+◌, ◌-◌, ◌≤◌, ◌<◌, ◌^◌, List, [], ◌∷◌, ◌++◌, length, Option, None, option_map, IfSome}
 use Rattle.std.specs.List.{AllByRecursion}
 use Rattle.std.specs.Coded.{Coded, coded×, coded_list, coded_ℕ}
 use Rattle.sj_json.specs.Coding.{state_code}
 use Rattle.sj_json.specs.Building.{Part, State, IsState, laid, part_key, part_kids, place, state_of}
 use Rattle.sj_doc.specs.declared.node.Span.{Span}
 use Rattle.sj_doc.specs.declared.node.Node.{Node}
+use Rattle.sj_doc.specs.declared.node.Body.{Body}
+use Rattle.sj_doc.specs.declared.builder.OpenTree.{OpenTree}
 use Rattle.sj_json.specs.Links.{laid_ups}
 use Rattle.sj_doc.specs.Nodes.{text_in, entries, links, IsSpan, IsNode}
 
@@ -38,9 +40,51 @@ pub record IsBuilder (arena : List ℕ) (nodes : List Node) (key : Option Span) 
   pub small : length nodes ≤ 2 ^ 25
   pub narrow : length arena < 2 ^ 32
 
+abbrev pub IsOpenTree : List ℕ → OpenTree → Type 0
+IsOpenTree arena t = IsBuilder arena t.nodes.items t.key t.inner t.count t.depth
+
+abbrev pub built_tree : List ℕ → OpenTree → State
+built_tree arena t = built arena t.nodes.items t.key
+
 -- x was put at the end of the text, and the span has it
 pub record Stores (old : List ℕ) (new : List ℕ) (x : List ℕ) (s : Span) : Type 0 where
   pub grown : new ≡ old ++ x
   pub narrow : length new < 2 ^ 32
   pub fits : IsSpan new s
   pub same : text_in new s ≡ x
+
+-- a range by its ends
+pub record IsBetween (from : ℕ) (to : ℕ) (s : Span) : Type 0 where
+  pub start : s.start ≡ from
+  pub len : s.len ≡ to - from
+
+-- ---- the nodes of a builder, whatever its text
+
+-- there is room for a node
+pub record HasRoom (t : OpenTree) : Type 0 where
+  pub few : length t.nodes.items < 2 ^ 25
+  pub within : t.inner ≤ length t.nodes.items
+  pub counted : t.count ≤ length t.nodes.items
+
+-- no node, and nothing is open
+pub record IsEmpty (nodes : List Node) (t : OpenTree) : Type 0 where
+  pub nodes_are : t.nodes.items ≡ nodes
+  pub key_is : t.key ≡ None
+  pub inner_is : t.inner ≡ 0
+  pub count_is : t.count ≡ 0
+  pub depth_is : t.depth ≡ 0
+
+-- the node comes last, under the key that was given, and is one more child of the innermost container
+pub record Adds (t : OpenTree) (body : Body) (u : OpenTree) : Type 0 where
+  pub nodes_are : u.nodes.items ≡ t.nodes.items ++ record { key = t.key; up = length t.nodes.items - t.inner; body = body } ∷ []
+  pub key_is : u.key ≡ None
+  pub inner_is : u.inner ≡ t.inner
+  pub count_is : u.count ≡ t.count + 1
+  pub depth_is : u.depth ≡ t.depth
+
+pub record Stays (t : OpenTree) (u : OpenTree) : Type 0 where
+  pub nodes_are : u.nodes.items ≡ t.nodes.items
+  pub key_is : u.key ≡ t.key
+  pub inner_is : u.inner ≡ t.inner
+  pub count_is : u.count ≡ t.count
+  pub depth_is : u.depth ≡ t.depth

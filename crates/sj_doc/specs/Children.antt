@@ -1,4 +1,4 @@
--- The children that are left, from a place in the layout of a tree.
+-- The children that are left, from a node in the layout of a tree on.
 use Rattle.std.specs.Prelude.{◌≡◌, ℕ, List, [], ◌∷◌, ◌++◌, length, take, drop, Option, None}
 use Rattle.sj_json.specs.Tree.{Tree, Child, numbered}
 use Rattle.sj_json.specs.Cells.{Entry, layout, Spine, last, into, spine}
@@ -7,7 +7,7 @@ abbrev pub first_kids : Spine → List Child
 first_kids (last ks) = ks
 first_kids (into ks k kind s) = ks
 
--- all trees that begin at the place or later and stand in no other of them
+-- all trees that begin at the node or later and stand in no other of them
 abbrev pub kids_at : Tree → ℕ → List Child
 kids_at t i = first_kids (spine (drop i (layout None t)) (last []))
 

@@ -3,7 +3,7 @@ pub mod Kinds
 pub mod Builders
 pub mod Children
 pub mod Keyed
-pub mod Spots
+pub mod FoundMembers
 pub mod Listed
 pub mod Numbers
 pub mod Slots

@@ -18,10 +18,14 @@ text_in arena s = take s.len (drop s.start arena)
 abbrev pub spelled : List ℕ → Number
 spelled b = unwrap_or (number_of b) (wide b)
 
--- a number as a document may keep it: where its text has more than 64 bytes, its value is not exact, so none has to be read
+-- the greatest length of a number whose text is kept before it is known whether its value is exact
+abbrev pub longest_kept : ℕ
+longest_kept = 64
+
+-- a number as a document may keep it: where its text is longer, its value is not exact, so none has to be read
 pub record IsNumeral (b : List ℕ) : Type 0 where
   pub number : IsNumber b
-  pub long : 64 < length b → SpellsWide b
+  pub long : longest_kept < length b → SpellsWide b
 
 abbrev pub cell_of : List ℕ → Body → Cell
 cell_of arena Null = null_cell

@@ -1,4 +1,4 @@
--- The visits of a tour, each with the place that it is made from. A `Tour` keeps such a place alone.
+-- The visits of a tour, each with the position that it is made from. A `Tour` keeps such a position alone.
 use Rattle.std.specs.Prelude.{◌≡◌, ℕ, ◌+◌, ◌-◌, ◌<◌, List, [], ◌∷◌, ◌++◌, map, get_or, nat_lt, cond, ◌==◌, ◌&&◌, Option, None, Some}
 use Rattle.sj_json.specs.Tree.{Tree, null, truth, string, number, array, object, Items, no_items, item, Members, no_members, member, below, items_size, members_size, subtree, node_count}
 use Rattle.sj_json.specs.Cells.{null_cell, layout}
@@ -8,8 +8,8 @@ use Rattle.sj_doc.specs.declared.node.Kind.{Kind}
 use Rattle.sj_doc.specs.declared.node.Kind.TheVariants as kinds
 
 -- the next node, how many containers are open in the tour, and the innermost of them
-abbrev pub Place : Type 0
-Place = ℕ × ℕ × ℕ
+abbrev pub TourPosition : Type 0
+TourPosition = ℕ × ℕ × ℕ
 
 pub data Stop : Type 0 where
   -- at a node, under a key: its number, how many containers are open, the innermost, key and tree
@@ -47,12 +47,12 @@ abbrev pub visit : Stop → Visited
 visit (arrive a d p k t) = arrival k a t
 visit (depart a d p o kind) = leave kind
 
-abbrev pub begins : Stop → Place
+abbrev pub begins : Stop → TourPosition
 begins (arrive a d p k t) = (a, d, p)
 begins (depart a d p o kind) = (a, d + 1, p)
 
--- the place after an arrival at a tree
-abbrev pub beyond : ℕ → ℕ → ℕ → Tree → Place
+-- the position after an arrival at a tree
+abbrev pub beyond : ℕ → ℕ → ℕ → Tree → TourPosition
 beyond a d p null = (a + 1, d, p)
 beyond a d p (truth b) = (a + 1, d, p)
 beyond a d p (string s) = (a + 1, d, p)
@@ -60,12 +60,12 @@ beyond a d p (number v) = (a + 1, d, p)
 beyond a d p (array ts) = (a + 1, d + 1, a)
 beyond a d p (object ms) = (a + 1, d + 1, a)
 
-abbrev pub ends : Stop → Place
+abbrev pub ends : Stop → TourPosition
 ends (arrive a d p k t) = beyond a d p t
 ends (depart a d p o kind) = (a, d, o)
 
--- each stop is made from the place where the one before it ends
-abbrev pub Leads : Place → List Stop → Place → Type 0
+-- each stop is made from the position where the one before it ends
+abbrev pub Leads : TourPosition → List Stop → TourPosition → Type 0
 Leads x [] y = x ≡ y
 Leads x (s ∷ ss) y = (begins s ≡ x) × Leads (ends s) ss y
 

@@ -1,10 +1,10 @@
 // A document while it is being built.
-ghost use Rattle.std.specs.Prelude.{◌≡◌, ◌+◌, ◌-◌, ◌^◌, ◌<◌, ◌≤◌, ◌++◌, ◌∷◌, length, IsUtf8, [], IfOk, OnOk, OnErr, Some, true, false};
+ghost use Rattle.std.specs.Prelude.{◌≡◌, ◌+◌, ◌-◌, ◌^◌, ◌<◌, ◌≤◌, ◌++◌, ◌∷◌, length, IsUtf8, [], IfOk, OnOk, OnErr, MatchResult, Some, true, false};
 ghost use Rattle.sj_decimal.specs.Number.{SpellsWide};
 ghost use Rattle.sj_decimal.specs.Shorts.{between};
 ghost use Rattle.sj_json.specs.Tree.{null, truth, string, number, exact, wide};
 ghost use Rattle.sj_json.specs.Building.{fresh, TakesValue, TakesKey, TakesClose, with_value, with_key, with_open, with_close, IsComplete, top};
-ghost use Rattle.sj_doc.specs.Builders.{node_total, Stores};
+ghost use Rattle.sj_doc.specs.Builders.{node_total, IsBetween, Stores, HasRoom, IsEmpty, Adds, Stays};
 ghost use Rattle.sj_doc.specs.Nodes.{IsNumeral, spelled};
 ghost use Rattle.sj_doc.specs.Kinds.{want_of};
 
@@ -14,6 +14,19 @@ use sj_base::Memory;
 use sj_decimal::Decimal;
 use std::alloc::Global;
 use std::marker::Model;
+
+// The nodes so far, and what the next one needs.
+#[derive(Drop)]
+struct OpenTree {
+    nodes: Vec<Node>,
+    // the key whose value comes next
+    key: Option<Span>,
+    // the node of the innermost open container, 0 where none is open
+    inner: u32,
+    // how many children it has so far; where none is open, how many roots
+    count: u32,
+    depth: u32,
+}
 
 /// A document while it is being built, from its first token to its last. Contracts see what the innermost
 /// open container holds so far, then the same of those around it, from the inside out, and the line that it
@@ -28,27 +41,20 @@ pub struct DocBuilder {
     arena: Vec<u8>,
     // the length of the line
     line: u32,
-    nodes: Vec<Node>,
-    // the key whose value comes next
-    key: Option<Span>,
-    // the node of the innermost open container, 0 where none is open
-    inner: u32,
-    // how many children it has so far; where none is open, how many roots
-    count: u32,
-    depth: u32,
+    tree: OpenTree,
 }
 
 impl Model for DocBuilder {
     ghost use Rattle.std.specs.Prelude.{ℕ, ◌≤◌, take, length};
-    ghost use Rattle.sj_doc.specs.Builders.{Building, building_code, built, IsBuilder};
+    ghost use Rattle.sj_doc.specs.Builders.{Building, building_code, built_tree, IsOpenTree};
 
     ghost Value = { Building };
 
     ghost coded = { building_code };
 
-    ghost view = { λ b. (built b.arena.items b.nodes.items b.key, take b.line b.arena.items) };
+    ghost view = { λ b. (built_tree b.arena.items b.tree, take b.line b.arena.items) };
 
-    ghost invariant = { λ b. IsBuilder b.arena.items b.nodes.items b.key b.inner b.count b.depth × (b.line ≤ length b.arena.items) };
+    ghost invariant = { λ b. IsOpenTree b.arena.items b.tree × (b.line ≤ length b.arena.items) };
 }
 
 // `Vec::push`, which is called only where there is no room: else the item is written in place.
@@ -83,6 +89,48 @@ fn store(arena: &mut Vec<u8>, s: &str) -> Result<Span, Memory>
     })
 }
 
+// The range from the one place up to the other.
+#[inline(always)]
+fn span_between(from: usize, to: usize) -> Span
+    requires later { from ≤ to }
+    requires narrow { to < 2 ^ 32 }
+    ensures { IsBetween from to result }
+{
+    Span {
+        start: from as u32,
+        len: (to - from) as u32,
+    }
+}
+
+impl OpenTree {
+    // No node, over the memory of these.
+    fn over(nodes: Vec<Node>) -> OpenTree
+        ensures { IsEmpty nodes.items result }
+    {
+        OpenTree {
+            nodes,
+            key: None,
+            inner: 0,
+            count: 0,
+            depth: 0,
+        }
+    }
+
+    // A node at the end, under the key that was given, if one was.
+    #[inline(always)]
+    fn add(&mut self, body: Body) -> Result<(), Memory>
+        requires { HasRoom self.old }
+        ensures { MatchResult result (λ _. Adds self.old body self.new) (λ _. Stays self.old self.new) }
+    {
+        let up = self.nodes.len() as u32 - self.inner;
+        let key = self.key;
+        push_in(&mut self.nodes, Node { key, up, body })?;
+        self.key = None;
+        self.count += 1;
+        Ok(())
+    }
+}
+
 impl DocBuilder {
     /// An empty builder. It takes no memory yet.
     pub fn new(alloc: Global) -> DocBuilder
@@ -100,11 +148,7 @@ impl DocBuilder {
         DocBuilder {
             arena,
             line: 0,
-            nodes,
-            key: None,
-            inner: 0,
-            count: 0,
-            depth: 0,
+            tree: OpenTree::over(nodes),
         }
     }
 
@@ -115,20 +159,16 @@ impl DocBuilder {
     {
         let DocBuilder {
             mut arena,
-            mut nodes,
+            mut tree,
             ..
         } = self;
         arena.clear();
-        nodes.clear();
+        tree.nodes.clear();
         store(&mut arena, line)?;
         Ok(DocBuilder {
             arena,
             line: line.len() as u32,
-            nodes,
-            key: None,
-            inner: 0,
-            count: 0,
-            depth: 0,
+            tree: OpenTree::over(tree.nodes),
         })
     }
 
@@ -140,13 +180,7 @@ impl DocBuilder {
         ensures ok { OnOk result (self.new ≡ (with_value null self.old.0, self.old.1)) }
         ensures err { OnErr result (self.new ≡ self.old) }
     {
-        let up = self.nodes.len() as u32 - self.inner;
-        let key = self.key;
-        let body = Body::Null;
-        push_in(&mut self.nodes, Node { key, up, body })?;
-        self.key = None;
-        self.count += 1;
-        Ok(())
+        self.tree.add(Body::Null)
     }
 
     /// A truth value.
@@ -157,13 +191,7 @@ impl DocBuilder {
         ensures ok { OnOk result (self.new ≡ (with_value (truth b) self.old.0, self.old.1)) }
         ensures err { OnErr result (self.new ≡ self.old) }
     {
-        let up = self.nodes.len() as u32 - self.inner;
-        let key = self.key;
-        let body = Body::Truth(b);
-        push_in(&mut self.nodes, Node { key, up, body })?;
-        self.key = None;
-        self.count += 1;
-        Ok(())
+        self.tree.add(Body::Truth(b))
     }
 
     /// A string.
@@ -175,13 +203,7 @@ impl DocBuilder {
         ensures err { OnErr result (self.new ≡ self.old) }
     {
         let span = store(&mut self.arena, s)?;
-        let up = self.nodes.len() as u32 - self.inner;
-        let key = self.key;
-        let body = Body::Text(span);
-        push_in(&mut self.nodes, Node { key, up, body })?;
-        self.key = None;
-        self.count += 1;
-        Ok(())
+        self.tree.add(Body::Text(span))
     }
 
     /// A string that stands in the line, from the one place up to the other.
@@ -194,17 +216,7 @@ impl DocBuilder {
         ensures ok { OnOk result (self.new ≡ (with_value (string (between self.old.1 from to)) self.old.0, self.old.1)) }
         ensures err { OnErr result (self.new ≡ self.old) }
     {
-        let up = self.nodes.len() as u32 - self.inner;
-        let key = self.key;
-        let span = Span {
-            start: from as u32,
-            len: (to - from) as u32,
-        };
-        let body = Body::Text(span);
-        push_in(&mut self.nodes, Node { key, up, body })?;
-        self.key = None;
-        self.count += 1;
-        Ok(())
+        self.tree.add(Body::Text(span_between(from, to)))
     }
 
     /// An exact number.
@@ -239,13 +251,7 @@ impl DocBuilder {
         ensures err { OnErr result (self.new ≡ self.old) }
     {
         let span = store(&mut self.arena, spelling)?;
-        let up = self.nodes.len() as u32 - self.inner;
-        let key = self.key;
-        let body = Body::Numeral(span);
-        push_in(&mut self.nodes, Node { key, up, body })?;
-        self.key = None;
-        self.count += 1;
-        Ok(())
+        self.tree.add(Body::Numeral(span))
     }
 
     /// A number that stands in the line, from the one place up to the other.
@@ -258,17 +264,7 @@ impl DocBuilder {
         ensures ok { OnOk result (self.new ≡ (with_value (number (spelled (between self.old.1 from to))) self.old.0, self.old.1)) }
         ensures err { OnErr result (self.new ≡ self.old) }
     {
-        let up = self.nodes.len() as u32 - self.inner;
-        let key = self.key;
-        let span = Span {
-            start: from as u32,
-            len: (to - from) as u32,
-        };
-        let body = Body::Numeral(span);
-        push_in(&mut self.nodes, Node { key, up, body })?;
-        self.key = None;
-        self.count += 1;
-        Ok(())
+        self.tree.add(Body::Numeral(span_between(from, to)))
     }
 
     /// The key of the next member.
@@ -278,7 +274,7 @@ impl DocBuilder {
         ensures ok { OnOk result (self.new ≡ (with_key s.now self.old.0, self.old.1)) }
         ensures err { OnErr result (self.new ≡ self.old) }
     {
-        self.key = Some(store(&mut self.arena, s)?);
+        self.tree.key = Some(store(&mut self.arena, s)?);
         Ok(())
     }
 
@@ -291,11 +287,8 @@ impl DocBuilder {
         ensures { self.new ≡ (with_key (between self.old.1 from to) self.old.0, self.old.1) }
     {
         // shows the proof that a place in the line has 32 bits
-        let _ = &self.nodes;
-        self.key = Some(Span {
-            start: from as u32,
-            len: (to - from) as u32,
-        });
+        let _ = &self.tree;
+        self.tree.key = Some(span_between(from, to));
     }
 
     /// An array begins.
@@ -327,23 +320,17 @@ impl DocBuilder {
         ensures ok { OnOk result (self.new ≡ (with_open is_object self.old.0, self.old.1)) }
         ensures err { OnErr result (self.new ≡ self.old) }
     {
-        let at = self.nodes.len() as u32;
-        push_in(
-            &mut self.nodes,
-            Node {
-                key: self.key,
-                up: at - self.inner,
-                body: Body::Opened {
-                    is_object,
-                    parent: self.inner,
-                    before: self.count,
-                },
-            },
-        )?;
-        self.key = None;
-        self.inner = at;
-        self.count = 0;
-        self.depth += 1;
+        let at = self.tree.nodes.len() as u32;
+        let parent = self.tree.inner;
+        let before = self.tree.count;
+        self.tree.add(Body::Opened {
+            is_object,
+            parent,
+            before,
+        })?;
+        self.tree.inner = at;
+        self.tree.count = 0;
+        self.tree.depth += 1;
         Ok(())
     }
 
@@ -354,27 +341,27 @@ impl DocBuilder {
         ensures closed { self.new ≡ (with_close self.old.0, self.old.1) }
         ensures total { node_total self.new.0 ≡ node_total self.old.0 }
     {
-        let at = self.inner as usize;
-        let below = (self.nodes.len() - at - 1) as u32;
-        let node = self.nodes[at];
+        let at = self.tree.inner as usize;
+        let below = (self.tree.nodes.len() - at - 1) as u32;
+        let node = self.tree.nodes[at];
         match node.body {
             Body::Opened {
                 is_object,
                 parent,
                 before,
             } => {
-                self.nodes[at] = Node {
+                self.tree.nodes[at] = Node {
                     key: node.key,
                     up: node.up,
                     body: Body::Closed {
                         is_object,
-                        count: self.count,
+                        count: self.tree.count,
                         below,
                     },
                 };
-                self.inner = parent;
-                self.count = before + 1;
-                self.depth -= 1;
+                self.tree.inner = parent;
+                self.tree.count = before + 1;
+                self.tree.depth -= 1;
             }
             _ => unreachable!(),
         }
@@ -385,14 +372,17 @@ impl DocBuilder {
     pub fn wants(&self) -> Want
         ensures { result ≡ want_of self.now.0.0 }
     {
-        if self.depth == 0 {
-            if self.count == 0 {
+        if self.tree.depth == 0 {
+            if self.tree.count == 0 {
                 Want::Value
             } else {
                 Want::Nothing
             }
-        } else if self.nodes[self.inner as usize].body.is_open_object() {
-            match self.key {
+        } else if self.tree.nodes[self.tree.inner as usize]
+            .body
+            .is_open_object()
+        {
+            match self.tree.key {
                 None => Want::KeyOrClose,
                 Some(_) => Want::Value,
             }
@@ -406,7 +396,7 @@ impl DocBuilder {
     pub fn depth(&self) -> u64
         ensures { result ≡ length self.now.0.1 }
     {
-        u64::from(self.depth)
+        u64::from(self.tree.depth)
     }
 
     /// The document, where it is complete. It takes no memory.
@@ -416,7 +406,7 @@ impl DocBuilder {
     {
         Doc {
             arena: self.arena,
-            nodes: self.nodes,
+            nodes: self.tree.nodes,
         }
     }
 }

@@ -3,7 +3,7 @@ ghost use Rattle.std.specs.Prelude.{◌≡◌, ◌-◌, [], ◌∷◌, length, t
 ghost use Rattle.sj_base.specs.Outside.{raised};
 ghost use Rattle.sj_doc.specs.Children.{children_left, IsChildren};
 ghost use Rattle.sj_doc.specs.Keyed.{is_key, from_key};
-ghost use Rattle.sj_doc.specs.Spots.{spots_left, Finds};
+ghost use Rattle.sj_doc.specs.FoundMembers.{left_behind, Finds};
 ghost use Rattle.sj_doc.specs.Listed.{member_of, node_id, node_tree};
 
 use crate::doc::{Doc, Member, NodeRef, text_at};
@@ -35,9 +35,9 @@ impl<'d> Model for Children<'d> {
     ghost invariant = { λ a. IsChildren a.doc.now a.at a.left };
 }
 
-// Where a child under a key is, and the children behind it.
+// The node of a member, and the children behind it.
 #[derive(Clone, Copy, Drop)]
-struct Spot {
+struct FoundMember {
     child: u32,
     next: u32,
     left: u32,
@@ -63,12 +63,18 @@ fn is_named(name: Option<&str>, key: &str) -> bool
     }
 }
 
-// The first child under the key among those that are left from a place on. Its place stays in registers.
+// The first child under the key among those that are left from a node on. What it loops over stays in registers.
 #[inline(always)]
-fn find<L: Ledger>(doc: &Doc, from: u32, left: u32, key: &str, steps: &mut Steps<L>) -> Option<Spot>
+fn find<L: Ledger>(
+    doc: &Doc,
+    from: u32,
+    left: u32,
+    key: &str,
+    steps: &mut Steps<L>,
+) -> Option<FoundMember>
     requires { IsChildren doc.now from left }
-    ensures spot { MatchOption result (from_key key.now (children_left doc.now from left) ≡ []) (Finds doc.now from left key.now) }
-    ensures step { steps.new ≡ raised steps.old (left - spots_left result) }
+    ensures found { MatchOption result (from_key key.now (children_left doc.now from left) ≡ []) (Finds doc.now from left key.now) }
+    ensures step { steps.new ≡ raised steps.old (left - left_behind result) }
 {
     let mut next = from;
     let mut rest = left;
@@ -78,7 +84,7 @@ fn find<L: Ledger>(doc: &Doc, from: u32, left: u32, key: &str, steps: &mut Steps
         rest -= 1;
         steps.tick();
         if is_named(doc.key_at(child), key) {
-            return Some(Spot {
+            return Some(FoundMember {
                 child,
                 next,
                 left: rest,
@@ -114,10 +120,10 @@ impl<'d> Children<'d> {
         ensures step { steps.new ≡ raised steps.old (length self.old - length self.new) }
     {
         match find(self.doc, self.at, self.left, key, steps) {
-            Some(spot) => {
-                self.at = spot.next;
-                self.left = spot.left;
-                Some(self.doc.node_at(spot.child))
+            Some(found) => {
+                self.at = found.next;
+                self.left = found.left;
+                Some(self.doc.node_at(found.child))
             }
             None => {
                 self.left = 0;

@@ -3,6 +3,7 @@ ghost use Rattle.std.specs.Prelude.{◌≡◌, ◌+◌, ◌<◌, ◌≤◌, leng
 ghost use Rattle.std.specs.List.{prefix_len};
 ghost use Rattle.sj_decimal.specs.Number.{begins_number, is_number_byte as number_byte};
 ghost use Rattle.sj_decimal.specs.Shorts.{ReadsNumber};
+ghost use Rattle.sj_doc.specs.Nodes.{longest_kept};
 ghost use Rattle.sj_read.specs.Numerals.{HasDigits, HasWhole, HasFraction, Tells};
 
 use crate::scan::is_number_byte;
@@ -94,7 +95,7 @@ pub(crate) fn plain_number_end(bytes: &[u8], at: usize, c: u8) -> Option<usize>
     requires here { slice_index bytes.now at ≡ c }
     requires begins { begins_number c ≡ true }
     ensures reads { IfSome result (ReadsNumber bytes.now at) }
-    ensures short { IfSome result (λ end. end ≤ at + 64) }
+    ensures short { IfSome result (λ end. end ≤ at + longest_kept) }
 {
     let from = if c == b'-' { at + 1 } else { at };
     let point = whole_end(bytes, from)?;

@@ -12,8 +12,8 @@ end_of-next-requires g c = (turned c.args.doc.now c.children.next c.children.res
 pub key_at-requires : goal.key_at-requires
 key_at-requires g c = (turned c.args.doc.now c.children.next c.children.rest c.children.invariant.lie c.children-test.true).within
 
-pub returns-then-is_named-clause-spot : goal.returns-then-is_named-clause-spot
-returns-then-is_named-clause-spot g c =
+pub returns-then-is_named-clause-found : goal.returns-then-is_named-clause-found
+returns-then-is_named-clause-found g c =
     let t = c.args.doc.now in
     let k = c.args.key.now in
     let i = c.children.next in

@@ -5,7 +5,7 @@ use Rattle.sj_decimal.specs.Shorts.{between, ReadsNumber}
 use Rattle.sj_json.specs.Tree.{number}
 use Rattle.sj_json.specs.Building.{with_value}
 use Rattle.sj_json.specs.Machine.{value}
-use Rattle.sj_doc.specs.Nodes.{spelled}
+use Rattle.sj_doc.specs.Nodes.{spelled, longest_kept}
 use Rattle.sj_doc.proofs.Numerals.{number_spelled}
 use Rattle.sj_read.specs.declared.reader.TheConstants.{MAX_DEPTH}
 use Rattle.sj_read.specs.declared.reader.Mode.TheVariants as modes
@@ -30,7 +30,7 @@ pub number_at-requires-clause-number : goal.number_at-requires-clause-number
 number_at-requires-clause-number c =
     let line = c.args.builder.now.1 in
     let n = c.in-Some.end - c.args.at in
-    let short : n ≤ 64 = omega (arith, (c.in-Some.ensures {u = tt}).short) in
+    let short : n ≤ longest_kept = omega (arith, (c.in-Some.ensures {u = tt}).short) in
     record {
       number = subst (λ (t : List ℕ). IsNumber (between t c.args.at c.in-Some.end)) (sym c.requires.line) (reads (goal.at.number_at-requires-clause-number c).In-Some).number;
       long = λ more. absurd (omega (arith, more, short, length-take n (drop c.args.at line)));

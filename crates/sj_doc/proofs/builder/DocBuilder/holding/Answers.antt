@@ -12,10 +12,10 @@ overflow_cast-result c = omega (arith, ap length (held (goal.at.overflow_cast-re
 
 pub invariant_of-result : goal.invariant_of-result
 invariant_of-result c =
-    ((starts c.store.new.arena.items c.clear-2.new.self.items c.clear-2.ensures.items c.in_ok-store.ensures.ok.narrow).0, omega (arith, ap length (held (goal.at.invariant_of-result c).In_ok-store)))
+    ((starts c.store.new.arena.items _ c.over.result c.over.ensures c.clear-2.ensures.items c.in_ok-store.ensures.ok.narrow).0, omega (arith, ap length (held (goal.at.invariant_of-result c).In_ok-store)))
 
 pub returns : goal.returns
 returns c =
     let line = c.args.line.now in
     let e = held (goal.at.returns c).In_ok-store in
-    both_seen (starts c.store.new.arena.items c.clear-2.new.self.items c.clear-2.ensures.items c.in_ok-store.ensures.ok.narrow).1 (ap (take (length line)) e ∙ take_all (length line) line (omega arith))
+    both_seen (starts c.store.new.arena.items _ c.over.result c.over.ensures c.clear-2.ensures.items c.in_ok-store.ensures.ok.narrow).1 (ap (take (length line)) e ∙ take_all (length line) line (omega arith))

@@ -1,60 +1,27 @@
-use Rattle.std.proofs.Common.{◌≡◌, ℕ, List, [], ◌∷◌, ◌+◌, ◌-◌, ◌≤◌, length, take, None, Result, Ok, Err, OnErr, arith, refl, subst, sym, ap, ◌∙◌}
+use Rattle.std.proofs.Common.{List, ℕ, Some, ap, sym, subst}
 use Rattle.sj_json.specs.Tree.{number}
-use Rattle.sj_json.specs.Building.{with_value}
 use Rattle.sj_doc.specs.declared.node.Body.TheVariants.{Numeral}
-use Rattle.sj_doc.specs.declared.node.Node.{Node}
 use Rattle.sj_doc.specs.Nodes.{IsNumeral, spelled}
-use Rattle.sj_doc.specs.Builders.{built, IsBuilder}
-use Rattle.sj_doc.proofs.Builders.{state_seen, line_seen, both_seen, line_kept, count_small, value_comes, text_comes, IsAlone}
-use Rattle.sj_json.specs.Cells.{number_cell}
+use Rattle.sj_doc.proofs.Builders.{Stands, text_stored, Comes, has_room, scalar_added, kept, on_ok, on_err}
 use Rattle.sj_doc.proofs.builder.DocBuilder.number.Goals as goal
-use Rattle.sj_doc.proofs.builder.DocBuilder.number.Goals.{In_ok-span, In_ok-push_in}
+use Rattle.sj_doc.proofs.builder.DocBuilder.number.Goals.{In_ok-span}
 
-on_err : {T E P : Type 0} (r : Result T E) → P → OnErr r P
-on_err (Ok x) p = tt
-on_err (Err e) p = p
+stored : (c : In_ok-span) → Stands c.store.new.arena.items c.self.inside.line c.self.inside.tree c.args.self.now
+stored c = text_stored _ _ c.self.inside.tree _ (c.self.invariant, c.self.view_is) c.args.spelling.now _ c.in_ok-span.ensures.ok.grown c.in_ok-span.ensures.ok.narrow
 
-stored : (c : In_ok-span) → IsBuilder c.store.new.arena.items c.self.inside.nodes.items c.self.inside.key c.self.inside.inner c.self.inside.count c.self.inside.depth × (built c.store.new.arena.items c.self.inside.nodes.items c.self.inside.key ≡ c.args.self.now.0)
-stored c =
-    let f = c.self.inside in
+added : (c : goal.After-add) → Comes c.store.new.arena.items c.self.inside.line c.add.new.self c.args.self.now (number (spelled c.args.spelling.now)) c.add.result
+added c =
     let st = c.in_ok-span.ensures.ok in
-    let g = text_comes f.arena.items f.nodes.items f.key f.inner f.count f.depth c.self.invariant.0 c.args.spelling.now c.store.new.arena.items st.grown st.narrow in
-    (g.0, g.1 ∙ (state_seen c.self.view_is))
+    scalar_added _ _ c.self.inside.tree _ (stored (goal.at.returns-clause-ok c).In_ok-span) c.requires.room c.requires.wanted (Numeral c.in_ok-span.span) (st.fits, subst IsNumeral (sym st.same) c.requires.number) (number (spelled c.args.spelling.now)) (ap (λ (x : List ℕ). Some (number (spelled x))) st.same) c.add.new.self c.add.result c.add.ensures
 
-both : (c : In_ok-push_in) → IsBuilder c.store.new.arena.items c.push_in.new.list.items None c.self.inside.inner (c.self.inside.count + 1) c.self.inside.depth × (built c.store.new.arena.items c.push_in.new.list.items None ≡ with_value (number (spelled c.args.spelling.now)) c.args.self.now.0)
-both c =
-    let f = c.self.inside in
-    let st = c.in_ok-span.ensures.ok in
-    let g = stored (goal.at-In_ok-push_in c).In_ok-span in
-    let alone : IsAlone c.store.new.arena.items (number (spelled c.args.spelling.now)) (Numeral c.in_ok-span.span) = λ k. ap (λ (x : List ℕ). (k, number_cell (spelled x)) ∷ []) (sym st.same) in
-    value_comes _ _ _ _ _ _ g.0 c.args.self.now.0 g.1 (number (spelled c.args.spelling.now)) (Numeral c.in_ok-span.span) c.requires.wanted c.requires.room alone (λ n. refl) (st.fits, subst IsNumeral (sym st.same) c.requires.number) (c.len.result - c.self.inside.inner) (omega (arith, c.len.ensures, c.self.inside.nodes.ok.0)) c.push_in.new.list.items c.in_ok-push_in.ensures.ok
-
-line : (c : In_ok-span) → (take c.self.inside.line c.store.new.arena.items ≡ take c.self.inside.line c.self.inside.arena.items) × (c.self.inside.line ≤ length c.store.new.arena.items)
-line c = line_kept c.self.inside.arena.items c.args.spelling.now c.store.new.arena.items c.self.inside.line c.self.invariant.1 c.in_ok-span.ensures.ok.grown
-
-pub invariant_of-self-in_err-push_in : goal.invariant_of-self-in_err-push_in
-invariant_of-self-in_err-push_in c =
-    let f = c.self.inside in
-    let p = (goal.at.invariant_of-self-in_err-push_in c).In_ok-span in
-    (subst (λ (ns : List Node). IsBuilder c.store.new.arena.items ns f.key f.inner f.count f.depth) (sym {A = List Node} c.in_err-push_in.ensures.err) (stored p).0, (line p).1)
-
-pub returns-in_err-push_in-clause-err : goal.returns-in_err-push_in-clause-err
-returns-in_err-push_in-clause-err c =
-    let f = c.self.inside in
-    let p = (goal.at.returns-in_err-push_in-clause-err c).In_ok-span in
-    on_err c.from_residual-in_err-push_in.result (both_seen (ap (λ (ns : List Node). built c.store.new.arena.items ns f.key) c.in_err-push_in.ensures.err ∙ (stored p).1) ((line p).0 ∙ line_seen c.self.view_is))
-
-pub overflow_add-self : goal.overflow_add-self
-overflow_add-self c =
-    let f = c.self.inside in
-    omega (arith, count_small f.arena.items f.nodes.items f.key f.inner f.count f.depth c.self.invariant.0 c.args.self.now.0 (state_seen c.self.view_is), c.self.invariant.0.small)
+pub add-requires : goal.add-requires
+add-requires c = has_room _ _ c.self.inside.tree _ (stored (goal.at.add-requires c).In_ok-span) c.requires.room
 
 pub invariant_of-self-2 : goal.invariant_of-self-2
-invariant_of-self-2 c =
-    let p = (goal.at.invariant_of-self-2 c).In_ok-push_in in
-    ((both p).0, (line (goal.at-In_ok-push_in p).In_ok-span).1)
+invariant_of-self-2 c = kept _ _ c.add.new.self _ _ c.add.result (added c)
 
 pub returns-clause-ok : goal.returns-clause-ok
-returns-clause-ok c =
-    let p = (goal.at.returns-clause-ok c).In_ok-push_in in
-    both_seen (both p).1 ((line (goal.at-In_ok-push_in p).In_ok-span).0 ∙ line_seen c.self.view_is)
+returns-clause-ok c = on_ok _ _ c.add.new.self _ _ c.add.result (added c)
+
+pub returns-clause-err : goal.returns-clause-err
+returns-clause-err c = on_err _ _ c.add.new.self _ _ c.add.result (added c)

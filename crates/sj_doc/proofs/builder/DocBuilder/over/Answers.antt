@@ -1,5 +1,5 @@
-use Rattle.std.proofs.Common.{◌<◌, ◌^◌, length, ap, arith}
-use Rattle.sj_doc.proofs.Builders.{starts}
+use Rattle.std.proofs.Common.{◌<◌, ◌^◌, length, ap, arith, refl}
+use Rattle.sj_doc.proofs.Builders.{starts, both_seen}
 use Rattle.sj_doc.proofs.builder.DocBuilder.over.Goals as goal
 use Rattle.sj_doc.proofs.builder.DocBuilder.over.Goals.{Start}
 
@@ -7,4 +7,7 @@ small : (c : Start) → length c.args.arena.items < 2 ^ 32
 small c = omega (arith, ap length c.requires.no_text)
 
 pub invariant_of-result : goal.invariant_of-result
-invariant_of-result c = ((starts c.args.arena.items c.args.nodes.items c.requires.no_nodes (small (goal.at.invariant_of-result c).Start)).0, omega arith)
+invariant_of-result c = ((starts c.args.arena.items c.args.nodes.items c.over.result c.over.ensures c.requires.no_nodes (small (goal.at.invariant_of-result c).Start)).0, omega arith)
+
+pub returns : goal.returns
+returns c = both_seen (starts c.args.arena.items c.args.nodes.items c.over.result c.over.ensures c.requires.no_nodes (small (goal.at.returns c).Start)).1 refl
