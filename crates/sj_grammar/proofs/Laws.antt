@@ -9,7 +9,7 @@ use Rattle.sj_grammar.specs.Grammar.{Tokens, IsPath}
 use Rattle.sj_grammar.specs.Misplaced.{is_misplaced}
 use Rattle.sj_grammar.specs.Unsupported.{unsupported}
 use Rattle.sj_grammar.specs.Answers.{HasTree, Allows, Forbids, Accepts, Refuses}
-use Rattle.sj_grammar.proofs.Words.{some_is}
+use Rattle.sj_grammar.proofs.ReadTokens.{some_is}
 use Rattle.sj_grammar.proofs.Paths as paths
 
 pub one_tree : (text : List ℕ) (p q : Path) → HasTree text p → HasTree text q → p ≡ q

@@ -1,13 +1,13 @@
--- for the lemmas of `Laws`, `Paths` and `Sound`
-pub mod Words
+-- for the lemmas of `Laws`, `Paths` and `Soundness`: what was read at the front of a list of tokens
+pub mod ReadTokens
 -- for the lemmas of `Paths`
-pub mod Sound
--- for the lemmas of `Full`
+pub mod Soundness
+-- for the lemmas of `Completeness`
 pub mod Lengths
--- for the lemmas of `Full` and `Paths`
-pub mod Ends
+-- for the lemmas of `Completeness` and `Paths`
+pub mod ConstructEdges
 -- for the lemmas of `Paths`, and for crates above
-pub mod Full
+pub mod Completeness
 -- for the lemmas of `Acceptance` and `Laws`, and for crates above
 pub mod Paths
 -- for `one_answer` and `one_tree`, and for other lemmas and crates above

@@ -18,10 +18,10 @@ use Rattle.sj_grammar.specs.Depth.{IsTooDeep}
 use Rattle.sj_grammar.specs.Misplaced.{is_misplaced}
 use Rattle.sj_grammar.specs.Unsupported.{unsupported}
 use Rattle.sj_grammar.specs.Answers.{Spells, Allows, Forbids}
-use Rattle.sj_grammar.proofs.Words.{some_is, lax_word, strict_word}
-use Rattle.sj_grammar.proofs.Sound.{Spells as SpellsExprOrPred, expr_or_pred_reads}
-use Rattle.sj_grammar.proofs.Ends.{expr_empty, empty_no_test}
-use Rattle.sj_grammar.proofs.Full.{bind_is, none_on, inner_value, neg_full_expr}
+use Rattle.sj_grammar.proofs.ReadTokens.{some_is, lax_word, strict_word}
+use Rattle.sj_grammar.proofs.Soundness.{Spells as SpellsExprOrPred, expr_or_pred_reads}
+use Rattle.sj_grammar.proofs.ConstructEdges.{expr_empty, empty_no_test}
+use Rattle.sj_grammar.proofs.Completeness.{bind_is, none_on, inner_value, neg_full_expr}
 
 -- ---- what is in the grammar is read
 

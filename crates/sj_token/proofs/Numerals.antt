@@ -1,6 +1,8 @@
 -- The longest number at the front of a text, and what it stands for.
 use Rattle.std.proofs.Common.{◌≡◌, ◌≢◌, ℕ, zero, suc, ◌+◌, ◌<◌, ◌≤◌, ◌⊎◌, inl, inr, Bool, true, false, cond, ◌&&◌, ◌||◌, ◌==◌, nat_le, List, [], ◌∷◌, ◌++◌, length, take, drop, Option, Some, None, ℤ, refl, sym, ap, subst, ◌∙◌, arith, append_assoc, length-append, length-drop, take-add, take_at, drop_at, eqb-true, leb-true, eq-eqb}
 use Rattle.std.specs.Str.Parse.{AllDigits, IsNumeral as IsDigits}
+use Rattle.std.specs.List.{prefix_len}
+use Rattle.std.proofs.lemmas.List.Sums.{prefix_len-le-length}
 use Rattle.std.specs.Char.{is_ascii_digit}
 use Rattle.sj_base.specs.ByteClasses.{is_letter, next_is, next_is_digit}
 use Rattle.sj_base.specs.Options.{◌>>=◌}
@@ -16,8 +18,8 @@ use Rattle.sj_token.specs.Words as w
 use Rattle.sj_token.specs.Words.{AllPass}
 use Rattle.sj_token.specs.Numbers as n
 use Rattle.sj_token.specs.Numbers.{NoMinus, IsNumeral}
-use Rattle.sj_token.specs.Reading.{run, whole_len, fraction_len, sign_len, digits_len, exponent_len, rest_len, number_len, exact_number, number_token, number_at, exact, exactly}
-use Rattle.sj_token.proofs.Runs.{run_within, run_passes, run_longer}
+use Rattle.sj_token.specs.Reading.{whole_len, fraction_len, sign_len, digits_len, exponent_len, rest_len, number_len, exact_number, number_token, number_at, exact, exactly}
+use Rattle.sj_token.proofs.Runs.{run_goes_on, run_ends, run_passes, run_longer}
 use Rattle.sj_token.proofs.Cuts.{IfCut, here, cond_on, cond_off}
 
 -- ---- what a number stands for
@@ -56,23 +58,20 @@ passed_digits w.none = tt
 passed_digits (w.more {b = b} h p) = (digit_passed b h, passed_digits p)
 
 -- a run of digits that begins with one
-run_digits : (bs : List ℕ) → next_is_digit bs ≡ true → IsDigits 10 (take (run is_ascii_digit bs) bs)
+run_digits : (bs : List ℕ) → next_is_digit bs ≡ true → IsDigits 10 (take (prefix_len is_ascii_digit bs) bs)
 run_digits [] h = absurd cc
 run_digits (b ∷ bs) h =
-    (subst (λ n. 0 < length (take n (b ∷ bs))) (sym (run_is b bs h)) (omega arith), passed_digits (run_passes is_ascii_digit (b ∷ bs)))
-  where
-    run_is : (b : ℕ) (bs : List ℕ) → is_ascii_digit b ≡ true → run is_ascii_digit (b ∷ bs) ≡ suc (run is_ascii_digit bs)
-    run_is b bs h = ap (λ x. cond x (suc (run is_ascii_digit bs)) 0) h
+    (subst (λ n. 0 < length (take n (b ∷ bs))) (sym (run_goes_on is_ascii_digit b bs h)) (omega arith), passed_digits (run_passes is_ascii_digit (b ∷ bs)))
 
-run_none : (bs : List ℕ) → next_is_digit bs ≡ false → run is_ascii_digit bs ≡ 0
+run_none : (bs : List ℕ) → next_is_digit bs ≡ false → prefix_len is_ascii_digit bs ≡ 0
 run_none [] h = refl
-run_none (b ∷ bs) h = ap (λ x. cond x (suc (run is_ascii_digit bs)) 0) h
+run_none (b ∷ bs) h = run_ends is_ascii_digit b bs h
 
 -- digits, and what follows them
-run_least : (ds : List ℕ) → AllDigits 10 ds → (after : List ℕ) → length ds ≤ run is_ascii_digit (ds ++ after)
+run_least : (ds : List ℕ) → AllDigits 10 ds → (after : List ℕ) → length ds ≤ prefix_len is_ascii_digit (ds ++ after)
 run_least ds h after = let e = run_longer (digits_pass ds h) after in omega arith
 
-run_exactly : (ds : List ℕ) → AllDigits 10 ds → (after : List ℕ) → next_is_digit after ≡ false → run is_ascii_digit (ds ++ after) ≡ length ds
+run_exactly : (ds : List ℕ) → AllDigits 10 ds → (after : List ℕ) → next_is_digit after ≡ false → prefix_len is_ascii_digit (ds ++ after) ≡ length ds
 run_exactly ds h after ends = let e = run_longer (digits_pass ds h) after in let f = run_none after ends in omega arith
 
 next_digit : (ds : List ℕ) → IsDigits 10 ds → (after : List ℕ) → next_is_digit (ds ++ after) ≡ true
@@ -100,22 +99,22 @@ whole_sound b bs h = go (b == 48) refl
     not_zero : (b == 48) ≡ false → b ≢ 48
     not_zero e q = absurd (apart (sym (ap (λ x. x == 48) q) ∙ e))
 
-    many : (b == 48) ≡ false → IsWhole (b ∷ take (run is_ascii_digit bs) bs)
+    many : (b == 48) ≡ false → IsWhole (b ∷ take (prefix_len is_ascii_digit bs) bs)
     many e = ((omega arith, (digit_passed b h, passed_digits (run_passes is_ascii_digit bs))), λ _. not_zero e)
 
-    go : (x : Bool) → (b == 48) ≡ x → IsWhole (take (cond x 1 (run is_ascii_digit (b ∷ bs))) (b ∷ bs))
+    go : (x : Bool) → (b == 48) ≡ x → IsWhole (take (cond x 1 (prefix_len is_ascii_digit (b ∷ bs))) (b ∷ bs))
     go true e = ((omega arith, (digit_passed b h, tt)), λ l. absurd (omega arith))
-    go false e = subst (λ n. IsWhole (take n (b ∷ bs))) (sym (ap (λ x. cond x (suc (run is_ascii_digit bs)) 0) h)) (many e)
+    go false e = subst (λ n. IsWhole (take n (b ∷ bs))) (sym (run_goes_on is_ascii_digit b bs h)) (many e)
 
 fraction_sound : (bs : List ℕ) → (ds : List ℕ) × IsFraction ds (take (fraction_len bs) bs)
 fraction_sound [] = ([], inl (refl, refl))
 fraction_sound (b ∷ bs) = go (b == 46) (next_is_digit bs) refl refl
   where
-    front : b ≡ 46 → take (run is_ascii_digit bs + 1) (b ∷ bs) ≡ 46 ∷ take (run is_ascii_digit bs) bs
-    front q = let e : run is_ascii_digit bs + 1 ≡ suc (run is_ascii_digit bs) = omega arith in ap (λ n. take n (b ∷ bs)) e ∙ ap (λ x. x ∷ take (run is_ascii_digit bs) bs) q
+    front : b ≡ 46 → take (prefix_len is_ascii_digit bs + 1) (b ∷ bs) ≡ 46 ∷ take (prefix_len is_ascii_digit bs) bs
+    front q = let e : prefix_len is_ascii_digit bs + 1 ≡ suc (prefix_len is_ascii_digit bs) = omega arith in ap (λ n. take n (b ∷ bs)) e ∙ ap (λ x. x ∷ take (prefix_len is_ascii_digit bs) bs) q
 
-    go : (x y : Bool) → (b == 46) ≡ x → next_is_digit bs ≡ y → (ds : List ℕ) × IsFraction ds (take (cond (x && y) (run is_ascii_digit bs + 1) 0) (b ∷ bs))
-    go true true e f = (take (run is_ascii_digit bs) bs, inr (run_digits bs f, front (eqb-true b 46 e)))
+    go : (x y : Bool) → (b == 46) ≡ x → next_is_digit bs ≡ y → (ds : List ℕ) × IsFraction ds (take (cond (x && y) (prefix_len is_ascii_digit bs + 1) 0) (b ∷ bs))
+    go true true e f = (take (prefix_len is_ascii_digit bs) bs, inr (run_digits bs f, front (eqb-true b 46 e)))
     go true false e f = ([], inl (refl, refl))
     go false y e f = ([], inl (refl, refl))
 
@@ -146,15 +145,15 @@ exponent_sound (b ∷ bs) = go (b == 101 || b == 69) (next_is_digit (drop (sign_
     none : HasExponent []
     none = (false, [], inl (refl, refl, refl))
 
-    front : take (sign_len bs + 1 + run is_ascii_digit (drop (sign_len bs) bs)) (b ∷ bs) ≡ b ∷ (take (sign_len bs) bs ++ take (run is_ascii_digit (drop (sign_len bs) bs)) (drop (sign_len bs) bs))
-    front = let e : sign_len bs + 1 + run is_ascii_digit (drop (sign_len bs) bs) ≡ suc (sign_len bs + run is_ascii_digit (drop (sign_len bs) bs)) = omega arith in
-        ap (λ n. take n (b ∷ bs)) e ∙ ap (λ x. b ∷ x) (take-add (sign_len bs) (run is_ascii_digit (drop (sign_len bs) bs)) bs)
+    front : take (sign_len bs + 1 + prefix_len is_ascii_digit (drop (sign_len bs) bs)) (b ∷ bs) ≡ b ∷ (take (sign_len bs) bs ++ take (prefix_len is_ascii_digit (drop (sign_len bs) bs)) (drop (sign_len bs) bs))
+    front = let e : sign_len bs + 1 + prefix_len is_ascii_digit (drop (sign_len bs) bs) ≡ suc (sign_len bs + prefix_len is_ascii_digit (drop (sign_len bs) bs)) = omega arith in
+        ap (λ n. take n (b ∷ bs)) e ∙ ap (λ x. b ∷ x) (take-add (sign_len bs) (prefix_len is_ascii_digit (drop (sign_len bs) bs)) bs)
 
     go : (x y : Bool) → (b == 101 || b == 69) ≡ x → next_is_digit (drop (sign_len bs) bs) ≡ y
-        → HasExponent (take (cond x (cond y (sign_len bs + 1 + run is_ascii_digit (drop (sign_len bs) bs)) 0) 0) (b ∷ bs))
+        → HasExponent (take (cond x (cond y (sign_len bs + 1 + prefix_len is_ascii_digit (drop (sign_len bs) bs)) 0) 0) (b ∷ bs))
     go true true e f = let s = sign_sound bs in (
       s.0,
-      take (run is_ascii_digit (drop (sign_len bs) bs)) (drop (sign_len bs) bs),
+      take (prefix_len is_ascii_digit (drop (sign_len bs) bs)) (drop (sign_len bs) bs),
       inr (record {
         mark = b;
         sign = take (sign_len bs) bs;
@@ -188,16 +187,16 @@ number_sound b bs h =
 whole_within : (b : ℕ) (bs : List ℕ) → whole_len (b ∷ bs) ≤ length (b ∷ bs)
 whole_within b bs = go (b == 48)
   where
-    go : (x : Bool) → cond x 1 (run is_ascii_digit (b ∷ bs)) ≤ length (b ∷ bs)
+    go : (x : Bool) → cond x 1 (prefix_len is_ascii_digit (b ∷ bs)) ≤ length (b ∷ bs)
     go true = omega arith
-    go false = run_within is_ascii_digit (b ∷ bs)
+    go false = prefix_len-le-length is_ascii_digit (b ∷ bs)
 
 fraction_within : (bs : List ℕ) → fraction_len bs ≤ length bs
 fraction_within [] = omega arith
 fraction_within (b ∷ bs) = go (b == 46 && next_is_digit bs)
   where
-    go : (x : Bool) → cond x (run is_ascii_digit bs + 1) 0 ≤ length (b ∷ bs)
-    go true = omega (arith, run_within is_ascii_digit bs)
+    go : (x : Bool) → cond x (prefix_len is_ascii_digit bs + 1) 0 ≤ length (b ∷ bs)
+    go true = omega (arith, prefix_len-le-length is_ascii_digit bs)
     go false = omega arith
 
 sign_within : (bs : List ℕ) → sign_len bs ≤ length bs
@@ -212,8 +211,8 @@ exponent_within : (bs : List ℕ) → exponent_len bs ≤ length bs
 exponent_within [] = omega arith
 exponent_within (b ∷ bs) = go (b == 101 || b == 69) (next_is_digit (drop (sign_len bs) bs))
   where
-    go : (x y : Bool) → cond x (cond y (sign_len bs + 1 + run is_ascii_digit (drop (sign_len bs) bs)) 0) 0 ≤ length (b ∷ bs)
-    go true true = omega (arith, run_within is_ascii_digit (drop (sign_len bs) bs), length-drop (sign_len bs) bs, sign_within bs)
+    go : (x y : Bool) → cond x (cond y (sign_len bs + 1 + prefix_len is_ascii_digit (drop (sign_len bs) bs)) 0) 0 ≤ length (b ∷ bs)
+    go true true = omega (arith, prefix_len-le-length is_ascii_digit (drop (sign_len bs) bs), length-drop (sign_len bs) bs, sign_within bs)
     go true false = omega arith
     go false y = omega arith
 
@@ -250,7 +249,7 @@ whole_least : (ds after : List ℕ) → IsWhole ds → length ds ≤ whole_len (
 whole_least [] after h = absurd (omega (arith, h.0.0))
 whole_least (c ∷ cs) after h = go (c == 48) refl
   where
-    go : (x : Bool) → (c == 48) ≡ x → length (c ∷ cs) ≤ cond x 1 (run is_ascii_digit ((c ∷ cs) ++ after))
+    go : (x : Bool) → (c == 48) ≡ x → length (c ∷ cs) ≤ cond x 1 (prefix_len is_ascii_digit ((c ∷ cs) ++ after))
     go true e = single cs h.1
       where
         single : (cs : List ℕ) → (1 < length (c ∷ cs) → c ≢ 48) → length (c ∷ cs) ≤ 1
@@ -262,7 +261,7 @@ whole_exactly : (ds after : List ℕ) → IsWhole ds → next_is_digit after ≡
 whole_exactly [] after h ends = absurd (omega (arith, h.0.0))
 whole_exactly (c ∷ cs) after h ends = go (c == 48) refl
   where
-    go : (x : Bool) → (c == 48) ≡ x → cond x 1 (run is_ascii_digit ((c ∷ cs) ++ after)) ≡ length (c ∷ cs)
+    go : (x : Bool) → (c == 48) ≡ x → cond x 1 (prefix_len is_ascii_digit ((c ∷ cs) ++ after)) ≡ length (c ∷ cs)
     go true e = single cs h.1
       where
         single : (cs : List ℕ) → (1 < length (c ∷ cs) → c ≢ 48) → 1 ≡ length (c ∷ cs)
@@ -270,8 +269,8 @@ whole_exactly (c ∷ cs) after h ends = go (c == 48) refl
         single (d ∷ ds) n = absurd (n (omega arith) (eqb-true c 48 e))
     go false e = run_exactly (c ∷ cs) h.0.1 after ends
 
-point_read : (ds after : List ℕ) → IsDigits 10 ds → fraction_len (46 ∷ (ds ++ after)) ≡ run is_ascii_digit (ds ++ after) + 1
-point_read ds after h = ap (λ x. cond x (run is_ascii_digit (ds ++ after) + 1) 0) (next_digit ds h after)
+point_read : (ds after : List ℕ) → IsDigits 10 ds → fraction_len (46 ∷ (ds ++ after)) ≡ prefix_len is_ascii_digit (ds ++ after) + 1
+point_read ds after h = ap (λ x. cond x (prefix_len is_ascii_digit (ds ++ after) + 1) 0) (next_digit ds h after)
 
 fraction_least : (ds f after : List ℕ) → IsFraction ds f → length f ≤ fraction_len (f ++ after)
 fraction_least ds f after (inl h) = subst (λ x. length x ≤ fraction_len (x ++ after)) (sym h.1) (omega arith)
@@ -279,7 +278,7 @@ fraction_least ds f after (inr h) = subst (λ x. length x ≤ fraction_len (x ++
 
 fraction_none : (after : List ℕ) → next_is 46 after ≡ false → fraction_len after ≡ 0
 fraction_none [] h = refl
-fraction_none (b ∷ bs) h = ap (λ x. cond (x && next_is_digit bs) (run is_ascii_digit bs + 1) 0) h
+fraction_none (b ∷ bs) h = ap (λ x. cond (x && next_is_digit bs) (prefix_len is_ascii_digit bs + 1) 0) h
 
 fraction_exactly : (ds f after : List ℕ) → IsFraction ds f → next_is_digit after ≡ false → next_is 46 after ≡ false → fraction_len (f ++ after) ≡ length f
 fraction_exactly ds f after (inl h) ends point = subst (λ x. fraction_len (x ++ after) ≡ length x) (sym h.1) (fraction_none after point)
@@ -295,9 +294,9 @@ marked m s bs ds after mark sign rest h =
     is_mark (inl e) = ap (λ x. x == 101 || x == 69) e
     is_mark (inr e) = ap (λ x. x == 101 || x == 69) e
 
-    total : exponent_len (m ∷ bs) ≡ s + 1 + run is_ascii_digit (ds ++ after)
+    total : exponent_len (m ∷ bs) ≡ s + 1 + prefix_len is_ascii_digit (ds ++ after)
     total = cond_on _ _ _ (is_mark mark) (ap (λ n. digits_len (n + 1) (drop n bs)) sign ∙ ap (digits_len (s + 1)) rest
-        ∙ ap (λ x. cond x (s + 1 + run is_ascii_digit (ds ++ after)) 0) (next_digit ds h after))
+        ∙ ap (λ x. cond x (s + 1 + prefix_len is_ascii_digit (ds ++ after)) 0) (next_digit ds h after))
 
 written_least : (negative : Bool) (ds e after : List ℕ) → IsWrittenExponent negative ds e → length e ≤ exponent_len (e ++ after)
 written_least negative ds e after h = subst (λ x. length x ≤ exponent_len (x ++ after)) (sym h.text) (go negative h.sign h.is_sign)

@@ -9,7 +9,7 @@ use Rattle.sj_token.specs.Tokens.{IsSign, IsForm, BeginsWith, HasTokens}
 use Rattle.sj_token.specs.Reading.{form_from, form_at, exact, token_at, lex_from}
 use Rattle.sj_token.proofs.Cuts.{some_is, bind_is, cond_on, cond_off}
 use Rattle.sj_token.proofs.Numerals.{numeral_digit}
-use Rattle.sj_token.proofs.Forms.{form_sound, Found, form_full}
+use Rattle.sj_token.proofs.TokenForms.{form_sound, Found, form_full}
 
 -- ---- one token
 

@@ -1,5 +1,6 @@
 -- Reading tokens from left to right, as functions. A number of bytes stands beside what was read.
 use Rattle.std.specs.Prelude.{ℕ, zero, suc, ◌+◌, Bool, false, ◌&&◌, ◌||◌, ◌==◌, ℤ, List, [], ◌∷◌, ◌++◌, length, take, drop, Option, Some, None, if◌then◌else◌, encode_utf8}
+use Rattle.std.specs.List.{prefix_len}
 use Rattle.std.specs.Char.{is_ascii_digit}
 use Rattle.std.specs.Char.Utf16.{is_high_surrogate, is_low_surrogate, surrogate_pair_char}
 use Rattle.sj_base.specs.ByteClasses.{is_blank, is_letter, is_word_byte, is_plain, next_is, next_is_digit, letter_char}
@@ -17,11 +18,6 @@ use Rattle.sj_decimal.specs.Reading.{read_parts}
 abbrev pub next_is_letter : List ℕ → Bool
 next_is_letter [] = false
 next_is_letter (d ∷ bs) = is_letter d
-
--- how many bytes at the front pass the test
-abbrev pub run : (ℕ → Bool) → List ℕ → ℕ
-run test [] = 0
-run test (b ∷ bs) = if test b then suc (run test bs) else 0
 
 -- ---- signs
 
@@ -97,23 +93,23 @@ behind front n s = Some (front ++ s.0, n + s.1)
 -- behind the first quotation mark: the text of the string, and how many bytes it has up to its end
 unfoldable pub inside_from : ℕ → List ℕ → Option (List ℕ × ℕ)
 inside_from zero bs = None
-inside_from (suc n) bs = behind_run (inside_from n) (drop (run is_plain bs) bs) >>= behind (take (run is_plain bs) bs) (run is_plain bs)
+inside_from (suc n) bs = behind_run (inside_from n) (drop (prefix_len is_plain bs) bs) >>= behind (take (prefix_len is_plain bs) bs) (prefix_len is_plain bs)
 
 -- ---- numbers
 
 -- how many bytes the longest number at the front has, part by part
 abbrev pub whole_len : List ℕ → ℕ
-whole_len bs = if next_is 48 bs then 1 else run is_ascii_digit bs
+whole_len bs = if next_is 48 bs then 1 else prefix_len is_ascii_digit bs
 
 abbrev pub fraction_len : List ℕ → ℕ
 fraction_len [] = 0
-fraction_len (b ∷ bs) = if b == 46 && next_is_digit bs then run is_ascii_digit bs + 1 else 0
+fraction_len (b ∷ bs) = if b == 46 && next_is_digit bs then prefix_len is_ascii_digit bs + 1 else 0
 
 abbrev pub sign_len : List ℕ → ℕ
 sign_len bs = if next_is 43 bs || next_is 45 bs then 1 else 0
 
 abbrev pub digits_len : ℕ → List ℕ → ℕ
-digits_len before bs = if next_is_digit bs then before + run is_ascii_digit bs else 0
+digits_len before bs = if next_is_digit bs then before + prefix_len is_ascii_digit bs else 0
 
 abbrev pub exponent_len : List ℕ → ℕ
 exponent_len [] = 0
@@ -138,12 +134,12 @@ number_at bs = Some (number_token (take (number_len bs) bs), number_len bs)
 -- ---- tokens
 
 unfoldable pub word_at : List ℕ → Option (Option Token × ℕ)
-word_at bs = let n = run is_word_byte bs in Some (Some (k.Word (keyword_of (take n bs)) (take n bs)), n)
+word_at bs = let n = prefix_len is_word_byte bs in Some (Some (k.Word (keyword_of (take n bs)) (take n bs)), n)
 
 -- behind a dollar sign
 unfoldable pub dollar_at : List ℕ → Option (Option Token × ℕ)
 dollar_at bs =
-    if next_is_letter bs then Some (Some (k.Variable (take (run is_word_byte bs) bs)), run is_word_byte bs + 1)
+    if next_is_letter bs then Some (Some (k.Variable (take (prefix_len is_word_byte bs) bs)), prefix_len is_word_byte bs + 1)
     else Some (Some k.Root, 1)
 
 -- behind a quotation mark

@@ -50,7 +50,7 @@ fn keyword(word: &str) -> Keyword
 }
 
 /// The word at the front.
-#[tactic(auto, using(crate::proofs::Loops::word_boundary), unfolding(crate::specs::Reading::word_at))]
+#[tactic(auto, using(crate::proofs::Boundaries::word_boundary), unfolding(crate::specs::Reading::word_at))]
 pub(crate) fn word(alloc: Global, text: &str) -> Result<(Token, usize), LexError>
     ensures { Gives (λ x. x) result (reading.exactly (reading.word_at text.now)) }
 {
@@ -63,7 +63,7 @@ pub(crate) fn word(alloc: Global, text: &str) -> Result<(Token, usize), LexError
 }
 
 /// The root, or the variable whose name stands at the front of `text`, with the `$` before it.
-#[tactic(auto, using(crate::proofs::Loops::word_boundary), unfolding(crate::specs::Reading::dollar_at))]
+#[tactic(auto, using(crate::proofs::Boundaries::word_boundary), unfolding(crate::specs::Reading::dollar_at))]
 pub(crate) fn dollar(alloc: Global, text: &str) -> Result<(Token, usize), LexError>
     ensures { Gives (λ x. x) result (reading.exactly (reading.dollar_at text.now)) }
 {

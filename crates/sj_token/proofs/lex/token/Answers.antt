@@ -1,6 +1,6 @@
 use Rattle.std.proofs.Common.{arith, length}
-use Rattle.sj_token.proofs.Inside.{inside_sound}
-use Rattle.sj_token.proofs.Loops.{first_boundary}
+use Rattle.sj_token.proofs.StringInsides.{inside_sound}
+use Rattle.sj_token.proofs.Boundaries.{first_boundary}
 use Rattle.sj_token.proofs.lex.token.Goals as goal
 
 pub range_from-requires : goal.range_from-requires

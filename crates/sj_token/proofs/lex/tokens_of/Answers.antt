@@ -1,6 +1,7 @@
 use Rattle.std.proofs.Common.{Err, sym, ap, ◌∙◌, length}
 use Rattle.std.proofs.lemmas.Result.{err_from_is_err_and}
-use Rattle.sj_token.proofs.Loops.{blank_turn, token_turn, no_token, no_token_error, at_end, all_done, tokens_found, tokens_missed, first_boundary, token_boundary, blank_ascii}
+use Rattle.sj_token.proofs.Boundaries.{first_boundary, token_boundary, blank_ascii}
+use Rattle.sj_token.proofs.TokenTurns.{blank_turn, token_turn, no_token, no_token_error, at_end, all_done, tokens_found, tokens_missed}
 use Rattle.sj_token.proofs.lex.tokens_of.Goals as goal
 
 pub returns-in_default-clause-tokens : goal.returns-in_default-clause-tokens

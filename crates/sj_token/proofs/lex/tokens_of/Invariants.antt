@@ -2,7 +2,7 @@ use Rattle.std.proofs.Common.{◌≡◌, ◌-◌, length}
 use denote.Shadow.{shadow}
 use denote.Text.{Utf8}
 use Rattle.sj_token.specs.Reading.{lex_from}
-use Rattle.sj_token.proofs.Loops.{with_front}
+use Rattle.sj_token.proofs.TokenTurns.{with_front}
 use Rattle.sj_token.proofs.lex.tokens_of.Given as goal
 
 abbrev pub invariant-loop-turn : goal.invariant-loop-turn

@@ -1,24 +1,25 @@
 use Rattle.std.proofs.Common.{◌≡◌, ◌+◌, sym, ap, ◌∙◌, arith, length, take, drop, ◌++◌, length-drop, string_bytes, encode_utf8, rules}
 use Rattle.sj_base.specs.ByteClasses.{is_plain}
-use Rattle.sj_token.specs.Reading.{run}
-use Rattle.sj_token.proofs.Loops.{slice_from, plain_boundary, escape_end, escape_boundary, string_ends, string_goes_on, string_no_escape, string_no_mark, string_no_end, string_no_turn}
+use Rattle.std.specs.List.{prefix_len}
+use Rattle.sj_token.proofs.Boundaries.{plain_boundary, escape_end, escape_boundary}
+use Rattle.sj_token.proofs.StringTurns.{slice_from, string_ends, string_goes_on, string_no_escape, string_no_mark, string_no_end, string_no_turn}
 use Rattle.sj_token.proofs.string.string.Goals as goal
 
 pub returns-in_default : goal.returns-in_default
 returns-in_default c =
     let same = c.as_bytes-bytes.ensures.value in
-    let run_is : c.plain_len-len.result ≡ run is_plain c.loop-turn.rest.now = c.plain_len-len.ensures.value ∙ ap (run is_plain) same in
+    let run_is : c.plain_len-len.result ≡ prefix_len is_plain c.loop-turn.rest.now = c.plain_len-len.ensures.value ∙ ap (prefix_len is_plain) same in
     string_no_end _ c.loop-turn._turn c.loop-turn.rest.now _ c.loop-turn.at c.plain_len-len.result c.loop-turn-test.true c.loop-turn.invariant.reads run_is
     (sym (ap (λ x. length (drop c.plain_len-len.result x)) same) ∙ ap length (sym (slice_from c.as_bytes-bytes.result.now c.plain_len-len.result)) ∙ c.in_default.ensures.cases)
 
 pub range-requires-clause-end_boundary : goal.range-requires-clause-end_boundary
 range-requires-clause-end_boundary c =
-    plain_boundary c.loop-turn.rest.now c.plain_len-len.result (c.plain_len-len.ensures.value ∙ ap (run is_plain) c.as_bytes-bytes.ensures.value)
+    plain_boundary c.loop-turn.rest.now c.plain_len-len.result (c.plain_len-len.ensures.value ∙ ap (prefix_len is_plain) c.as_bytes-bytes.ensures.value)
 
 pub returns-then-mark-eq34 : goal.returns-then-mark-eq34
 returns-then-mark-eq34 c =
     let same = c.as_bytes-bytes.ensures.value in
-    let run_is : c.plain_len-len.result ≡ run is_plain c.loop-turn.rest.now = c.plain_len-len.ensures.value ∙ ap (run is_plain) same in
+    let run_is : c.plain_len-len.result ≡ prefix_len is_plain c.loop-turn.rest.now = c.plain_len-len.ensures.value ∙ ap (prefix_len is_plain) same in
     let split = sym (ap (drop c.plain_len-len.result) same) ∙ sym (slice_from c.as_bytes-bytes.result.now c.plain_len-len.result) ∙ c.in-Some.ensures.cases.0 in
     let piece : c.range.result.now ≡ take c.plain_len-len.result c.loop-turn.rest.now = search rules in
     let value : c.from_string.result ≡ string_bytes c.loop-turn.value ++ take c.plain_len-len.result c.loop-turn.rest.now =
@@ -29,7 +30,7 @@ returns-then-mark-eq34 c =
 pub returns-then-mark-ne92 : goal.returns-then-mark-ne92
 returns-then-mark-ne92 c =
     let same = c.as_bytes-bytes.ensures.value in
-    let run_is : c.plain_len-len.result ≡ run is_plain c.loop-turn.rest.now = c.plain_len-len.ensures.value ∙ ap (run is_plain) same in
+    let run_is : c.plain_len-len.result ≡ prefix_len is_plain c.loop-turn.rest.now = c.plain_len-len.ensures.value ∙ ap (prefix_len is_plain) same in
     let split = sym (ap (drop c.plain_len-len.result) same) ∙ sym (slice_from c.as_bytes-bytes.result.now c.plain_len-len.result) ∙ c.in-Some.ensures.cases.0 in
     string_no_mark _ c.loop-turn._turn c.loop-turn.rest.now _ c.in-Some.after.now c.loop-turn.at c.plain_len-len.result c.in-Some.mark.now c.loop-turn-test.true c.loop-turn.invariant.reads run_is
     split c.if-mark-eq34.false c.if-mark-ne92.true
@@ -37,7 +38,7 @@ returns-then-mark-ne92 c =
 pub returns-in_default-escape : goal.returns-in_default-escape
 returns-in_default-escape c =
     let same = c.as_bytes-bytes.ensures.value in
-    let run_is : c.plain_len-len.result ≡ run is_plain c.loop-turn.rest.now = c.plain_len-len.ensures.value ∙ ap (run is_plain) same in
+    let run_is : c.plain_len-len.result ≡ prefix_len is_plain c.loop-turn.rest.now = c.plain_len-len.ensures.value ∙ ap (prefix_len is_plain) same in
     let split = sym (ap (drop c.plain_len-len.result) same) ∙ sym (slice_from c.as_bytes-bytes.result.now c.plain_len-len.result) ∙ c.in-Some.ensures.cases.0 in
     string_no_escape _ c.loop-turn._turn c.loop-turn.rest.now _ c.in-Some.after.now c.loop-turn.at c.plain_len-len.result c.in-Some.mark.now c.loop-turn-test.true c.loop-turn.invariant.reads run_is
     split c.if-mark-ne92.false (sym c.in_default-escape.ensures)
@@ -64,7 +65,7 @@ range_from-rest-requires c =
 pub loop-turn-preserved : goal.loop-turn-preserved
 loop-turn-preserved c =
     let same = c.as_bytes-bytes.ensures.value in
-    let run_is : c.plain_len-len.result ≡ run is_plain c.loop-turn.rest.now = c.plain_len-len.ensures.value ∙ ap (run is_plain) same in
+    let run_is : c.plain_len-len.result ≡ prefix_len is_plain c.loop-turn.rest.now = c.plain_len-len.ensures.value ∙ ap (prefix_len is_plain) same in
     let split = sym (ap (drop c.plain_len-len.result) same) ∙ sym (slice_from c.as_bytes-bytes.result.now c.plain_len-len.result) ∙ c.in-Some.ensures.cases.0 in
     let piece : c.range.result.now ≡ take c.plain_len-len.result c.loop-turn.rest.now = search rules in
     let value : string_bytes c.push.new.self ≡ (string_bytes c.loop-turn.value ++ take c.plain_len-len.result c.loop-turn.rest.now) ++ encode_utf8 c.in-Some-escape.c =

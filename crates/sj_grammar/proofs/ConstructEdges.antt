@@ -1,4 +1,4 @@
--- Where a construct of the grammar cannot go on.
+-- Where a construct of the grammar cannot go on, and how it begins.
 use Rattle.std.proofs.Common.{◌≡◌, ℕ, true, false, List, [], ◌∷◌, Option, Some, None, refl, ap}
 use Rattle.sj_base.specs.Options.{◌>>=◌}
 use Rattle.sj_token.specs.declared.token.Token.{Token}

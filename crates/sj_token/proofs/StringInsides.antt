@@ -1,5 +1,7 @@
 -- What is read behind a quotation mark is the inside of a string, and each inside is read.
 use Rattle.std.proofs.Common.{◌≡◌, ℕ, zero, suc, ◌+◌, ◌≤◌, Bool, true, false, cond, List, [], ◌∷◌, ◌++◌, length, take, drop, Option, Some, None, refl, sym, ap, subst, ◌∙◌, arith, append_assoc, length-append, length-drop, take-add, drop_at, eqb-true, encode_utf8, ◌==◌, ◌&&◌}
+use Rattle.std.specs.List.{prefix_len}
+use Rattle.std.proofs.lemmas.List.Sums.{prefix_len-le-length}
 use Rattle.std.specs.Char.Utf16.{is_low_surrogate, surrogate_pair_char}
 use Rattle.sj_base.specs.ByteClasses.{is_plain, next_is, letter_char}
 use Rattle.sj_base.specs.Options.{◌>>=◌}
@@ -7,8 +9,8 @@ use Rattle.sj_token.specs.Words as w
 use Rattle.sj_token.specs.Words.{AllPass}
 use Rattle.sj_token.specs.Strings as s
 use Rattle.sj_token.specs.Strings.{IsEscape, IsInside, unit_of}
-use Rattle.sj_token.specs.Reading.{run, unit_at, low_at, character_at, escape_at, behind_run, behind, inside_from}
-use Rattle.sj_token.proofs.Runs.{run_within, run_passes}
+use Rattle.sj_token.specs.Reading.{unit_at, low_at, character_at, escape_at, behind_run, behind, inside_from}
+use Rattle.sj_token.proofs.Runs.{run_goes_on, run_passes}
 use Rattle.sj_token.proofs.Cuts.{IfCut, nothing, here, then, given, chosen, some_is, bind_is, cond_on, cond_off}
 
 -- ---- escapes
@@ -128,9 +130,9 @@ behind_sound inside reads rest = chosen _ _ _
 pub inside_sound : (n : ℕ) (bs : List ℕ) → IfCut (InsideFront bs) (inside_from n bs)
 unfolding inside_from
 inside_sound zero bs = nothing
-inside_sound (suc n) bs = then _ _ (behind_sound (inside_from n) (inside_sound n) (drop (run is_plain bs) bs)) (λ text j _ q. here (record {
-  within = omega (arith, q.within, length-drop (run is_plain bs) bs, run_within is_plain bs);
-  fits = subst (λ x. IsInside x (take (run is_plain bs) bs ++ text)) (sym (take-add (run is_plain bs) j bs)) (plain_front (run_passes is_plain bs) q.fits);
+inside_sound (suc n) bs = then _ _ (behind_sound (inside_from n) (inside_sound n) (drop (prefix_len is_plain bs) bs)) (λ text j _ q. here (record {
+  within = omega (arith, q.within, length-drop (prefix_len is_plain bs) bs, prefix_len-le-length is_plain bs);
+  fits = subst (λ x. IsInside x (take (prefix_len is_plain bs) bs ++ text)) (sym (take-add (prefix_len is_plain bs) j bs)) (plain_front (run_passes is_plain bs) q.fits);
 }))
 
 -- one more plain byte before an inside that is read
@@ -138,14 +140,14 @@ plain_step : (n b : ℕ) (bs text : List ℕ) (j : ℕ) → is_plain b ≡ true 
 unfolding inside_from
 plain_step zero b bs text j h e = absurd cc
 plain_step (suc n) b bs text j h e =
-    ap (λ t. behind_run (inside_from n) (drop (cond t (suc (run is_plain bs)) 0) (b ∷ bs)) >>= behind (take (cond t (suc (run is_plain bs)) 0) (b ∷ bs)) (cond t (suc (run is_plain bs)) 0)) h
-    ∙ go (behind_run (inside_from n) (drop (run is_plain bs) bs)) e
+    ap (λ k. behind_run (inside_from n) (drop k (b ∷ bs)) >>= behind (take k (b ∷ bs)) k) (run_goes_on is_plain b bs h)
+    ∙ go (behind_run (inside_from n) (drop (prefix_len is_plain bs) bs)) e
   where
     two : {a c : List ℕ} {d f : ℕ} → a ≡ c → d ≡ f → ◌≡◌ {A = Option (List ℕ × ℕ)} (Some (a, d)) (Some (c, f))
     two p q = cc
 
-    go : (o : Option (List ℕ × ℕ)) → (o >>= behind (take (run is_plain bs) bs) (run is_plain bs)) ≡ Some (text, j)
-        → (o >>= behind (b ∷ take (run is_plain bs) bs) (suc (run is_plain bs))) ≡ Some (b ∷ text, suc j)
+    go : (o : Option (List ℕ × ℕ)) → (o >>= behind (take (prefix_len is_plain bs) bs) (prefix_len is_plain bs)) ≡ Some (text, j)
+        → (o >>= behind (b ∷ take (prefix_len is_plain bs) bs) (suc (prefix_len is_plain bs))) ≡ Some (b ∷ text, suc j)
     go None q = absurd cc
     go (Some x) q = let f = some_is q in two (ap (λ (y : List ℕ × ℕ). b ∷ y.0) f) (let g = ap (λ (y : List ℕ × ℕ). y.1) f in omega (arith, g))
 

@@ -10,7 +10,7 @@ use Rattle.sj_grammar.specs.Signs.{add_sign, mul_sign, method_of}
 use Rattle.sj_grammar.specs.Grammar as g
 use Rattle.sj_grammar.specs.Grammar.{Tokens, IsExpr, IsSum, IsTerm, IsProduct, IsUnary, IsAccess, IsPrimary, IsStep, IsSub, IsSubs, IsPred, IsOr, IsConj, IsAnd, IsNeg, IsDelim, IsPrim}
 use Rattle.sj_grammar.specs.Reading.{begins_step, Parser, ExprOrPred, Value, Test, close_at, with_at, quoted_at, inner_expr, inner_pred, as_value, as_test, datetime_at, called, named, after_dot, sub_at, subs_at, after_bracket, after_question, step_at, primary_at, access_from, access_at, unary_at, product_from, term_at, sum_from, expr_at, expr_from, initial_at, flags_at, test_from, tested, unknown_from, after_group, exists_at, group_at, delim_at, neg_at, test_at, and_from, conj_at, or_from, pred_from, expr_or_pred_over, expr_or_pred_at}
-use Rattle.sj_grammar.proofs.Words.{IfRead, nothing, here, then, given, either, chosen, weaken, closes, opens, not_open, brackets, commas, stars, ands, ors, quotes, quoted_reads, to_word, is_word, unknown_word, with_word, flag_word, signs}
+use Rattle.sj_grammar.proofs.ReadTokens.{IfRead, nothing, here, then, given, either, chosen, weaken, closes, opens, not_open, brackets, commas, stars, ands, ors, quotes, quoted_reads, to_word, is_word, unknown_word, with_word, flag_word, signs}
 
 abbrev pub Spells : Tokens → ExprOrPred → Tokens → Type 0
 Spells ts (Value e) rest = IsExpr ts e rest

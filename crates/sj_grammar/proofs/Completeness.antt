@@ -11,7 +11,7 @@ use Rattle.sj_grammar.specs.Grammar as g
 use Rattle.sj_grammar.specs.Grammar.{Tokens, NotOpen, IsExpr, IsSum, IsTerm, IsProduct, IsUnary, IsAccess, IsPrimary, IsStep, IsSub, IsSubs, IsPred, IsOr, IsConj, IsAnd, IsNeg, IsDelim, IsPrim}
 use Rattle.sj_grammar.specs.Reading.{Parser, Read, ExprOrPred, Value, Test, on_some, inner_expr, inner_pred, datetime_at, called, named, after_dot, sub_at, subs_at, after_bracket, after_question, step_at, primary_at, access_from, access_at, unary_at, product_from, term_at, sum_from, expr_at, expr_from, initial_at, flags_at, unknown_from, test_from, tested, after_group, exists_at, group_at, delim_at, neg_at, test_at, and_from, conj_at, or_from, pred_from, expr_or_pred_over, expr_or_pred_at}
 use Rattle.sj_grammar.proofs.Lengths.{expr_longer, term_longer, unary_longer, step_longer, sub_longer, conj_longer, neg_longer}
-use Rattle.sj_grammar.proofs.Ends.{EndsUnary, EndsTerm, EndsExpr, NoTest, EndsOne, EndsSub, EndsNeg, EndsConj, EndsPred, expr_close, expr_compare, expr_word, close_no_test, to_no_test, sub_comma, sub_bracket, pred_close, sum_ends, product_ends, or_ends, and_ends, step_begins, subs_not_star, no_open, called_is}
+use Rattle.sj_grammar.proofs.ConstructEdges.{EndsUnary, EndsTerm, EndsExpr, NoTest, EndsOne, EndsSub, EndsNeg, EndsConj, EndsPred, expr_close, expr_compare, expr_word, close_no_test, to_no_test, sub_comma, sub_bracket, pred_close, sum_ends, product_ends, or_ends, and_ends, step_begins, subs_not_star, no_open, called_is}
 
 pub bind_is : {A B : Type 0} {x : A} {r : Option B} (o : Option A) (f : A → Option B) → o ≡ Some x → f x ≡ r → (o >>= f) ≡ r
 bind_is o f e h = ap (λ p. p >>= f) e ∙ h

@@ -1,5 +1,7 @@
 -- What is read at the front of a text has the form of a token, and nothing longer there has one.
 use Rattle.std.proofs.Common.{◌≡◌, ℕ, zero, suc, ◌+◌, ◌<◌, ◌≤◌, ◌⊎◌, inl, inr, Bool, true, false, cond, ◌||◌, List, [], ◌∷◌, ◌++◌, length, take, Option, Some, refl, sym, ap, subst, ◌∙◌, arith, length-append, take_at, eqb-true, ◌==◌}
+use Rattle.std.specs.List.{prefix_len}
+use Rattle.std.proofs.lemmas.List.Sums.{prefix_len-le-length}
 use Rattle.std.specs.Char.{is_ascii_digit}
 use Rattle.sj_base.specs.ByteClasses.{is_letter, is_word_byte, next_is}
 use Rattle.sj_base.specs.Options.{◌>>=◌}
@@ -12,10 +14,10 @@ use Rattle.sj_token.specs.Strings.{IsInside}
 use Rattle.sj_token.specs.Tokens as t
 use Rattle.sj_token.specs.Tokens.{IsSign, IsForm}
 use Rattle.sj_token.specs.Numbers.{IsNumeral}
-use Rattle.sj_token.specs.Reading.{run, single_sign, one, longer, sign_at, word_at, dollar_at, string_at, number_at, whole, form_from, form_at}
-use Rattle.sj_token.proofs.Runs.{run_within, run_passes, run_longer}
+use Rattle.sj_token.specs.Reading.{single_sign, one, longer, sign_at, word_at, dollar_at, string_at, number_at, whole, form_from, form_at}
+use Rattle.sj_token.proofs.Runs.{run_goes_on, run_passes, run_longer}
 use Rattle.sj_token.proofs.Cuts.{IfCut, nothing, here, then, given, chosen, some_is, bind_is, cond_on, cond_off}
-use Rattle.sj_token.proofs.Inside.{InsideFront, inside_sound, inside_full}
+use Rattle.sj_token.proofs.StringInsides.{InsideFront, inside_sound, inside_full}
 use Rattle.sj_token.proofs.Numerals.{NumeralFront, numeral_sound, numeral_digit, numeral_full}
 
 -- the first n bytes have the form of a token
@@ -70,13 +72,16 @@ sign_sound b bs =
 
 -- ---- words
 
+letter_is_word_byte : (b : ℕ) → is_letter b ≡ true → is_word_byte b ≡ true
+letter_is_word_byte b h = ap (λ x. x || is_ascii_digit b) h
+
 -- a letter and what may follow it
-word_front : (b : ℕ) (bs : List ℕ) → is_letter b ≡ true → IsWord (take (run is_word_byte (b ∷ bs)) (b ∷ bs))
-word_front b bs h = subst (λ n. IsWord (take n (b ∷ bs))) (sym (ap (λ x. cond (x || is_ascii_digit b) (suc (run is_word_byte bs)) 0) h)) (w.word h (run_passes is_word_byte bs))
+word_front : (b : ℕ) (bs : List ℕ) → is_letter b ≡ true → IsWord (take (prefix_len is_word_byte (b ∷ bs)) (b ∷ bs))
+word_front b bs h = subst (λ n. IsWord (take n (b ∷ bs))) (sym (run_goes_on is_word_byte b bs (letter_is_word_byte b h))) (w.word h (run_passes is_word_byte bs))
 
 word_sound : (b : ℕ) (bs : List ℕ) → is_letter b ≡ true → IfCut (FormFront (b ∷ bs)) (word_at (b ∷ bs))
 unfolding word_at
-word_sound b bs h = here (record { within = run_within is_word_byte (b ∷ bs); fits = t.word (word_front b bs h) })
+word_sound b bs h = here (record { within = prefix_len-le-length is_word_byte (b ∷ bs); fits = t.word (word_front b bs h) })
 
 dollar_sound : (bs : List ℕ) → IfCut (FormFront (36 ∷ bs)) (dollar_at bs)
 unfolding dollar_at
@@ -84,15 +89,15 @@ dollar_sound [] = here {a = Some k.Root} {n = 1} (record { within = omega arith;
 dollar_sound (b ∷ bs) = chosen _ _ _ (λ h. here (named h)) (λ _. here {a = Some k.Root} {n = 1} (record { within = omega arith; fits = t.root }))
   where
     n : ℕ
-    n = run is_word_byte (b ∷ bs)
+    n = prefix_len is_word_byte (b ∷ bs)
 
-    named : is_letter b ≡ true → FormFront (36 ∷ b ∷ bs) (Some (k.Variable (take (run is_word_byte (b ∷ bs)) (b ∷ bs)))) (run is_word_byte (b ∷ bs) + 1)
+    named : is_letter b ≡ true → FormFront (36 ∷ b ∷ bs) (Some (k.Variable (take (prefix_len is_word_byte (b ∷ bs)) (b ∷ bs)))) (prefix_len is_word_byte (b ∷ bs) + 1)
     named h =
-        let le = run_within is_word_byte (b ∷ bs) in
-        let e : suc (run is_word_byte (b ∷ bs)) ≡ run is_word_byte (b ∷ bs) + 1 = omega arith in
+        let le = prefix_len-le-length is_word_byte (b ∷ bs) in
+        let e : suc (prefix_len is_word_byte (b ∷ bs)) ≡ prefix_len is_word_byte (b ∷ bs) + 1 = omega arith in
         record {
           within = omega arith;
-          fits = subst (λ m. IsForm (take m (36 ∷ b ∷ bs)) (Some (k.Variable (take (run is_word_byte (b ∷ bs)) (b ∷ bs))))) e (t.variable (word_front b bs h));
+          fits = subst (λ m. IsForm (take m (36 ∷ b ∷ bs)) (Some (k.Variable (take (prefix_len is_word_byte (b ∷ bs)) (b ∷ bs))))) e (t.variable (word_front b bs h));
         }
 
 -- ---- strings
@@ -164,32 +169,29 @@ unfolding dollar_at
 root_full [] = inl refl
 root_full (b ∷ bs) = go (is_letter b) refl
   where
-    long : is_letter b ≡ true → 1 < run is_word_byte (b ∷ bs) + 1
-    long h = let e = ap (λ x. cond (x || is_ascii_digit b) (suc (run is_word_byte bs)) 0) h in omega (arith, e)
+    long : is_letter b ≡ true → 1 < prefix_len is_word_byte (b ∷ bs) + 1
+    long h = let e = run_goes_on is_word_byte b bs (letter_is_word_byte b h) in omega (arith, e)
 
-    go : (x : Bool) → is_letter b ≡ x → Found (cond x (Some (Some (k.Variable (take (run is_word_byte (b ∷ bs)) (b ∷ bs))), run is_word_byte (b ∷ bs) + 1)) (Some (Some k.Root, 1))) (Some k.Root) 1
-    go true h = inr (Some (k.Variable (take (run is_word_byte (b ∷ bs)) (b ∷ bs))), run is_word_byte (b ∷ bs) + 1, refl, long h)
+    go : (x : Bool) → is_letter b ≡ x → Found (cond x (Some (Some (k.Variable (take (prefix_len is_word_byte (b ∷ bs)) (b ∷ bs))), prefix_len is_word_byte (b ∷ bs) + 1)) (Some (Some k.Root, 1))) (Some k.Root) 1
+    go true h = inr (Some (k.Variable (take (prefix_len is_word_byte (b ∷ bs)) (b ∷ bs))), prefix_len is_word_byte (b ∷ bs) + 1, refl, long h)
     go false h = inl refl
-
-letter_is_word_byte : (b : ℕ) → is_letter b ≡ true → is_word_byte b ≡ true
-letter_is_word_byte b h = ap (λ x. x || is_ascii_digit b) h
 
 -- a word is read, or a longer one
 word_run : {name : List ℕ} → AllPass is_word_byte name → (after : List ℕ) (make : List ℕ → Token)
-    → Found (Some (Some (make (take (run is_word_byte (name ++ after)) (name ++ after))), run is_word_byte (name ++ after))) (Some (make name)) (length name)
-word_run {name} p after make = go (run is_word_byte after) refl
+    → Found (Some (Some (make (take (prefix_len is_word_byte (name ++ after)) (name ++ after))), prefix_len is_word_byte (name ++ after))) (Some (make name)) (length name)
+word_run {name} p after make = go (prefix_len is_word_byte after) refl
   where
-    total : run is_word_byte (name ++ after) ≡ length name + run is_word_byte after
+    total : prefix_len is_word_byte (name ++ after) ≡ length name + prefix_len is_word_byte after
     total = run_longer p after
 
     both : {a d : List ℕ} {m n : ℕ} → a ≡ d → m ≡ n → ◌≡◌ {A = Option (Option Token × ℕ)} (Some (Some (make a), m)) (Some (Some (make d), n))
     both p q = cc
 
-    go : (j : ℕ) → run is_word_byte after ≡ j → Found (Some (Some (make (take (run is_word_byte (name ++ after)) (name ++ after))), run is_word_byte (name ++ after))) (Some (make name)) (length name)
+    go : (j : ℕ) → prefix_len is_word_byte after ≡ j → Found (Some (Some (make (take (prefix_len is_word_byte (name ++ after)) (name ++ after))), prefix_len is_word_byte (name ++ after))) (Some (make name)) (length name)
     go zero e =
-        let n : length name ≡ run is_word_byte (name ++ after) = omega (arith, total) in
-        inl (both (take_at name after (run is_word_byte (name ++ after)) n) (sym n))
-    go (suc j) e = inr (Some (make (take (run is_word_byte (name ++ after)) (name ++ after))), run is_word_byte (name ++ after), refl, omega (arith, total))
+        let n : length name ≡ prefix_len is_word_byte (name ++ after) = omega (arith, total) in
+        inl (both (take_at name after (prefix_len is_word_byte (name ++ after)) n) (sym n))
+    go (suc j) e = inr (Some (make (take (prefix_len is_word_byte (name ++ after)) (name ++ after))), prefix_len is_word_byte (name ++ after), refl, omega (arith, total))
 
 make_word : List ℕ → Token
 make_word text = k.Word (keyword_of text) text
@@ -206,20 +208,20 @@ word_full (w.word {b = b} {bs = bs} h p) after =
     (word_run {name = b ∷ bs} (w.more {b = b} (letter_is_word_byte b h) p) after make_word)
 
 variable_run : {name : List ℕ} → AllPass is_word_byte name → (after : List ℕ)
-    → Found (Some (Some (k.Variable (take (run is_word_byte (name ++ after)) (name ++ after))), run is_word_byte (name ++ after) + 1)) (Some (k.Variable name)) (suc (length name))
-variable_run {name} p after = go (run is_word_byte after) refl
+    → Found (Some (Some (k.Variable (take (prefix_len is_word_byte (name ++ after)) (name ++ after))), prefix_len is_word_byte (name ++ after) + 1)) (Some (k.Variable name)) (suc (length name))
+variable_run {name} p after = go (prefix_len is_word_byte after) refl
   where
-    total : run is_word_byte (name ++ after) ≡ length name + run is_word_byte after
+    total : prefix_len is_word_byte (name ++ after) ≡ length name + prefix_len is_word_byte after
     total = run_longer p after
 
     both : {a d : List ℕ} {m n : ℕ} → a ≡ d → m ≡ n → ◌≡◌ {A = Option (Option Token × ℕ)} (Some (Some (k.Variable a), m)) (Some (Some (k.Variable d), n))
     both p q = cc
 
-    go : (j : ℕ) → run is_word_byte after ≡ j → Found (Some (Some (k.Variable (take (run is_word_byte (name ++ after)) (name ++ after))), run is_word_byte (name ++ after) + 1)) (Some (k.Variable name)) (suc (length name))
+    go : (j : ℕ) → prefix_len is_word_byte after ≡ j → Found (Some (Some (k.Variable (take (prefix_len is_word_byte (name ++ after)) (name ++ after))), prefix_len is_word_byte (name ++ after) + 1)) (Some (k.Variable name)) (suc (length name))
     go zero e =
-        let n : length name ≡ run is_word_byte (name ++ after) = omega (arith, total) in
-        inl (both (take_at name after (run is_word_byte (name ++ after)) n) (omega arith))
-    go (suc j) e = inr (Some (k.Variable (take (run is_word_byte (name ++ after)) (name ++ after))), run is_word_byte (name ++ after) + 1, refl, omega (arith, total))
+        let n : length name ≡ prefix_len is_word_byte (name ++ after) = omega (arith, total) in
+        inl (both (take_at name after (prefix_len is_word_byte (name ++ after)) n) (omega arith))
+    go (suc j) e = inr (Some (k.Variable (take (prefix_len is_word_byte (name ++ after)) (name ++ after))), prefix_len is_word_byte (name ++ after) + 1, refl, omega (arith, total))
 
 variable_full : {name : List ℕ} → IsWord name → (after : List ℕ) → Found (dollar_at (name ++ after)) (Some (k.Variable name)) (suc (length name))
 unfolding dollar_at
