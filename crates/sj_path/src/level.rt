@@ -66,7 +66,7 @@ impl<F: Fn(Global, usize, &[Token]) -> Result<(ExprOrPred, &[Token]), PathRefusa
             [] => Err(PathRefusal::Syntax),
             [Token::Open, rest @ ..] => {
                 let (e, rest) = self.inner_expr(rest)?;
-                let rest = single::close(rest).ok_or(PathRefusal::Syntax)?;
+                let rest = single::close(rest)?;
                 Ok((e, rest))
             }
             [token, rest @ ..] => {
@@ -114,11 +114,11 @@ impl<F: Fn(Global, usize, &[Token]) -> Result<(ExprOrPred, &[Token]), PathRefusa
         ensures { Gives (λ x. (step_of x.0, x.1.now)) result (reading.after_bracket (reading.expr_or_pred_at self.now.depth) tokens.now) }
     {
         if let Some(rest) = single::star(tokens) {
-            let rest = single::bracket(rest).ok_or(PathRefusal::Syntax)?;
+            let rest = single::bracket(rest)?;
             return Ok((Step::AllElements, rest));
         }
         let (subs, rest) = self.subs(tokens.len(), tokens)?;
-        let rest = single::bracket(rest).ok_or(PathRefusal::Syntax)?;
+        let rest = single::bracket(rest)?;
         Ok((Step::Elements(subs), rest))
     }
 
@@ -127,9 +127,9 @@ impl<F: Fn(Global, usize, &[Token]) -> Result<(ExprOrPred, &[Token]), PathRefusa
         requires { Nests self.now.depth (F.pre self.now.inner) (F.post self.now.inner) }
         ensures { Gives (λ x. (step_of x.0, x.1.now)) result (reading.after_question (reading.expr_or_pred_at self.now.depth) tokens.now) }
     {
-        let rest = single::open(tokens).ok_or(PathRefusal::Syntax)?;
+        let rest = single::open(tokens)?;
         let (p, rest) = self.inner_pred(rest)?;
-        let rest = single::close(rest).ok_or(PathRefusal::Syntax)?;
+        let rest = single::close(rest)?;
         Ok((Step::Filter(p), rest))
     }
 
@@ -290,7 +290,7 @@ impl<F: Fn(Global, usize, &[Token]) -> Result<(ExprOrPred, &[Token]), PathRefusa
                 Ok((ExprOrPred::Test(p), rest))
             }
             [Token::Word(Keyword::Starts, _), rest @ ..] => {
-                let rest = single::with(rest).ok_or(PathRefusal::Syntax)?;
+                let rest = single::with(rest)?;
                 predicate::initial(self.alloc, e, rest)
             }
             [Token::Word(Keyword::LikeRegex, _), rest @ ..] => {
@@ -334,9 +334,9 @@ impl<F: Fn(Global, usize, &[Token]) -> Result<(ExprOrPred, &[Token]), PathRefusa
         requires { Nests self.now.depth (F.pre self.now.inner) (F.post self.now.inner) }
         ensures { Gives (λ x. (pred_of x.0.value, x.1.now)) result (reading.exists_at (reading.expr_or_pred_at self.now.depth) tokens.now) }
     {
-        let rest = single::open(tokens).ok_or(PathRefusal::Syntax)?;
+        let rest = single::open(tokens)?;
         let (e, rest) = self.inner_expr(rest)?;
-        let rest = single::close(rest).ok_or(PathRefusal::Syntax)?;
+        let rest = single::close(rest)?;
         Ok((Box::new(self.alloc, Pred::Exists(e))?, rest))
     }
 
@@ -346,7 +346,7 @@ impl<F: Fn(Global, usize, &[Token]) -> Result<(ExprOrPred, &[Token]), PathRefusa
         ensures { Gives (λ x. (pred_of x.0.value, x.1.now)) result (reading.group_at (reading.expr_or_pred_at self.now.depth) tokens.now) }
     {
         let (p, rest) = self.inner_pred(tokens)?;
-        let rest = single::close(rest).ok_or(PathRefusal::Syntax)?;
+        let rest = single::close(rest)?;
         Ok((p, rest))
     }
 
@@ -377,7 +377,7 @@ impl<F: Fn(Global, usize, &[Token]) -> Result<(ExprOrPred, &[Token]), PathRefusa
             }
             [Token::Open, rest @ ..] => {
                 let (x, rest) = self.inner(rest)?;
-                let rest = single::close(rest).ok_or(PathRefusal::Syntax)?;
+                let rest = single::close(rest)?;
                 self.after_group(x, rest)
             }
             [Token::Word(Keyword::Exists, _), rest @ ..] => {

@@ -67,7 +67,7 @@ pub fn unknown(
     let Some(rest) = single::is(tokens) else {
         return Ok((ExprOrPred::Test(p), tokens));
     };
-    let rest = single::unknown(rest).ok_or(PathRefusal::Syntax)?;
+    let rest = single::unknown(rest)?;
     let p = Box::new(alloc, Pred::IsUnknown(p))?;
     Ok((ExprOrPred::Test(p), rest))
 }

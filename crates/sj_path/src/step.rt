@@ -41,11 +41,11 @@ fn datetime(alloc: Global, tokens: &[Token]) -> Result<(Step, &[Token]), PathRef
 {
     match tokens {
         [Token::Quoted(text), rest @ ..] => {
-            let rest = single::close(rest).ok_or(PathRefusal::Syntax)?;
+            let rest = single::close(rest)?;
             Ok((Step::DatetimeBy(single::copy(alloc, text)?), rest))
         }
         _ => {
-            let rest = single::close(tokens).ok_or(PathRefusal::Syntax)?;
+            let rest = single::close(tokens)?;
             Ok((Step::Datetime, rest))
         }
     }
@@ -64,7 +64,7 @@ fn called(
         Keyword::Datetime => datetime(alloc, tokens),
         _ => {
             let method = method(keyword).ok_or(PathRefusal::Syntax)?;
-            let rest = single::close(tokens).ok_or(PathRefusal::Syntax)?;
+            let rest = single::close(tokens)?;
             Ok((method, rest))
         }
     }
@@ -80,9 +80,9 @@ fn named<'a>(
 ) -> Result<(Step, &'a [Token]), PathRefusal>
     ensures { Gives (λ x. (step_of x.0, x.1.now)) result (reading.named keyword text.now tokens.now) }
 {
-    match single::open(tokens) {
-        Some(rest) => called(alloc, keyword, rest),
-        None => Ok((Step::Member(single::copy(alloc, text)?), tokens)),
+    match tokens {
+        [Token::Open, rest @ ..] => called(alloc, keyword, rest),
+        _ => Ok((Step::Member(single::copy(alloc, text)?), tokens)),
     }
 }
 
