@@ -6,7 +6,7 @@ ghost use Rattle.sj_decimal.specs.Shorts.{between};
 ghost use Rattle.sj_json.specs.Tree.{Tree};
 ghost use Rattle.sj_json.specs.Building.{State};
 ghost use Rattle.sj_json.specs.Spelling.{SpellsText, IsJson};
-ghost use Rattle.sj_json.specs.Machine.{value as value_mode, key as key_mode, after_value as after_mode};
+ghost use Rattle.sj_json.specs.Machine.{value as value_mode, key as key_mode, colon as colon_mode, after_value as after_mode};
 ghost use Rattle.sj_doc.specs.Builders.{node_total};
 ghost use Rattle.sj_read.specs.Scans.{EndsPlain};
 ghost use Rattle.sj_read.specs.Turns.{mode_of, closes_at, Ready, TakesOneKey, Turns};
@@ -307,9 +307,36 @@ fn quoted_key(builder: &mut DocBuilder, buffer: &mut String, text: &str, at: usi
     }
 }
 
-// The same, and the colon if it stands right behind.
+// The colon at the place, and the value if it stands right behind.
 #[inline(always)]
-fn key(
+fn colon_and_value(
+    builder: &mut DocBuilder,
+    buffer: &mut String,
+    mode: &mut Mode,
+    text: &str,
+    at: usize,
+) -> Turn
+    requires line { builder.old.1 ≡ text.now }
+    requires within { (at < length text.now) × (length text.now ≤ MAX_LENGTH) }
+    requires here { slice_index text.now at ≡ 58 }
+    requires ready { Ready colon_mode builder.old.0 }
+    requires room { node_total builder.old.0 ≤ at }
+    ensures turns { Turns MAX_DEPTH mode.new result colon_mode builder.old.0 text.now at builder.new.0 }
+    ensures line { builder.new.1 ≡ builder.old.1 }
+{
+    match token_at(text.as_bytes(), at + 1) {
+        Some(c) => value(builder, buffer, mode, text, at + 1, c),
+        None => {
+            *mode = Mode::Value;
+            Ok(at + 1)
+        }
+    }
+}
+
+// The key that begins with the byte c at the place, and the colon and the value as far as they stand right behind. One turn
+// for a member is faster than several.
+#[inline(always)]
+fn member(
     builder: &mut DocBuilder,
     buffer: &mut String,
     mode: &mut Mode,
@@ -328,10 +355,7 @@ fn key(
 {
     match quoted_key(builder, buffer, text, at, c) {
         Ok(end) => match token_at(text.as_bytes(), end) {
-            Some(b':') => {
-                *mode = Mode::Value;
-                Ok(end + 1)
-            }
+            Some(b':') => colon_and_value(builder, buffer, mode, text, end),
             _ => {
                 *mode = Mode::Colon;
                 Ok(end)
@@ -420,7 +444,7 @@ fn turn(
     }
     match *mode {
         Mode::Value | Mode::ValueOrClose => value(builder, buffer, mode, text, at, c),
-        Mode::Key | Mode::KeyOrClose => key(builder, buffer, mode, text, at, c),
+        Mode::Key | Mode::KeyOrClose => member(builder, buffer, mode, text, at, c),
         Mode::Colon => {
             if c != b':' {
                 return Err(ReadRefusal::NotJson);

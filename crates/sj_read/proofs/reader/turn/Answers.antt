@@ -64,4 +64,4 @@ returns-in-Key-clause-turns c =
     let n = c.args.mode.now in
     let stays : closes_at n b ≡ false = sym c.closes_empty.ensures ∙ c.if-closes_empty.false in
     moved MAX_DEPTH (mode_of n) machine.key s t c.args.at b c.requires.within.0 (byte_is (goal.at.returns-in-Key-clause-turns c).After-as_bytes)
-    (opens_key MAX_DEPTH n s b c.in-Key.is (sym c.is_blank.ensures ∙ c.if-is_blank.false) stays) c.key.new.mode c.key.result c.key.new.builder.0 c.key.ensures.turns
+    (opens_key MAX_DEPTH n s b c.in-Key.is (sym c.is_blank.ensures ∙ c.if-is_blank.false) stays) c.member.new.mode c.member.result c.member.new.builder.0 c.member.ensures.turns
