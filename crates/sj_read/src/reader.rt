@@ -307,9 +307,9 @@ fn quoted_key(builder: &mut DocBuilder, buffer: &mut String, text: &str, at: usi
     }
 }
 
-// The colon at the place, and the value if it stands right behind.
+// The colon at the place, and the scalar if one stands right behind.
 #[inline(always)]
-fn colon_and_value(
+fn colon_and_scalar(
     builder: &mut DocBuilder,
     buffer: &mut String,
     mode: &mut Mode,
@@ -324,17 +324,17 @@ fn colon_and_value(
     ensures turns { Turns MAX_DEPTH mode.new result colon_mode builder.old.0 text.now at builder.new.0 }
     ensures line { builder.new.1 ≡ builder.old.1 }
 {
-    match token_at(text.as_bytes(), at + 1) {
-        Some(c) => value(builder, buffer, mode, text, at + 1, c),
-        None => {
-            *mode = Mode::Value;
-            Ok(at + 1)
+    if let Some(c) = token_at(text.as_bytes(), at + 1) {
+        if c != b'[' && c != b'{' {
+            return scalar_and_separator(builder, buffer, mode, text, at + 1, c);
         }
     }
+    *mode = Mode::Value;
+    Ok(at + 1)
 }
 
-// The key that begins with the byte c at the place, and the colon and the value as far as they stand right behind. One turn
-// for a member is faster than several.
+// The key that begins with the byte c at the place, and the colon and a scalar as far as they stand right behind. One
+// turn for a member is faster than several.
 #[inline(always)]
 fn member(
     builder: &mut DocBuilder,
@@ -355,7 +355,7 @@ fn member(
 {
     match quoted_key(builder, buffer, text, at, c) {
         Ok(end) => match token_at(text.as_bytes(), end) {
-            Some(b':') => colon_and_value(builder, buffer, mode, text, end),
+            Some(b':') => colon_and_scalar(builder, buffer, mode, text, end),
             _ => {
                 *mode = Mode::Colon;
                 Ok(end)
