@@ -7,7 +7,7 @@ ghost use Rattle.sj_grammar.specs.Tree as tree;
 ghost use Rattle.sj_path.specs.Tree.{expr_of, step_of, sub_of, subs_of, pred_of};
 ghost use Rattle.sj_cursor.specs.Cells.{source_expr, act_on};
 ghost use Rattle.sj_cursor.specs.Ends.{ends_core};
-ghost use Rattle.sj_cursor.specs.Left.{core, part_core, parts_core, test_core};
+ghost use Rattle.sj_cursor.specs.Left.{core, doing, doing_on, part_core, parts_core, test_core};
 
 use crate::cells::{
     Act, Acted, Acting, At, Binary, Both, Bounds, Cell, Comparison, Deed, Each, Elements, Filter,
@@ -25,6 +25,9 @@ enum Ends<'d> {
     Range(Box<Cell<'d>>, Box<Cell<'d>>),
 }
 
+/// The cells of two expressions.
+type TwoCells<'d> = (Box<Cell<'d>>, Box<Cell<'d>>);
+
 // ---- expressions
 
 /// The cells of an expression.
@@ -33,24 +36,35 @@ pub(crate) fn expr_cell<'d>(alloc: Global, expr: &'d Expr) -> Result<Box<Cell<'d
     ensures { IfOk result (λ c. core c.value ≡ expr_of expr.now) }
 {
     match expr {
-        Expr::Root => Ok(one(alloc, Source::Root)?),
-        Expr::Var(name) => Ok(one(alloc, Source::Var(name.as_str()))?),
-        Expr::Context => Ok(one(alloc, Source::Context)?),
-        Expr::Last => Ok(one(alloc, Source::Last)?),
-        Expr::Lit(literal) => Ok(one(alloc, Source::Lit(literal))?),
+        Expr::Root => one(alloc, Source::Root),
+        Expr::Var(name) => one(alloc, Source::Var(name.as_str())),
+        Expr::Context => one(alloc, Source::Context),
+        Expr::Last => one(alloc, Source::Last),
+        Expr::Lit(literal) => one(alloc, Source::Lit(literal)),
         Expr::Access(inner, step) => {
             let input = expr_cell(alloc, inner)?;
-            Ok(step_cell(alloc, step, input)?)
+            step_cell(alloc, step, input)
         }
-        Expr::Plus(inner) => Ok(acting(alloc, expr_cell(alloc, inner)?, Act::Plus)?),
-        Expr::Minus(inner) => Ok(acting(alloc, expr_cell(alloc, inner)?, Act::Minus)?),
+        Expr::Plus(inner) => acting(alloc, expr_cell(alloc, inner)?, Act::Plus),
+        Expr::Minus(inner) => acting(alloc, expr_cell(alloc, inner)?, Act::Minus),
         Expr::Binary(op, left, right) => {
-            let left = expr_cell(alloc, left)?;
-            match expr_cell(alloc, right) {
-                Ok(right) => Ok(binary(alloc, *op, left, right)?),
-                Err(memory) => Err(give_up(left, memory)),
-            }
+            let operands = two_cells(alloc, left, right)?;
+            binary(alloc, *op, operands)
         }
+    }
+}
+
+// The cells of two expressions.
+#[cycle(build)]
+#[inline(never)]
+fn two_cells<'d>(alloc: Global, left: &'d Expr, right: &'d Expr) -> Result<TwoCells<'d>, Memory>
+    ensures left { IfOk result (λ cells. core cells.0.value ≡ expr_of left.now) }
+    ensures right { IfOk result (λ cells. core cells.1.value ≡ expr_of right.now) }
+{
+    let left = expr_cell(alloc, left)?;
+    match expr_cell(alloc, right) {
+        Ok(right) => Ok((left, right)),
+        Err(memory) => Err(give_up(left, memory)),
     }
 }
 
@@ -76,14 +90,10 @@ fn operand<'d>(cell: Box<Cell<'d>>) -> Operand<'d>
 }
 
 #[inline(never)]
-fn binary<'d>(
-    alloc: Global,
-    op: Arith,
-    left: Box<Cell<'d>>,
-    right: Box<Cell<'d>>,
-) -> Result<Box<Cell<'d>>, Memory>
-    ensures { IfOk result (λ c. core c.value ≡ tree.Binary op (core left.entry.value) (core right.entry.value)) }
+fn binary<'d>(alloc: Global, op: Arith, operands: TwoCells<'d>) -> Result<Box<Cell<'d>>, Memory>
+    ensures { IfOk result (λ c. core c.value ≡ tree.Binary op (core operands.entry.0.value) (core operands.entry.1.value)) }
 {
+    let (left, right) = operands;
     let cell = Cell::Binary(Binary {
         op,
         left: operand(left),
@@ -122,19 +132,27 @@ fn step_cell<'d>(
     ensures { IfOk result (λ c. core c.value ≡ tree.Access (core input.entry.value) (step_of step.now)) }
 {
     match step {
-        Step::Member(key) => Ok(acting(alloc, input, Act::Member(key.as_str()))?),
-        Step::AllMembers => Ok(acting(alloc, input, Act::AllMembers)?),
-        Step::AllElements => Ok(acting(alloc, input, Act::AllElements)?),
-        Step::Method(method) => Ok(acting(alloc, input, Act::Method(*method))?),
+        Step::Member(key) => acting(alloc, input, Act::Member(key.as_str())),
+        Step::AllMembers => acting(alloc, input, Act::AllMembers),
+        Step::AllElements => acting(alloc, input, Act::AllElements),
+        Step::Method(method) => acting(alloc, input, Act::Method(*method)),
         Step::Elements(subs) => match parts_cell(alloc, subs) {
-            Ok(parts) => Ok(elements(alloc, input, parts)?),
+            Ok(parts) => elements(alloc, input, parts),
             Err(memory) => Err(give_up(input, memory)),
         },
         Step::Filter(pred) => match test_cell(alloc, pred) {
-            Ok(test) => Ok(filter(alloc, input, test)?),
+            Ok(test) => filter(alloc, input, test),
             Err(memory) => Err(give_up(input, memory)),
         },
     }
+}
+
+// Something that is done with each item of an expression.
+fn each<'d>(alloc: Global, input: Box<Cell<'d>>, deed: Deed<'d>) -> Result<Box<Cell<'d>>, Memory>
+    ensures { IfOk result (λ c. core c.value ≡ doing_on (doing deed.entry) (core input.entry.value)) }
+{
+    let input = operand(input);
+    Ok(Box::new(alloc, Cell::Each(Each { input, deed }))?)
 }
 
 #[inline(never)]
@@ -142,11 +160,7 @@ fn acting<'d>(alloc: Global, input: Box<Cell<'d>>, act: Act<'d>) -> Result<Box<C
     ensures { IfOk result (λ c. core c.value ≡ act_on act.entry (core input.entry.value)) }
 {
     let left = Acted::Walk(Walk::ended());
-    let cell = Cell::Each(Each {
-        input: operand(input),
-        deed: Deed::Act(Acting { act, left }),
-    });
-    Ok(Box::new(alloc, cell)?)
+    each(alloc, input, Deed::Act(Acting { act, left }))
 }
 
 #[inline(never)]
@@ -158,11 +172,7 @@ fn elements<'d>(
     ensures { IfOk result (λ c. core c.value ≡ tree.Access (core input.entry.value) (tree.Elements (parts_core parts.entry.value))) }
 {
     let at = At::Nothing;
-    let cell = Cell::Each(Each {
-        input: operand(input),
-        deed: Deed::Elements(Elements { parts, at }),
-    });
-    Ok(Box::new(alloc, cell)?)
+    each(alloc, input, Deed::Elements(Elements { parts, at }))
 }
 
 #[inline(never)]
@@ -173,11 +183,7 @@ fn filter<'d>(
 ) -> Result<Box<Cell<'d>>, Memory>
     ensures { IfOk result (λ c. core c.value ≡ tree.Access (core input.entry.value) (tree.Filter (test_core test.entry.value))) }
 {
-    let cell = Cell::Each(Each {
-        input: operand(input),
-        deed: Deed::Filter(Filter { test }),
-    });
-    Ok(Box::new(alloc, cell)?)
+    each(alloc, input, Deed::Filter(Filter { test }))
 }
 
 // ---- subscripts
@@ -188,11 +194,11 @@ fn parts_cell<'d>(alloc: Global, subs: &'d Subs) -> Result<Box<Parts<'d>>, Memor
     ensures { IfOk result (λ p. parts_core p.value ≡ subs_of subs.now) }
 {
     match subs {
-        Subs::Only(sub) => Ok(only(alloc, ends_cell(alloc, sub)?)?),
+        Subs::Only(sub) => only(alloc, ends_cell(alloc, sub)?),
         Subs::More(sub, others) => {
             let first = ends_cell(alloc, sub)?;
             match parts_cell(alloc, others) {
-                Ok(others) => Ok(more(alloc, first, others)?),
+                Ok(others) => more(alloc, first, others),
                 Err(memory) => Err(give_up_ends(first, memory)),
             }
         }
@@ -207,11 +213,8 @@ fn ends_cell<'d>(alloc: Global, sub: &'d Sub) -> Result<Ends<'d>, Memory>
     match sub {
         Sub::One(index) => Ok(Ends::One(expr_cell(alloc, index)?)),
         Sub::Range(from, to) => {
-            let from = expr_cell(alloc, from)?;
-            match expr_cell(alloc, to) {
-                Ok(to) => Ok(Ends::Range(from, to)),
-                Err(memory) => Err(give_up(from, memory)),
-            }
+            let (from, to) = two_cells(alloc, from, to)?;
+            Ok(Ends::Range(from, to))
         }
     }
 }
@@ -263,33 +266,32 @@ fn test_cell<'d>(alloc: Global, pred: &'d Pred) -> Result<Box<Test<'d>>, Memory>
 {
     match pred {
         Pred::Compare(op, left, right) => {
-            let left = expr_cell(alloc, left)?;
-            match expr_cell(alloc, right) {
-                Ok(right) => Ok(comparison(alloc, *op, left, right)?),
-                Err(memory) => Err(give_up(left, memory)),
-            }
+            let operands = two_cells(alloc, left, right)?;
+            comparison(alloc, *op, operands)
         }
-        Pred::And(left, right) => {
-            let left = test_cell(alloc, left)?;
-            match test_cell(alloc, right) {
-                Ok(right) => Ok(both_hold(alloc, left, right)?),
-                Err(memory) => Err(give_up_test(left, memory)),
-            }
-        }
-        Pred::Or(left, right) => {
-            let left = test_cell(alloc, left)?;
-            match test_cell(alloc, right) {
-                Ok(right) => Ok(one_holds(alloc, left, right)?),
-                Err(memory) => Err(give_up_test(left, memory)),
-            }
-        }
-        Pred::Not(inner) => Ok(negation(alloc, test_cell(alloc, inner)?)?),
-        Pred::IsUnknown(inner) => Ok(is_unknown(alloc, test_cell(alloc, inner)?)?),
-        Pred::Exists(expr) => Ok(exists(alloc, expr_cell(alloc, expr)?)?),
+        Pred::And(left, right) => both_hold(alloc, two_tests(alloc, left, right)?),
+        Pred::Or(left, right) => one_holds(alloc, two_tests(alloc, left, right)?),
+        Pred::Not(inner) => negation(alloc, test_cell(alloc, inner)?),
+        Pred::IsUnknown(inner) => is_unknown(alloc, test_cell(alloc, inner)?),
+        Pred::Exists(expr) => exists(alloc, expr_cell(alloc, expr)?),
         Pred::StartsWith(expr, initial) => {
             let text = expr_cell(alloc, expr)?;
-            Ok(starts_with(alloc, text, initial)?)
+            starts_with(alloc, text, initial)
         }
+    }
+}
+
+// The cells of two predicates.
+#[cycle(build)]
+#[inline(never)]
+fn two_tests<'d>(alloc: Global, left: &'d Pred, right: &'d Pred) -> Result<Both<'d>, Memory>
+    ensures left { IfOk result (λ both. test_core both.left.value ≡ pred_of left.now) }
+    ensures right { IfOk result (λ both. test_core both.right.value ≡ pred_of right.now) }
+{
+    let left = test_cell(alloc, left)?;
+    match test_cell(alloc, right) {
+        Ok(right) => Ok(Both { left, right }),
+        Err(memory) => Err(give_up_test(left, memory)),
     }
 }
 
@@ -305,57 +307,49 @@ fn boxed<'d>(alloc: Global, test: Test<'d>) -> Result<Box<Test<'d>>, Memory>
 fn comparison<'d>(
     alloc: Global,
     op: Compare,
-    left: Box<Cell<'d>>,
-    right: Box<Cell<'d>>,
+    operands: TwoCells<'d>,
 ) -> Result<Box<Test<'d>>, Memory>
-    ensures { IfOk result (λ x. test_core x.value ≡ tree.Compares op (core left.entry.value) (core right.entry.value)) }
+    ensures { IfOk result (λ x. test_core x.value ≡ tree.Compares op (core operands.entry.0.value) (core operands.entry.1.value)) }
 {
+    let (left, right) = operands;
     let right = operand(right);
     let left = operand(left);
-    Ok(boxed(alloc, Test::Compare(Comparison { op, left, right }))?)
+    boxed(alloc, Test::Compare(Comparison { op, left, right }))
 }
 
 #[inline(never)]
-fn both_hold<'d>(
-    alloc: Global,
-    left: Box<Test<'d>>,
-    right: Box<Test<'d>>,
-) -> Result<Box<Test<'d>>, Memory>
-    ensures { IfOk result (λ x. test_core x.value ≡ tree.And (test_core left.entry.value) (test_core right.entry.value)) }
+fn both_hold<'d>(alloc: Global, both: Both<'d>) -> Result<Box<Test<'d>>, Memory>
+    ensures { IfOk result (λ x. test_core x.value ≡ tree.And (test_core both.entry.left.value) (test_core both.entry.right.value)) }
 {
-    Ok(boxed(alloc, Test::And(Both { left, right }))?)
+    boxed(alloc, Test::And(both))
 }
 
 #[inline(never)]
-fn one_holds<'d>(
-    alloc: Global,
-    left: Box<Test<'d>>,
-    right: Box<Test<'d>>,
-) -> Result<Box<Test<'d>>, Memory>
-    ensures { IfOk result (λ x. test_core x.value ≡ tree.Or (test_core left.entry.value) (test_core right.entry.value)) }
+fn one_holds<'d>(alloc: Global, both: Both<'d>) -> Result<Box<Test<'d>>, Memory>
+    ensures { IfOk result (λ x. test_core x.value ≡ tree.Or (test_core both.entry.left.value) (test_core both.entry.right.value)) }
 {
-    Ok(boxed(alloc, Test::Or(Both { left, right }))?)
+    boxed(alloc, Test::Or(both))
 }
 
 #[inline(never)]
 fn negation<'d>(alloc: Global, inner: Box<Test<'d>>) -> Result<Box<Test<'d>>, Memory>
     ensures { IfOk result (λ x. test_core x.value ≡ tree.Not (test_core inner.entry.value)) }
 {
-    Ok(boxed(alloc, Test::Not(inner))?)
+    boxed(alloc, Test::Not(inner))
 }
 
 #[inline(never)]
 fn is_unknown<'d>(alloc: Global, inner: Box<Test<'d>>) -> Result<Box<Test<'d>>, Memory>
     ensures { IfOk result (λ x. test_core x.value ≡ tree.IsUnknown (test_core inner.entry.value)) }
 {
-    Ok(boxed(alloc, Test::IsUnknown(inner))?)
+    boxed(alloc, Test::IsUnknown(inner))
 }
 
 #[inline(never)]
 fn exists<'d>(alloc: Global, expr: Box<Cell<'d>>) -> Result<Box<Test<'d>>, Memory>
     ensures { IfOk result (λ x. test_core x.value ≡ tree.Exists (core expr.entry.value)) }
 {
-    Ok(boxed(alloc, Test::Exists(operand(expr)))?)
+    boxed(alloc, Test::Exists(operand(expr)))
 }
 
 #[inline(never)]
@@ -367,5 +361,5 @@ fn starts_with<'d>(
     ensures { IfOk result (λ x. test_core x.value ≡ tree.StartsWith (core expr.entry.value) initial.now) }
 {
     let text = operand(expr);
-    Ok(boxed(alloc, Test::StartsWith(Start { text, initial }))?)
+    boxed(alloc, Test::StartsWith(Start { text, initial }))
 }

@@ -5,7 +5,9 @@ ghost use Rattle.sj_path.specs.Tree.{path_of};
 ghost use Rattle.sj_step.specs.Answers.{answer_value};
 ghost use Rattle.sj_cursor.specs.Draws.{Draws};
 ghost use Rattle.sj_cursor.specs.Left.{core, left};
-ghost use Rattle.sj_cursor.specs.Meaning.{start_env};
+ghost use Rattle.sj_cursor.specs.Meaning.{meaning, start_env};
+ghost use Rattle.sj_cursor.specs.Meaning.{Env as Surroundings};
+ghost use Rattle.sj_cursor.specs.Standing.{standing_left};
 
 use crate::build::expr_cell;
 use crate::cells::Cell;
@@ -72,6 +74,22 @@ impl<'d> Model for Cursor<'d> {
     ghost view = { λ c. record { path = c.path.now; vars = c.vars.now; root = item_value c.root; left = standing_left c.stands (path_trace (path_of c.path.now) c.vars.now (item_value c.root)) (left c.cell.value (start_env (path_of c.path.now) c.vars.now (item_value c.root))) } };
 
     ghost invariant = { λ c. IsCursor (path_of c.path.now) c.cell.value c.chain };
+}
+
+// Where a cursor stands at its beginning, its cells go back, wherever they stood.
+#[inline(always)]
+fn rewind_at_the_beginning(stands: &mut Stands, cell: &mut Cell<'_>)
+    ensures left { (env : Surroundings) → left cell.new env ≡ standing_left stands.old (meaning (core cell.old) env) (left cell.old env) }
+    ensures same { core cell.new ≡ core cell.old }
+    ensures stands { stands.new ≡ Stands.WithItsCells }
+{
+    match *stands {
+        Stands::AtTheBeginning => {
+            cell.rewind();
+            *stands = Stands::WithItsCells;
+        }
+        Stands::WithItsCells => {}
+    }
 }
 
 // The next item of the cells of a path.
@@ -157,30 +175,15 @@ impl<'d> Cursor<'d> {
         ensures vars { self.new.vars ≡ self.old.vars }
         ensures root { self.new.root ≡ self.old.root }
     {
-        match self.stands {
-            Stands::AtTheBeginning => {
-                self.cell.rewind();
-                self.stands = Stands::WithItsCells;
-                next_of(
-                    self.path,
-                    self.vars,
-                    &self.root,
-                    &mut self.cell,
-                    steps,
-                    place,
-                )
-            }
-            Stands::WithItsCells => {
-                next_of(
-                    self.path,
-                    self.vars,
-                    &self.root,
-                    &mut self.cell,
-                    steps,
-                    place,
-                )
-            }
-        }
+        rewind_at_the_beginning(&mut self.stands, &mut self.cell);
+        next_of(
+            self.path,
+            self.vars,
+            &self.root,
+            &mut self.cell,
+            steps,
+            place,
+        )
     }
 
     /// From the beginning, on another root, wherever the cursor stood. It takes no memory.

@@ -4,3 +4,4 @@ pub mod Lookups
 pub mod Placed
 pub mod Sources
 pub mod SeriesLaws
+mod Turns

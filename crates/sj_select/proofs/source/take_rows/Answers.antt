@@ -1,15 +1,11 @@
-use Rattle.std.proofs.Common.{◌≡◌, ◌+◌, ◌∙◌, [], Bor, map, refl, sym, ap, subst, arith}
+use Rattle.std.proofs.Common.{◌≡◌, ◌+◌, ◌∙◌, [], Bor, refl, sym, ap, subst, arith}
 use Rattle.std.specs.List.{All}
 use Rattle.std.proofs.lemmas.List.Elements.{All-nil}
-use Rattle.sj_base.specs.Outside.{raised}
 use Rattle.sj_value.specs.Values.{IsPrintable}
 use Rattle.sj_table.specs.Series.{size}
 use Rattle.sj_bind.specs.View.{table_of}
 use Rattle.sj_bind.specs.declared.bound.BoundTable.{BoundTable}
-use Rattle.sj_select.specs.Line.{line_of}
-use Rattle.sj_select.specs.Rows.{aggregated, aggregated_cost}
-use Rattle.sj_select.specs.Tables.{plan_left, plan_due}
-use Rattle.sj_select.specs.Taking.{aggregate_of}
+use Rattle.sj_select.specs.Tables.{plan_left}
 use Rattle.sj_select.proofs.TakingRows.{come_end, come_raised, come_within, come_row_within, come_stop, come_more}
 use Rattle.sj_select.proofs.source.take_rows.Goals as goal
 
@@ -27,24 +23,10 @@ pub next_row-requires : goal.next_row-requires
 next_row-requires g c = c.rows.invariant.placed
 
 pub returns-in-End-clause-takes : goal.returns-in-End-clause-takes
-returns-in-End-clause-takes g c =
-    let line = line_of c.args.line in
-    let table = table_of c.args.table.now.table.now in
-    let list = map aggregate_of c.args.aggregates.now in
-    let whole = aggregated line table list [] (plan_left c.args.table.now) in
-    let allowed = raised c.args.steps.now (plan_due c.args.table.now + aggregated_cost line table list [] (plan_left c.args.table.now)) in
-    let inv = c.rows.invariant in
-    come_end line table list whole allowed c.rows.aggregates (plan_left c.rows.table) (plan_due c.rows.table) c.rows.steps inv.come inv.calls c.in-End.ensures.takes.answers
+returns-in-End-clause-takes g c = come_end _ _ _ _ _ _ _ _ _ c.rows.invariant.come c.rows.invariant.calls c.in-End.ensures.takes.answers
 
 pub returns-in-End-clause-costs : goal.returns-in-End-clause-costs
-returns-in-End-clause-costs g c =
-    let line = line_of c.args.line in
-    let table = table_of c.args.table.now.table.now in
-    let list = map aggregate_of c.args.aggregates.now in
-    let whole = aggregated line table list [] (plan_left c.args.table.now) in
-    let allowed = raised c.args.steps.now (plan_due c.args.table.now + aggregated_cost line table list [] (plan_left c.args.table.now)) in
-    let inv = c.rows.invariant in
-    come_within line table list whole allowed c.rows.aggregates (plan_left c.rows.table) (plan_due c.rows.table) c.rows.steps inv.come 0 c.next_row.new.steps c.in-End.ensures.takes.spends
+returns-in-End-clause-costs g c = come_within _ _ _ _ _ _ _ _ _ c.rows.invariant.come 0 _ c.in-End.ensures.takes.spends
 
 pub returns-in-End-clause-calls : goal.returns-in-End-clause-calls
 returns-in-End-clause-calls g c = c.rows.invariant.calls
@@ -59,24 +41,10 @@ pub returns-in-End-clause-table : goal.returns-in-End-clause-table
 returns-in-End-clause-table g c = c.next_row.ensures.table ∙ c.rows.invariant.table
 
 pub returns-in-Raised-clause-takes : goal.returns-in-Raised-clause-takes
-returns-in-Raised-clause-takes g c =
-    let line = line_of c.args.line in
-    let table = table_of c.args.table.now.table.now in
-    let list = map aggregate_of c.args.aggregates.now in
-    let whole = aggregated line table list [] (plan_left c.args.table.now) in
-    let allowed = raised c.args.steps.now (plan_due c.args.table.now + aggregated_cost line table list [] (plan_left c.args.table.now)) in
-    let inv = c.rows.invariant in
-    come_raised line table list whole allowed c.rows.aggregates (plan_left c.rows.table) (plan_due c.rows.table) c.rows.steps inv.come c.in-Raised.state c.in-Raised.ensures.takes.answers
+returns-in-Raised-clause-takes g c = come_raised _ _ _ _ _ _ _ _ _ c.rows.invariant.come _ c.in-Raised.ensures.takes.answers
 
 pub returns-in-Raised-clause-costs : goal.returns-in-Raised-clause-costs
-returns-in-Raised-clause-costs g c =
-    let line = line_of c.args.line in
-    let table = table_of c.args.table.now.table.now in
-    let list = map aggregate_of c.args.aggregates.now in
-    let whole = aggregated line table list [] (plan_left c.args.table.now) in
-    let allowed = raised c.args.steps.now (plan_due c.args.table.now + aggregated_cost line table list [] (plan_left c.args.table.now)) in
-    let inv = c.rows.invariant in
-    come_within line table list whole allowed c.rows.aggregates (plan_left c.rows.table) (plan_due c.rows.table) c.rows.steps inv.come 0 c.next_row.new.steps c.in-Raised.ensures.takes.spends
+returns-in-Raised-clause-costs g c = come_within _ _ _ _ _ _ _ _ _ c.rows.invariant.come 0 _ c.in-Raised.ensures.takes.spends
 
 pub returns-in-Raised-clause-calls : goal.returns-in-Raised-clause-calls
 returns-in-Raised-clause-calls g c = c.rows.invariant.calls
@@ -98,16 +66,7 @@ take_row-requires-clause-printable g c = c.rows.invariant.printable
 
 pub returns-in_err-state-clause-costs : goal.returns-in_err-state-clause-costs
 returns-in_err-state-clause-costs g c =
-    let line = line_of c.args.line in
-    let table = table_of c.args.table.now.table.now in
-    let list = map aggregate_of c.args.aggregates.now in
-    let whole = aggregated line table list [] (plan_left c.args.table.now) in
-    let allowed = raised c.args.steps.now (plan_due c.args.table.now + aggregated_cost line table list [] (plan_left c.args.table.now)) in
-    let inv = c.rows.invariant in
-    let row = c.next_row.new.self.cursor.given in
-    let others = plan_left c.next_row.new.self in
-    let same : table_of c.next_row.new.self.table.now ≡ table = ap (λ (t : Bor BoundTable). table_of t.now) (c.next_row.ensures.table ∙ inv.table) in
-    come_row_within line table list whole allowed c.rows.aggregates (plan_left c.rows.table) (plan_due c.rows.table) c.rows.steps inv.come row others c.in-Row.ensures.takes.answers (table_of c.next_row.new.self.table.now) same (plan_due c.next_row.new.self) c.next_row.new.steps c.take_row.new.steps inv.calls c.in-Row.ensures.takes.spends (c.take_row.ensures.costs inv.come.before inv.come.taken)
+    come_row_within _ _ _ _ _ _ _ _ _ c.rows.invariant.come _ _ c.in-Row.ensures.takes.answers _ (ap (λ (t : Bor BoundTable). table_of t.now) (c.next_row.ensures.table ∙ c.rows.invariant.table)) _ _ _ c.rows.invariant.calls c.in-Row.ensures.takes.spends (c.take_row.ensures.costs _ c.rows.invariant.come.taken)
 
 pub returns-in_err-state-clause-calls : goal.returns-in_err-state-clause-calls
 returns-in_err-state-clause-calls g c = c.take_row.ensures.calls ∙ c.rows.invariant.calls
@@ -117,29 +76,11 @@ returns-in_err-state-clause-table g c = c.take_row.ensures.table ∙ c.next_row.
 
 pub returns-in-Some-clause-costs : goal.returns-in-Some-clause-costs
 returns-in-Some-clause-costs g c =
-    let line = line_of c.args.line in
-    let table = table_of c.args.table.now.table.now in
-    let list = map aggregate_of c.args.aggregates.now in
-    let whole = aggregated line table list [] (plan_left c.args.table.now) in
-    let allowed = raised c.args.steps.now (plan_due c.args.table.now + aggregated_cost line table list [] (plan_left c.args.table.now)) in
-    let inv = c.rows.invariant in
-    let row = c.next_row.new.self.cursor.given in
-    let others = plan_left c.next_row.new.self in
-    let same : table_of c.next_row.new.self.table.now ≡ table = ap (λ (t : Bor BoundTable). table_of t.now) (c.next_row.ensures.table ∙ inv.table) in
-    come_row_within line table list whole allowed c.rows.aggregates (plan_left c.rows.table) (plan_due c.rows.table) c.rows.steps inv.come row others c.in-Row.ensures.takes.answers (table_of c.next_row.new.self.table.now) same (plan_due c.next_row.new.self) c.next_row.new.steps c.take_row.new.steps inv.calls c.in-Row.ensures.takes.spends (c.take_row.ensures.costs inv.come.before inv.come.taken)
+    come_row_within _ _ _ _ _ _ _ _ _ c.rows.invariant.come _ _ c.in-Row.ensures.takes.answers _ (ap (λ (t : Bor BoundTable). table_of t.now) (c.next_row.ensures.table ∙ c.rows.invariant.table)) _ _ _ c.rows.invariant.calls c.in-Row.ensures.takes.spends (c.take_row.ensures.costs _ c.rows.invariant.come.taken)
 
 pub returns-in-Some-clause-takes : goal.returns-in-Some-clause-takes
 returns-in-Some-clause-takes g c =
-    let line = line_of c.args.line in
-    let table = table_of c.args.table.now.table.now in
-    let list = map aggregate_of c.args.aggregates.now in
-    let whole = aggregated line table list [] (plan_left c.args.table.now) in
-    let allowed = raised c.args.steps.now (plan_due c.args.table.now + aggregated_cost line table list [] (plan_left c.args.table.now)) in
-    let inv = c.rows.invariant in
-    let row = c.next_row.new.self.cursor.given in
-    let others = plan_left c.next_row.new.self in
-    let same : table_of c.next_row.new.self.table.now ≡ table = ap (λ (t : Bor BoundTable). table_of t.now) (c.next_row.ensures.table ∙ inv.table) in
-    come_stop line table list whole allowed c.rows.aggregates (plan_left c.rows.table) (plan_due c.rows.table) c.rows.steps inv.come row others c.in-Row.ensures.takes.answers (table_of c.next_row.new.self.table.now) same c.in-Some.state inv.calls (rw c.in-Some.is at (c.in_ok-state.ensures.takes inv.come.before inv.come.taken))
+    come_stop _ _ _ _ _ _ _ _ _ c.rows.invariant.come _ _ c.in-Row.ensures.takes.answers _ (ap (λ (t : Bor BoundTable). table_of t.now) (c.next_row.ensures.table ∙ c.rows.invariant.table)) _ c.rows.invariant.calls (rw c.in-Some.is at (c.in_ok-state.ensures.takes _ c.rows.invariant.come.taken))
 
 pub returns-in-Some-clause-calls : goal.returns-in-Some-clause-calls
 returns-in-Some-clause-calls g c = c.take_row.ensures.calls ∙ c.rows.invariant.calls
@@ -155,22 +96,13 @@ rows-smaller g c =
 
 pub rows-preserved : goal.rows-preserved
 rows-preserved g c =
-    let line = line_of c.args.line in
-    let table = table_of c.args.table.now.table.now in
-    let list = map aggregate_of c.args.aggregates.now in
-    let whole = aggregated line table list [] (plan_left c.args.table.now) in
-    let allowed = raised c.args.steps.now (plan_due c.args.table.now + aggregated_cost line table list [] (plan_left c.args.table.now)) in
-    let inv = c.rows.invariant in
-    let row = c.next_row.new.self.cursor.given in
-    let others = plan_left c.next_row.new.self in
-    let same : table_of c.next_row.new.self.table.now ≡ table = ap (λ (t : Bor BoundTable). table_of t.now) (c.next_row.ensures.table ∙ inv.table) in
     record {
-      calls = c.take_row.ensures.calls ∙ inv.calls;
+      calls = c.take_row.ensures.calls ∙ c.rows.invariant.calls;
       ready = c.take_row.ensures.ready;
       printable = c.take_row.ensures.printable;
-      table = c.take_row.ensures.table ∙ c.next_row.ensures.table ∙ inv.table;
+      table = c.take_row.ensures.table ∙ c.next_row.ensures.table ∙ c.rows.invariant.table;
       placed = c.take_row.ensures.placed;
-      come = come_more line table list whole allowed c.rows.aggregates (plan_left c.rows.table) (plan_due c.rows.table) c.rows.steps inv.come row others c.in-Row.ensures.takes.answers (table_of c.next_row.new.self.table.now) same c.take_row.new.aggregates (plan_left c.take_row.new.table) (plan_due c.next_row.new.self) (plan_due c.take_row.new.table) c.next_row.new.steps c.take_row.new.steps inv.calls
-          (c.take_row.ensures.calls ∙ inv.calls) c.take_row.ensures.ready (rw c.in_default.is at (c.in_ok-state.ensures.takes inv.come.before inv.come.taken)) c.in-Row.ensures.takes.spends
-          (c.take_row.ensures.costs inv.come.before inv.come.taken) c.take_row.ensures.left c.take_row.ensures.due;
+      come = come_more _ _ _ _ _ _ _ _ _ c.rows.invariant.come _ _ c.in-Row.ensures.takes.answers _ (ap (λ (t : Bor BoundTable). table_of t.now) (c.next_row.ensures.table ∙ c.rows.invariant.table)) _ _ _ _ _ _ c.rows.invariant.calls
+          (c.take_row.ensures.calls ∙ c.rows.invariant.calls) c.take_row.ensures.ready (rw c.in_default.is at (c.in_ok-state.ensures.takes _ c.rows.invariant.come.taken)) c.in-Row.ensures.takes.spends
+          (c.take_row.ensures.costs _ c.rows.invariant.come.taken) c.take_row.ensures.left c.take_row.ensures.due;
     }

@@ -1,13 +1,12 @@
-use Rattle.std.proofs.Common.{ap, ◌∙◌}
-use Rattle.sj_cursor.specs.Left.{core}
+use Rattle.sj_item.specs.Items.{item_value}
+use Rattle.sj_path.specs.Tree.{path_of}
+use Rattle.sj_cursor.specs.Meaning.{start_env}
 use Rattle.sj_cursor.proofs.Begins.{begins}
 use Rattle.sj_cursor.proofs.cursor.Cursor.put_next.Goals as goal
 
-pub returns-in-AtTheBeginning-clause-answers : goal.returns-in-AtTheBeginning-clause-answers
-returns-in-AtTheBeginning-clause-answers g c =
-    rw (
-      ← c.self.view_is,
-      c.in-AtTheBeginning.is,
-      ← begins c.self.inside.path.now _ _ _ _ (ap core c.deref_mut.ensures.value ∙ c.self.invariant.cells) (c.rewind.ensures.whole _),
-    )
-    (rw c.deref_mut-in-AtTheBeginning.ensures.value at c.next_of.ensures.answers)
+pub returns-clause-answers : goal.returns-clause-answers
+returns-clause-answers g c =
+    let env = start_env (path_of c.self.inside.path.now) c.self.inside.vars.now (item_value c.self.inside.root) in
+    let left = rw c.deref_mut.ensures.value at (c.rewind_at_the_beginning.ensures.left env) in
+    rw (← c.self.view_is, ← begins c.self.inside.path.now _ _ _ _ _ _ c.self.invariant.cells left, c.rewind_at_the_beginning.ensures.stands)
+    (rw c.deref_mut-2.ensures.value at c.next_of.ensures.answers)
