@@ -1,5 +1,4 @@
 mod Compared
-mod Singles
 mod Examples
 mod Draws
 mod Looks

@@ -15,7 +15,7 @@ use Rattle.sj_cursor.specs.Verdicts.{exists_truth, exists_verdict, is_faulty, ha
 use Rattle.sj_cursor.specs.Draws.{Draws}
 use Rattle.sj_cursor.specs.Decides.{Decides}
 use Rattle.sj_cursor.specs.Answers.{unless_faulty, exists_answer, answer_in}
-use Rattle.sj_cursor.specs.Looks.{Found, none_found, one_found, several_found, Look, more, is_enough, looked, look_cost, Finds, limit_of_exists, limit_of_single, is_found, truth_unless, exists_in, single_found, single_unless, single_in}
+use Rattle.sj_cursor.specs.Looks.{Found, none_found, one_found, several_found, Look, more, is_enough, looked, look_cost, Finds, limit_of_exists, limit_of_single, is_found, truth_unless, exists_in, single_found, single_in}
 use Rattle.sj_cursor.specs.declared.look.Limit.{Limit}
 use Rattle.sj_cursor.specs.declared.look.Limit.TheVariants as limits
 use Rattle.sj_cursor.proofs.Draws.{draw_item, draw_end, draw_fault}
@@ -191,15 +191,10 @@ lax_single_cost (fail f) = refl
 lax_single_cost (visit t) = ap suc (lax_single_cost t)
 lax_single_cost (give x t) = lax_single_cost_more x t
 
-unless_same : (o : Option State) (answer : Single) → single_unless o answer ≡ unless_fault o answer
-unless_same None answer = refl
-unless_same (Some f) answer = refl
-
 single_is : (mode : Mode) (s : State) (t : Trace) → single_in s (looked (limit_of_single mode) none_found t) ≡ single mode s t
 single_is Lax s t = lax_single s t
 single_is Strict s t =
-    unless_same (looked limits.End none_found t).fault (single_found s (looked limits.End none_found t).found)
-    ∙ ap (λ o. unless_fault o (single_found s (looked limits.End none_found t).found)) (end_fault none_found t)
+    ap (λ o. unless_fault o (single_found s (looked limits.End none_found t).found)) (end_fault none_found t)
     ∙ ap (unless_fault (fault_of t)) (end_single s t)
 
 single_cost : (mode : Mode) (t : Trace) → look_cost (limit_of_single mode) none_found t ≡ need mode 2 t

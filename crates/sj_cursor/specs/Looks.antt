@@ -10,7 +10,7 @@ use Rattle.sj_item.specs.Truths.{truth_of}
 use Rattle.sj_item.specs.declared.truth.Truth.{Truth}
 use Rattle.sj_item.specs.declared.truth.Truth.TheVariants.{Unknown}
 use Rattle.sj_step.specs.Trace.{Trace, stop, fail, visit, give}
-use Rattle.sj_cursor.specs.Single.{Single, bad, zero_items, one_item}
+use Rattle.sj_cursor.specs.Single.{Single, bad, zero_items, one_item, unless_fault}
 use Rattle.sj_cursor.specs.declared.look.Limit.{Limit}
 use Rattle.sj_cursor.specs.declared.look.Limit.TheVariants as limits
 use Rattle.sj_cursor.specs.declared.look.Found.{Found as FoundHeld}
@@ -98,9 +98,5 @@ single_found s none_found = zero_items
 single_found s (one_found x) = one_item x
 single_found s several_found = bad s
 
-abbrev pub single_unless : Option State → Single → Single
-single_unless None answer = answer
-single_unless (Some f) answer = bad f
-
 abbrev pub single_in : State → Look → Single
-single_in s l = single_unless l.fault (single_found s l.found)
+single_in s l = unless_fault l.fault (single_found s l.found)
