@@ -1,5 +1,5 @@
 -- What commas part: the turns of a loop that gathers it, beside the recursion that reads it.
-use Rattle.std.proofs.Common.{◌≡◌, ℕ, zero, suc, ◌+◌, ◌-◌, ◌<◌, ◌≤◌, List, [], ◌∷◌, ◌++◌, Option, Some, None, refl, sym, ap, ◌∙◌, arith}
+use Rattle.std.proofs.Common.{map, ◌≡◌, ℕ, zero, suc, ◌+◌, ◌-◌, ◌<◌, ◌≤◌, List, [], ◌∷◌, ◌++◌, Option, Some, None, refl, sym, ap, ◌∙◌, arith}
 use Rattle.sj_base.specs.Options.{◌>>=◌}
 use Rattle.sj_grammar.specs.Tree.{Path}
 use Rattle.sj_statement.specs.declared.clauses.Passed.{Passed}
@@ -11,13 +11,9 @@ use Rattle.sj_statement.proofs.Words.{bind_is, bind_none, some_on, none_on}
 use Rattle.sj_sql.specs.declared.refusal.Refusal.{Refusal}
 use Rattle.sj_sql.specs.declared.refusal.Refusal.TheVariants as refusal
 use Rattle.sj_sql.specs.declared.tree.SValue.{SValue}
-use Rattle.sj_sql.specs.declared.tree.TValue.{TValue}
 use Rattle.sj_sql.specs.declared.tree.TItem.{TItem}
-use Rattle.sj_sql.specs.declared.tree.Column.{Column}
-use Rattle.sj_sql.specs.declared.member.Member.{Member}
-use Rattle.sj_sql.specs.declared.row_member.RowMember.{RowMember}
-use Rattle.sj_sql.specs.View.{svalue_of, plain_of, tvalue_of, item_of, items_of, column_of}
-use Rattle.sj_sql.specs.Cells.{onto, fronted, listed, member_of, members_of, row_member_of, row_members_of, rows_of, column_list_of, more_members}
+use Rattle.sj_sql.specs.View.{svalue_of, plain_of, item_of, items_of}
+use Rattle.sj_sql.specs.Cells.{onto, fronted, listed, more_members}
 use Rattle.sj_sql.specs.Gives.{Fails}
 
 -- ---- one more at the end of a list
@@ -31,25 +27,13 @@ pub onto_list : {A : Type 0} (xs ys : List A) → onto ◌∷◌ xs ys ≡ xs ++
 onto_list [] ys = refl
 onto_list (x ∷ xs) ys = ap (λ zs. x ∷ zs) (onto_list xs ys)
 
+pub mapped_end : {A B : Type 0} (view : A → B) (xs : List A) (x : A) → map view (xs ++ x ∷ []) ≡ map view xs ++ view x ∷ []
+mapped_end view [] x = refl
+mapped_end view (y ∷ ys) x = ap (λ zs. view y ∷ zs) (mapped_end view ys x)
+
 pub plain_end : (xs : List SValue) (x : SValue) → plain_of (xs ++ x ∷ []) ≡ plain_of xs ++ svalue_of x ∷ []
 plain_end [] x = refl
 plain_end (y ∷ ys) x = ap (λ zs. svalue_of y ∷ zs) (plain_end ys x)
-
-pub rows_end : (xs : List TValue) (x : TValue) → rows_of (xs ++ x ∷ []) ≡ rows_of xs ++ tvalue_of x ∷ []
-rows_end [] x = refl
-rows_end (y ∷ ys) x = ap (λ zs. tvalue_of y ∷ zs) (rows_end ys x)
-
-pub members_end : (xs : List Member) (x : Member) → members_of (xs ++ x ∷ []) ≡ members_of xs ++ member_of x ∷ []
-members_end [] x = refl
-members_end (y ∷ ys) x = ap (λ zs. member_of y ∷ zs) (members_end ys x)
-
-pub row_members_end : (xs : List RowMember) (x : RowMember) → row_members_of (xs ++ x ∷ []) ≡ row_members_of xs ++ row_member_of x ∷ []
-row_members_end [] x = refl
-row_members_end (y ∷ ys) x = ap (λ zs. row_member_of y ∷ zs) (row_members_end ys x)
-
-pub columns_end : (xs : List Column) (x : Column) → column_list_of (xs ++ x ∷ []) ≡ column_list_of xs ++ column_of x ∷ []
-columns_end [] x = refl
-columns_end (y ∷ ys) x = ap (λ zs. column_of y ∷ zs) (columns_end ys x)
 
 pub items_end : (xs : List TItem) (x : TItem) → items_of (xs ++ x ∷ []) ≡ items_of xs ++ item_of x ∷ []
 items_end [] x = refl

@@ -1,12 +1,11 @@
 -- Lists of values before the linked cells that follow them.
-use Rattle.std.specs.Prelude.{List, [], ◌∷◌, Option, Some, None}
+use Rattle.std.specs.Prelude.{List, [], ◌∷◌, Option, Some, None, Box}
+use Rattle.std.specs.declared.alloc.Global.{Global}
 use Rattle.sj_grammar.specs.Tree.{Path}
 use Rattle.sj_statement.specs.Tree as t
 use Rattle.sj_sql.specs.declared.member.Member.{Member}
-use Rattle.sj_sql.specs.declared.row_member.RowMember.{RowMember}
 use Rattle.sj_sql.specs.declared.tree.Column.{Column}
-use Rattle.sj_sql.specs.declared.tree.TValue.{TValue}
-use Rattle.sj_sql.specs.View.{svalue_of, tvalue_of, column_of}
+use Rattle.sj_sql.specs.View.{column_of}
 
 -- the cells of a list, and what follows them
 abbrev pub onto : {A L : Type 0} → (A → L → L) → List A → L → L
@@ -23,27 +22,11 @@ listed xs None = None
 listed xs (Some x) = Some (onto ◌∷◌ xs x.0, x.1)
 
 -- a member of an object, as its key and its value
-abbrev pub member_of : Member → t.Value Path × t.Value Path
-member_of x = (svalue_of x.key.value, svalue_of x.value.value)
+abbrev pub member_of : {V : Type 0} → (V → t.Value Path) → Member V → t.Value Path × t.Value Path
+member_of view x = (view x.key.value, view x.value.value)
 
-abbrev pub members_of : List Member → List (t.Value Path × t.Value Path)
-members_of [] = []
-members_of (x ∷ xs) = member_of x ∷ members_of xs
-
-abbrev pub row_member_of : RowMember → t.Value Path × t.Value Path
-row_member_of x = (tvalue_of x.key.value, tvalue_of x.value.value)
-
-abbrev pub row_members_of : List RowMember → List (t.Value Path × t.Value Path)
-row_members_of [] = []
-row_members_of (x ∷ xs) = row_member_of x ∷ row_members_of xs
-
-abbrev pub rows_of : List TValue → List (t.Value Path)
-rows_of [] = []
-rows_of (x ∷ xs) = tvalue_of x ∷ rows_of xs
-
-abbrev pub column_list_of : List Column → List (t.ColumnOf Path)
-column_list_of [] = []
-column_list_of (x ∷ xs) = column_of x ∷ column_list_of xs
+abbrev pub boxed_column_of : Box Column Global → t.ColumnOf Path
+boxed_column_of x = column_of x.value
 
 -- a cell of a member
 abbrev pub more_members : t.Value Path × t.Value Path → t.Members Path → t.Members Path

@@ -3,32 +3,25 @@ use Rattle.std.specs.Prelude.{ℕ, Result}
 use Rattle.std.specs.declared.alloc.Global.{Global}
 use Rattle.std.specs.Borrow.{Bor}
 use Rattle.sj_statement.specs.Faults.{parsing}
-use Rattle.sj_statement.specs.Grammar.{document, row}
+use Rattle.sj_statement.specs.Grammar.{Source}
 use Rattle.sj_statement.specs.Phrases.{Tokens}
+use Rattle.sj_grammar.specs.Tree.{Path}
+use Rattle.sj_statement.specs.Tree.{Value}
 use Rattle.sj_statement.specs.Reading.{value_at, columns_at, plan_expr_at}
 use Rattle.sj_sql.specs.declared.faults.Faults.{Faults}
 use Rattle.sj_sql.specs.declared.refusal.Refusal.{Refusal}
-use Rattle.sj_sql.specs.declared.tree.SValue.{SValue}
-use Rattle.sj_sql.specs.declared.tree.TValue.{TValue}
 use Rattle.sj_sql.specs.declared.tree.Columns.{Columns}
 use Rattle.sj_sql.specs.declared.tree.NamedPlan.{NamedPlan}
 use Rattle.sj_sql.specs.Gives.{Gives}
 use Rattle.sj_sql.specs.Noted.{faults_of}
-use Rattle.sj_sql.specs.View.{svalue_of, tvalue_of, columns_of, plan_of}
+use Rattle.sj_sql.specs.View.{columns_of, plan_of}
 
--- it reads the values of a statement without a table
-pub record Nests (depth : ℕ) (pre : Global → ℕ → Faults → Bor Tokens → Type 0)
-    (post : Global → ℕ → Faults → Bor Tokens → Result (SValue × Faults × Bor Tokens) Refusal → Type 0) : Type 0 where
+-- it reads the values of a SELECT list, seen by view
+pub record Nests {V : Type 0} (view : V → Value Path) (source : Source) (depth : ℕ) (pre : Global → ℕ → Faults → Bor Tokens → Type 0)
+    (post : Global → ℕ → Faults → Bor Tokens → Result (V × Faults × Bor Tokens) Refusal → Type 0) : Type 0 where
   pub callable : (alloc : Global) (faults : Faults) (tokens : Bor Tokens) → pre alloc depth faults tokens
-  pub reads : (alloc : Global) (faults : Faults) (tokens : Bor Tokens) (r : Result (SValue × Faults × Bor Tokens) Refusal) → post alloc depth faults tokens r
-      → Gives (λ x. (svalue_of x.0, faults_of x.1, x.2.now)) r (value_at parsing document depth (faults_of faults) tokens.now)
-
--- the values of a statement with a table
-pub record RowNests (depth : ℕ) (pre : Global → ℕ → Faults → Bor Tokens → Type 0)
-    (post : Global → ℕ → Faults → Bor Tokens → Result (TValue × Faults × Bor Tokens) Refusal → Type 0) : Type 0 where
-  pub callable : (alloc : Global) (faults : Faults) (tokens : Bor Tokens) → pre alloc depth faults tokens
-  pub reads : (alloc : Global) (faults : Faults) (tokens : Bor Tokens) (r : Result (TValue × Faults × Bor Tokens) Refusal) → post alloc depth faults tokens r
-      → Gives (λ x. (tvalue_of x.0, faults_of x.1, x.2.now)) r (value_at parsing row depth (faults_of faults) tokens.now)
+  pub reads : (alloc : Global) (faults : Faults) (tokens : Bor Tokens) (r : Result (V × Faults × Bor Tokens) Refusal) → post alloc depth faults tokens r
+      → Gives (λ x. (view x.0, faults_of x.1, x.2.now)) r (value_at parsing source depth (faults_of faults) tokens.now)
 
 -- the columns of a table
 pub record ColumnNests (depth : ℕ) (pre : Global → ℕ → Faults → Bor Tokens → Type 0)

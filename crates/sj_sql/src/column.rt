@@ -1,10 +1,10 @@
 //! The columns of a table, with a function that reads the columns inside them.
 
-ghost use Rattle.std.specs.Prelude.{◌≡◌, IfOk, length};
+ghost use Rattle.std.specs.Prelude.{◌≡◌, IfOk, length, map};
 ghost use Rattle.sj_statement.specs.Faults.{parsing};
 ghost use Rattle.sj_statement.specs.Reading as reading;
 ghost use Rattle.sj_statement.specs.Tree as t;
-ghost use Rattle.sj_sql.specs.Cells.{onto, column_list_of};
+ghost use Rattle.sj_sql.specs.Cells.{onto, boxed_column_of};
 ghost use Rattle.sj_sql.specs.Gives.{Gives};
 ghost use Rattle.sj_sql.specs.Nests.{ColumnNests};
 ghost use Rattle.sj_sql.specs.Noted.{faults_of};
@@ -120,25 +120,23 @@ fn named_column(
     }
 }
 
-fn column_cell(alloc: Global, column: Column, others: Columns) -> Result<Columns, Memory>
-    ensures { IfOk result (λ x. columns_of x ≡ t.More (column_of column) (columns_of others)) }
+fn column_cell(alloc: Global, column: Box<Column>, others: Columns) -> Result<Columns, Memory>
+    ensures { IfOk result (λ x. columns_of x ≡ t.More (boxed_column_of column) (columns_of others)) }
 {
     let others = Box::new(alloc, others)?;
-    Ok(Columns::More(Box::new(alloc, column)?, others))
+    Ok(Columns::More(column, others))
 }
 
-fn last_column_cell(alloc: Global, column: Column) -> Result<Columns, Memory>
-    ensures { IfOk result (λ x. columns_of x ≡ t.Last (column_of column)) }
-{
-    Ok(Columns::Last(Box::new(alloc, column)?))
-}
-
-/// The cells of columns, and of one more.
-fn column_cells(alloc: Global, before: Seq<Column>, last: Column) -> Result<Columns, Memory>
-    ensures { IfOk result (λ x. columns_of x ≡ onto t.More (column_list_of before) (t.Last (column_of last))) }
+/// The cells of columns, and of one more. The columns come in boxes: each is given up by one call, and the cells take them as they are.
+fn column_cells(
+    alloc: Global,
+    before: Seq<Box<Column>>,
+    last: Box<Column>,
+) -> Result<Columns, Memory>
+    ensures { IfOk result (λ x. columns_of x ≡ onto t.More (map boxed_column_of before) (t.Last (boxed_column_of last))) }
 {
     let mut before = before.into_vec();
-    let mut cells = last_column_cell(alloc, last)?;
+    let mut cells = Columns::Last(last);
     while let Some(column) = before.pop() {
         cells = column_cell(alloc, column, cells)?;
     }
@@ -206,6 +204,19 @@ impl<
         named_column(self.alloc, name, faults, rest)
     }
 
+    fn boxed<'a>(
+        &self,
+        faults: Faults,
+        tokens: Tokens<'a>,
+    ) -> Result<(Box<Column>, Faults, Tokens<'a>), Refusal>
+        requires { ColumnNests self.now.depth (F.pre self.now.inner) (F.post self.now.inner) }
+        ensures { Gives (λ x. (boxed_column_of x.0, faults_of x.1, x.2.now)) result
+            (reading.column_at parsing (reading.columns_at parsing self.now.depth) (faults_of faults) tokens.now) }
+    {
+        let (column, faults, rest) = self.column(faults, tokens)?;
+        Ok((Box::new(self.alloc, column)?, faults, rest))
+    }
+
     /// Columns with commas between them.
     #[tactic(auto, unfolding(sj_statement::specs::Reading::columns_from))]
     fn columns<'a>(
@@ -221,7 +232,7 @@ impl<
         let mut so_far = faults;
         let mut left = Rest { tokens };
         for _turn in 0..tokens.len() {
-            let (column, noted, after) = self.column(so_far, left.tokens)?;
+            let (column, noted, after) = self.boxed(so_far, left.tokens)?;
             let Some(next) = comma(after) else {
                 let cells = column_cells(self.alloc, columns, column)?;
                 return Ok((cells, noted, after));

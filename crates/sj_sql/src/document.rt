@@ -5,7 +5,7 @@ ghost use Rattle.std.specs.Option.{option_copied};
 ghost use Rattle.sj_statement.specs.Phrases as phrase;
 ghost use Rattle.sj_statement.specs.Reading as reading;
 
-use crate::meaning::kind;
+use crate::meaning::meant;
 use crate::phrase::{format, unique_clause};
 use crate::single::{Tokens, word};
 use sj_sql_token::{Keyword, Token};
@@ -83,7 +83,7 @@ fn json_kind(tokens: Tokens<'_>) -> (JsonKind, Tokens<'_>)
         }
         return (JsonKind::Value, rest);
     }
-    kind(tokens).unwrap_or((JsonKind::Value, tokens))
+    meant::<JsonKind>(tokens).unwrap_or((JsonKind::Value, tokens))
 }
 
 /// An IS JSON, and what follows it.

@@ -4,7 +4,7 @@ ghost use Rattle.std.specs.Prelude.{◌≡◌, option_map};
 ghost use Rattle.sj_sql.specs.Gives.{Gives};
 ghost use Rattle.sj_statement.specs.Phrases as phrase;
 
-use crate::meaning::value_action;
+use crate::meaning::meant;
 use crate::phrase::cause;
 use crate::refusal::Refusal;
 use crate::single::{Tokens, name, number_of, word};
@@ -100,7 +100,7 @@ fn value_action_phrase(alloc: Global, tokens: Tokens<'_>) -> Result<(ValueDo, To
         let (value, rest) = literal(alloc, rest)?;
         return Ok((ValueDo::Default(value), rest));
     }
-    value_action(tokens)
+    meant::<ValueDo>(tokens).ok_or(Refusal::Syntax)
 }
 
 /// The action of JSON_VALUE for a cause.

@@ -4,9 +4,7 @@ ghost use Rattle.std.specs.Prelude.{◌≡◌, option_map};
 ghost use Rattle.std.specs.Option.{option_copied};
 ghost use Rattle.sj_statement.specs.Phrases as phrase;
 
-use crate::meaning::{
-    condition, emptied, encoding, exists_action, nulls, query_action, quotes, table_action, unique,
-};
+use crate::meaning::{emptied, meant};
 use crate::single::{Tokens, close, comma, count, open, passing, word};
 use sj_sql_token::{Keyword, Token};
 use sj_statement::{Encoding, Quotes, TypeName};
@@ -24,7 +22,7 @@ pub fn cause(cause: Keyword, tokens: Tokens<'_>) -> Option<Tokens<'_>>
 pub fn exists_clause(tokens: Tokens<'_>) -> Option<(ExistsAction, Tokens<'_>)>
     ensures { option_map (λ x. (x.0, x.1.now)) result ≡ phrase.exists_clause_at tokens.now }
 {
-    let (action, rest) = exists_action(tokens)?;
+    let (action, rest) = meant::<ExistsAction>(tokens)?;
     let rest = cause(Keyword::Error, rest)?;
     Some((action, rest))
 }
@@ -34,7 +32,7 @@ pub fn exists_clause(tokens: Tokens<'_>) -> Option<(ExistsAction, Tokens<'_>)>
 pub fn table_clause(tokens: Tokens<'_>) -> Option<(TableAction, Tokens<'_>)>
     ensures { option_map (λ x. (x.0, x.1.now)) result ≡ phrase.table_clause_at tokens.now }
 {
-    let (action, rest) = table_action(tokens)?;
+    let (action, rest) = meant::<TableAction>(tokens)?;
     let rest = cause(Keyword::Error, rest)?;
     Some((action, rest))
 }
@@ -44,7 +42,7 @@ pub fn table_clause(tokens: Tokens<'_>) -> Option<(TableAction, Tokens<'_>)>
 pub fn nulls_clause(tokens: Tokens<'_>) -> Option<(Nulls, Tokens<'_>)>
     ensures { option_map (λ x. (x.0, x.1.now)) result ≡ phrase.nulls_at tokens.now }
 {
-    let (nulls, rest) = nulls(tokens)?;
+    let (nulls, rest) = meant::<Nulls>(tokens)?;
     let rest = cause(Keyword::Null, rest)?;
     Some((nulls, rest))
 }
@@ -54,7 +52,7 @@ pub fn nulls_clause(tokens: Tokens<'_>) -> Option<(Nulls, Tokens<'_>)>
 pub fn unique_clause(tokens: Tokens<'_>) -> Option<(bool, Tokens<'_>)>
     ensures { option_map (λ x. (x.0, x.1.now)) result ≡ phrase.unique_at tokens.now }
 {
-    let (unique, rest) = unique(tokens)?;
+    let (unique, rest) = meant::<bool>(tokens)?;
     let rest = word(Keyword::Unique, rest)?;
     Some((unique, passing(Keyword::Keys, rest)))
 }
@@ -65,7 +63,7 @@ fn query_action_phrase(tokens: Tokens<'_>) -> Option<(QueryAction, Tokens<'_>)>
     if let Some(rest) = word(Keyword::Empty, tokens) {
         return emptied(rest);
     }
-    query_action(tokens)
+    meant::<QueryAction>(tokens)
 }
 
 /// The action of JSON_QUERY for a cause.
@@ -94,7 +92,7 @@ pub fn wrapper(tokens: Tokens<'_>) -> Option<(Wrapper, Tokens<'_>)>
         return wrapped(Wrapper::Without, rest);
     }
     let rest = word(Keyword::With, tokens)?;
-    if let Some((wrapper, rest)) = condition(rest) {
+    if let Some((wrapper, rest)) = meant::<Wrapper>(rest) {
         return wrapped(wrapper, rest);
     }
     wrapped(Wrapper::Unconditional, rest)
@@ -105,7 +103,7 @@ pub fn wrapper(tokens: Tokens<'_>) -> Option<(Wrapper, Tokens<'_>)>
 pub fn quotes_clause(tokens: Tokens<'_>) -> Option<(Quotes, Tokens<'_>)>
     ensures { option_map (λ x. (x.0, x.1.now)) result ≡ phrase.quotes_at tokens.now }
 {
-    let (quotes, rest) = quotes(tokens)?;
+    let (quotes, rest) = meant::<Quotes>(tokens)?;
     let rest = word(Keyword::Quotes, rest)?;
     Some((quotes, on_scalar_string(rest).unwrap_or(rest)))
 }
@@ -126,7 +124,7 @@ pub fn format(tokens: Tokens<'_>) -> Option<(Encoding, Tokens<'_>)>
     let rest = word(Keyword::Format, tokens)?;
     let rest = word(Keyword::Json, rest)?;
     match word(Keyword::Encoding, rest) {
-        Some(rest) => encoding(rest),
+        Some(rest) => meant::<Encoding>(rest),
         None => Some((Encoding::Read, rest)),
     }
 }
@@ -136,7 +134,7 @@ pub fn format(tokens: Tokens<'_>) -> Option<(Encoding, Tokens<'_>)>
 pub fn encoding_clause(tokens: Tokens<'_>) -> Option<(Encoding, Tokens<'_>)>
     ensures { option_map (λ x. (x.0, x.1.now)) result ≡ phrase.encoding_at tokens.now }
 {
-    encoding(word(Keyword::Encoding, tokens)?)
+    meant::<Encoding>(word(Keyword::Encoding, tokens)?)
 }
 
 /// A type with a number that leaves no trace.

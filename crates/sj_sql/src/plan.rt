@@ -9,7 +9,7 @@ ghost use Rattle.sj_sql.specs.Nests.{PlanNests};
 ghost use Rattle.sj_sql.specs.Plans as plans;
 ghost use Rattle.sj_sql.specs.View.{plan_of, plan_tree_of};
 
-use crate::meaning::{in_out, siblings};
+use crate::meaning::meant;
 use crate::operators::has_few_operators;
 use crate::refusal::Refusal;
 use crate::single::{Rest, Tokens, close, comma, name, open, word};
@@ -213,7 +213,7 @@ fn behind_in_out(in_out: InOut, tokens: Tokens<'_>) -> Option<(PlanTree, Tokens<
     let Some(rest) = comma(tokens) else {
         return Some((PlanTree::Default(in_out, Siblings::Union), tokens));
     };
-    let (siblings, rest) = siblings(rest)?;
+    let (siblings, rest) = meant::<Siblings>(rest)?;
     Some((PlanTree::Default(in_out, siblings), rest))
 }
 
@@ -224,7 +224,7 @@ fn behind_siblings(siblings: Siblings, tokens: Tokens<'_>) -> Option<(PlanTree, 
     let Some(rest) = comma(tokens) else {
         return Some((PlanTree::Default(InOut::Outer, siblings), tokens));
     };
-    let (in_out, rest) = in_out(rest)?;
+    let (in_out, rest) = meant::<InOut>(rest)?;
     Some((PlanTree::Default(in_out, siblings), rest))
 }
 
@@ -233,10 +233,10 @@ fn behind_siblings(siblings: Siblings, tokens: Tokens<'_>) -> Option<(PlanTree, 
 fn default_plan(tokens: Tokens<'_>) -> Option<(PlanTree, Tokens<'_>)>
     ensures { option_map (λ x. (plan_tree_of x.0, x.1.now)) result ≡ phrase.default_at tokens.now }
 {
-    if let Some((in_out, rest)) = in_out(tokens) {
+    if let Some((in_out, rest)) = meant::<InOut>(tokens) {
         return behind_in_out(in_out, rest);
     }
-    let (siblings, rest) = siblings(tokens)?;
+    let (siblings, rest) = meant::<Siblings>(tokens)?;
     behind_siblings(siblings, rest)
 }
 

@@ -1,31 +1,27 @@
-//! The values of a SELECT list with a table, with a function that reads the values inside them.
+//! The values of a SELECT list with a table.
 
-ghost use Rattle.std.specs.Prelude.{◌≡◌, length};
+ghost use Rattle.std.specs.Prelude.{◌≡◌};
 ghost use Rattle.sj_statement.specs.Faults.{parsing};
 ghost use Rattle.sj_statement.specs.Grammar as grammar;
 ghost use Rattle.sj_statement.specs.Reading as reading;
-ghost use Rattle.sj_sql.specs.Cells.{row_member_of};
+ghost use Rattle.sj_statement.specs.Tree as t;
 ghost use Rattle.sj_sql.specs.Gives.{Gives};
-ghost use Rattle.sj_sql.specs.Nests.{RowNests};
 ghost use Rattle.sj_sql.specs.Noted.{faults_of};
 ghost use Rattle.sj_sql.specs.View.{tvalue_of, tvalues_of, tmembers_of};
 
 use crate::faults::Faults;
-use crate::literal::literal;
-use crate::passing::put;
-use crate::phrase::{nulls_clause, unique_clause};
 use crate::refusal::Refusal;
-use crate::row_member::{RowMember, member_cells, value_cells};
-use crate::seq::Seq;
-use crate::single::{Rest, Tokens, close, colon, comma, name, open, word};
+use crate::single::{Tokens, name};
 use crate::tree::{TMembers, TValue, TValues};
-use sj_sql_token::Keyword;
+use crate::value::Level;
+use crate::value_tree::ValueTree;
+use sj_path::Literal;
 use sj_value::Nulls;
 use std::alloc::Global;
 
 /// A column.
 #[tactic(auto, unfolding(sj_statement::specs::Reading::asking_at))]
-fn asking(
+fn column(
     alloc: Global,
     faults: Faults,
     tokens: Tokens<'_>,
@@ -36,251 +32,57 @@ fn asking(
     Ok((TValue::Column(name), faults, rest))
 }
 
-/// What may stand at one level of constructors.
-#[derive(Clone, Copy)]
-pub struct Level<F> {
-    pub alloc: Global,
-    /// How deep constructors may still nest.
-    pub depth: usize,
-    pub inner: F,
-}
+impl ValueTree for TValue {
+    ghost source = { grammar.row };
 
-impl<
-    F: Fn(Global, usize, Faults, Tokens<'_>) -> Result<(TValue, Faults, Tokens<'_>), Refusal>,
-> Level<F> {
-    fn inner<'a>(
-        &self,
-        faults: Faults,
-        tokens: Tokens<'a>,
-    ) -> Result<(TValue, Faults, Tokens<'a>), Refusal>
-        requires { RowNests self.now.depth (F.pre self.now.inner) (F.post self.now.inner) }
-        ensures { Gives (λ x. (tvalue_of x.0, faults_of x.1, x.2.now)) result (reading.value_at parsing grammar.row self.now.depth (faults_of faults) tokens.now) }
-    {
-        (self.inner)(self.alloc, self.depth, faults, tokens)
+    ghost value_of = { tvalue_of };
+
+    ghost values_of = { tvalues_of };
+
+    ghost members_of = { tmembers_of };
+
+    type Values = TValues;
+
+    type Members = TMembers;
+
+    fn no_values() -> TValues {
+        TValues::Empty
     }
 
-    /// Values with commas between them.
-    #[tactic(auto, unfolding(sj_statement::specs::Reading::values_from))]
-    fn values<'a>(
-        &self,
-        faults: Faults,
-        tokens: Tokens<'a>,
-    ) -> Result<(TValues, Faults, Tokens<'a>), Refusal>
-        requires { RowNests self.now.depth (F.pre self.now.inner) (F.post self.now.inner) }
-        ensures { Gives (λ x. (tvalues_of x.0, faults_of x.1, x.2.now)) result
-            (reading.values_from parsing (reading.value_at parsing grammar.row self.now.depth) (length tokens.now) (faults_of faults) tokens.now) }
+    fn more_values(value: Box<TValue>, others: Box<TValues>) -> TValues
+        ensures { tvalues_of result ≡ t.MoreValues (tvalue_of value.value) (tvalues_of others.value) }
     {
-        let mut values = Seq::new(self.alloc);
-        let mut so_far = faults;
-        let mut left = Rest { tokens };
-        for _turn in 0..tokens.len() {
-            let (value, noted, after) = self.inner(so_far, left.tokens)?;
-            let Some(next) = comma(after) else {
-                let cells = value_cells(self.alloc, values, value)?;
-                return Ok((cells, noted, after));
-            };
-            put(&mut values, value)?;
-            so_far = noted;
-            left = Rest { tokens: next };
-        }
-        Err(Refusal::Syntax)
+        TValues::More(value, others)
     }
 
-    /// The value of a member, behind its key.
-    #[tactic(auto, unfolding(sj_statement::specs::Reading::member_value_at))]
-    fn member_value<'a>(
-        &self,
-        key: Box<TValue>,
-        faults: Faults,
-        tokens: Tokens<'a>,
-    ) -> Result<(RowMember, Faults, Tokens<'a>), Refusal>
-        requires { RowNests self.now.depth (F.pre self.now.inner) (F.post self.now.inner) }
-        ensures { Gives (λ x. (row_member_of x.0, faults_of x.1, x.2.now)) result
-            (reading.member_value_at parsing (reading.value_at parsing grammar.row self.now.depth) (tvalue_of key.value) (faults_of faults) tokens.now) }
-    {
-        let (value, faults, rest) = self.inner(faults, tokens)?;
-        let value = Box::new(self.alloc, value)?;
-        Ok((RowMember { key, value }, faults, rest))
+    fn no_members() -> TMembers {
+        TMembers::Empty
     }
 
-    /// A member behind KEY.
-    #[tactic(auto, unfolding(sj_statement::specs::Reading::keyed_at))]
-    fn keyed<'a>(
-        &self,
-        faults: Faults,
-        tokens: Tokens<'a>,
-    ) -> Result<(RowMember, Faults, Tokens<'a>), Refusal>
-        requires { RowNests self.now.depth (F.pre self.now.inner) (F.post self.now.inner) }
-        ensures { Gives (λ x. (row_member_of x.0, faults_of x.1, x.2.now)) result
-            (reading.keyed_at parsing (reading.value_at parsing grammar.row self.now.depth) (faults_of faults) tokens.now) }
+    fn more_members(key: Box<TValue>, value: Box<TValue>, others: Box<TMembers>) -> TMembers
+        ensures { tmembers_of result ≡ t.MoreMembers (tvalue_of key.value) (tvalue_of value.value) (tmembers_of others.value) }
     {
-        let (key, faults, rest) = self.inner(faults, tokens)?;
-        let key = Box::new(self.alloc, key)?;
-        let rest = word(Keyword::Value, rest).ok_or(Refusal::Syntax)?;
-        self.member_value(key, faults, rest)
+        TMembers::More(key, value, others)
     }
 
-    /// A member without KEY.
-    #[tactic(auto, unfolding(sj_statement::specs::Reading::valued_at))]
-    fn valued<'a>(
-        &self,
-        faults: Faults,
-        tokens: Tokens<'a>,
-    ) -> Result<(RowMember, Faults, Tokens<'a>), Refusal>
-        requires { RowNests self.now.depth (F.pre self.now.inner) (F.post self.now.inner) }
-        ensures { Gives (λ x. (row_member_of x.0, faults_of x.1, x.2.now)) result
-            (reading.valued_at parsing (reading.value_at parsing grammar.row self.now.depth) (faults_of faults) tokens.now) }
-    {
-        let (key, faults, rest) = self.inner(faults, tokens)?;
-        let key = Box::new(self.alloc, key)?;
-        if let Some(rest) = word(Keyword::Value, rest) {
-            return self.member_value(key, faults, rest);
-        }
-        let rest = colon(rest).ok_or(Refusal::Syntax)?;
-        self.member_value(key, faults, rest)
+    fn literal(literal: Literal) -> TValue {
+        TValue::Lit(literal)
     }
 
-    /// A member, of a key and a value.
-    #[tactic(auto, unfolding(sj_statement::specs::Reading::member_at))]
-    pub fn member<'a>(
-        &self,
-        faults: Faults,
-        tokens: Tokens<'a>,
-    ) -> Result<(RowMember, Faults, Tokens<'a>), Refusal>
-        requires { RowNests self.now.depth (F.pre self.now.inner) (F.post self.now.inner) }
-        ensures { Gives (λ x. (row_member_of x.0, faults_of x.1, x.2.now)) result
-            (reading.member_at parsing (reading.value_at parsing grammar.row self.now.depth) (faults_of faults) tokens.now) }
-    {
-        match word(Keyword::Key, tokens) {
-            Some(rest) => self.keyed(faults, rest),
-            None => self.valued(faults, tokens),
-        }
+    fn object(members: TMembers, nulls: Nulls, unique: bool) -> TValue {
+        TValue::Object(members, nulls, unique)
     }
 
-    /// Members with commas between them.
-    #[tactic(auto, unfolding(sj_statement::specs::Reading::members_from))]
-    fn members<'a>(
-        &self,
-        faults: Faults,
-        tokens: Tokens<'a>,
-    ) -> Result<(TMembers, Faults, Tokens<'a>), Refusal>
-        requires { RowNests self.now.depth (F.pre self.now.inner) (F.post self.now.inner) }
-        ensures { Gives (λ x. (tmembers_of x.0, faults_of x.1, x.2.now)) result
-            (reading.members_from parsing (reading.value_at parsing grammar.row self.now.depth) (length tokens.now) (faults_of faults) tokens.now) }
-    {
-        let mut members = Seq::new(self.alloc);
-        let mut so_far = faults;
-        let mut left = Rest { tokens };
-        for _turn in 0..tokens.len() {
-            let (member, noted, after) = self.member(so_far, left.tokens)?;
-            let Some(next) = comma(after) else {
-                let cells = member_cells(self.alloc, members, member)?;
-                return Ok((cells, noted, after));
-            };
-            put(&mut members, member)?;
-            so_far = noted;
-            left = Rest { tokens: next };
-        }
-        Err(Refusal::Syntax)
+    fn array(values: TValues, nulls: Nulls) -> TValue {
+        TValue::Array(values, nulls)
     }
 
-    #[tactic(auto, unfolding(sj_statement::specs::Reading::members_to_end))]
-    fn members_to_end<'a>(
-        &self,
+    fn asking(
+        alloc: Global,
         faults: Faults,
-        tokens: Tokens<'a>,
-    ) -> Result<(TValue, Faults, Tokens<'a>), Refusal>
-        requires { RowNests self.now.depth (F.pre self.now.inner) (F.post self.now.inner) }
-        ensures { Gives (λ x. (tvalue_of x.0, faults_of x.1, x.2.now)) result
-            (reading.members_to_end parsing (reading.value_at parsing grammar.row self.now.depth) (faults_of faults) tokens.now) }
-    {
-        let (members, faults, rest) = self.members(faults, tokens)?;
-        let (nulls, rest) = nulls_clause(rest).unwrap_or((Nulls::Null, rest));
-        let (unique, rest) = unique_clause(rest).unwrap_or((false, rest));
-        let rest = close(rest).ok_or(Refusal::Syntax)?;
-        Ok((TValue::Object(members, nulls, unique), faults, rest))
-    }
-
-    /// JSON_OBJECT, behind its word.
-    #[tactic(auto, unfolding(sj_statement::specs::Reading::object_from))]
-    fn object<'a>(
-        &self,
-        faults: Faults,
-        tokens: Tokens<'a>,
-    ) -> Result<(TValue, Faults, Tokens<'a>), Refusal>
-        requires { RowNests self.now.depth (F.pre self.now.inner) (F.post self.now.inner) }
-        ensures { Gives (λ x. (tvalue_of x.0, faults_of x.1, x.2.now)) result
-            (reading.object_from parsing (reading.value_at parsing grammar.row self.now.depth) (faults_of faults) tokens.now) }
-    {
-        let rest = open(tokens).ok_or(Refusal::Syntax)?;
-        if let Some(rest) = close(rest) {
-            let none = TValue::Object(TMembers::Empty, Nulls::Null, false);
-            return Ok((none, faults, rest));
-        }
-        self.members_to_end(faults, rest)
-    }
-
-    #[tactic(auto, unfolding(sj_statement::specs::Reading::values_to_end))]
-    fn values_to_end<'a>(
-        &self,
-        faults: Faults,
-        tokens: Tokens<'a>,
-    ) -> Result<(TValue, Faults, Tokens<'a>), Refusal>
-        requires { RowNests self.now.depth (F.pre self.now.inner) (F.post self.now.inner) }
-        ensures { Gives (λ x. (tvalue_of x.0, faults_of x.1, x.2.now)) result
-            (reading.values_to_end parsing (reading.value_at parsing grammar.row self.now.depth) (faults_of faults) tokens.now) }
-    {
-        let (values, faults, rest) = self.values(faults, tokens)?;
-        let (nulls, rest) = nulls_clause(rest).unwrap_or((Nulls::Absent, rest));
-        let rest = close(rest).ok_or(Refusal::Syntax)?;
-        Ok((TValue::Array(values, nulls), faults, rest))
-    }
-
-    /// JSON_ARRAY, behind its word.
-    #[tactic(auto, unfolding(sj_statement::specs::Reading::array_from))]
-    fn array<'a>(
-        &self,
-        faults: Faults,
-        tokens: Tokens<'a>,
-    ) -> Result<(TValue, Faults, Tokens<'a>), Refusal>
-        requires { RowNests self.now.depth (F.pre self.now.inner) (F.post self.now.inner) }
-        ensures { Gives (λ x. (tvalue_of x.0, faults_of x.1, x.2.now)) result
-            (reading.array_from parsing (reading.value_at parsing grammar.row self.now.depth) (faults_of faults) tokens.now) }
-    {
-        let rest = open(tokens).ok_or(Refusal::Syntax)?;
-        if let Some(rest) = close(rest) {
-            let none = TValue::Array(TValues::Empty, Nulls::Absent);
-            return Ok((none, faults, rest));
-        }
-        self.values_to_end(faults, rest)
-    }
-
-    #[tactic(auto, unfolding(sj_statement::specs::Reading::value_over))]
-    fn over<'a>(
-        &self,
-        faults: Faults,
-        tokens: Tokens<'a>,
-    ) -> Result<(TValue, Faults, Tokens<'a>), Refusal>
-        requires { RowNests self.now.depth (F.pre self.now.inner) (F.post self.now.inner) }
-        ensures { Gives (λ x. (tvalue_of x.0, faults_of x.1, x.2.now)) result
-            (reading.value_over parsing grammar.row (reading.value_at parsing grammar.row self.now.depth) (faults_of faults) tokens.now) }
-    {
-        match literal(self.alloc, tokens) {
-            Ok(read) => {
-                let (literal, rest) = read;
-                Ok((TValue::Lit(literal), faults, rest))
-            }
-            Err(Refusal::Memory) => Err(Refusal::Memory),
-            Err(Refusal::Syntax) => {
-                if let Some(rest) = word(Keyword::JsonObject, tokens) {
-                    return self.object(faults, rest);
-                }
-                if let Some(rest) = word(Keyword::JsonArray, tokens) {
-                    return self.array(faults, rest);
-                }
-                asking(self.alloc, faults, tokens)
-            }
-        }
+        tokens: Tokens<'_>,
+    ) -> Result<(TValue, Faults, Tokens<'_>), Refusal> {
+        column(alloc, faults, tokens)
     }
 }
 

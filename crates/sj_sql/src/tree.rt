@@ -236,12 +236,20 @@ pub struct FormattedColumn {
 }
 
 /// The plan of a table.
-#[derive(Drop)]
 pub enum PlanTree {
     /// PLAN DEFAULT, or no plan, which is OUTER and UNION.
     Default(InOut, Siblings),
     /// A plan that names paths.
     Named(NamedPlan),
+}
+
+impl Drop for PlanTree {
+    fn drop(self) {
+        match self {
+            PlanTree::Default(_, _) => {}
+            PlanTree::Named(_plan) => {}
+        }
+    }
 }
 
 /// A plan that names paths. While it is read it may have any number of operators, which group to the left, so it is given up by a

@@ -1,17 +1,13 @@
-//! The values of a SELECT list without a table, with a function that reads the values inside them.
+//! The values of a SELECT list, with a function that reads the values inside them.
 
 ghost use Rattle.std.specs.Prelude.{◌≡◌, length};
 ghost use Rattle.sj_statement.specs.Faults.{parsing};
-ghost use Rattle.sj_statement.specs.Grammar as grammar;
 ghost use Rattle.sj_statement.specs.Reading as reading;
 ghost use Rattle.sj_sql.specs.Cells.{member_of};
 ghost use Rattle.sj_sql.specs.Gives.{Gives};
 ghost use Rattle.sj_sql.specs.Nests.{Nests};
 ghost use Rattle.sj_sql.specs.Noted.{faults_of};
-ghost use Rattle.sj_sql.specs.View.{svalue_of, svalues_of, smembers_of};
 
-use crate::call::{exists, query, value};
-use crate::document::is_json;
 use crate::faults::Faults;
 use crate::literal::literal;
 use crate::member::{Member, member_cells, value_cells};
@@ -20,34 +16,10 @@ use crate::phrase::{nulls_clause, unique_clause};
 use crate::refusal::Refusal;
 use crate::seq::Seq;
 use crate::single::{Rest, Tokens, close, colon, comma, open, word};
-use crate::tree::{SMembers, SValue, SValues};
+use crate::value_tree::ValueTree;
 use sj_sql_token::Keyword;
 use sj_value::Nulls;
 use std::alloc::Global;
-
-/// A value that asks the document.
-#[tactic(auto, unfolding(sj_statement::specs::Reading::asking_at))]
-fn asking(
-    alloc: Global,
-    faults: Faults,
-    tokens: Tokens<'_>,
-) -> Result<(SValue, Faults, Tokens<'_>), Refusal>
-    ensures { Gives (λ x. (svalue_of x.0, faults_of x.1, x.2.now)) result (reading.asking_at parsing grammar.document (faults_of faults) tokens.now) }
-{
-    if let Some(rest) = word(Keyword::JsonExists, tokens) {
-        return exists(alloc, faults, rest);
-    }
-    if let Some(rest) = word(Keyword::JsonValue, tokens) {
-        return value(alloc, faults, rest);
-    }
-    if let Some(rest) = word(Keyword::JsonQuery, tokens) {
-        return query(alloc, faults, rest);
-    }
-    let Some((call, rest)) = is_json(tokens) else {
-        return Err(Refusal::Syntax);
-    };
-    Ok((SValue::IsJson(call), faults, rest))
-}
 
 /// What may stand at one level of constructors.
 #[derive(Clone, Copy)]
@@ -59,15 +31,16 @@ pub struct Level<F> {
 }
 
 impl<
-    F: Fn(Global, usize, Faults, Tokens<'_>) -> Result<(SValue, Faults, Tokens<'_>), Refusal>,
+    V: ValueTree,
+    F: Fn(Global, usize, Faults, Tokens<'_>) -> Result<(V, Faults, Tokens<'_>), Refusal>,
 > Level<F> {
     fn inner<'a>(
         &self,
         faults: Faults,
         tokens: Tokens<'a>,
-    ) -> Result<(SValue, Faults, Tokens<'a>), Refusal>
-        requires { Nests self.now.depth (F.pre self.now.inner) (F.post self.now.inner) }
-        ensures { Gives (λ x. (svalue_of x.0, faults_of x.1, x.2.now)) result (reading.value_at parsing grammar.document self.now.depth (faults_of faults) tokens.now) }
+    ) -> Result<(V, Faults, Tokens<'a>), Refusal>
+        requires { Nests V.value_of V.source self.now.depth (F.pre self.now.inner) (F.post self.now.inner) }
+        ensures { Gives (λ x. (V.value_of x.0, faults_of x.1, x.2.now)) result (reading.value_at parsing V.source self.now.depth (faults_of faults) tokens.now) }
     {
         (self.inner)(self.alloc, self.depth, faults, tokens)
     }
@@ -78,10 +51,10 @@ impl<
         &self,
         faults: Faults,
         tokens: Tokens<'a>,
-    ) -> Result<(SValues, Faults, Tokens<'a>), Refusal>
-        requires { Nests self.now.depth (F.pre self.now.inner) (F.post self.now.inner) }
-        ensures { Gives (λ x. (svalues_of x.0, faults_of x.1, x.2.now)) result
-            (reading.values_from parsing (reading.value_at parsing grammar.document self.now.depth) (length tokens.now) (faults_of faults) tokens.now) }
+    ) -> Result<(V::Values, Faults, Tokens<'a>), Refusal>
+        requires { Nests V.value_of V.source self.now.depth (F.pre self.now.inner) (F.post self.now.inner) }
+        ensures { Gives (λ x. (V.values_of x.0, faults_of x.1, x.2.now)) result
+            (reading.values_from parsing (reading.value_at parsing V.source self.now.depth) (length tokens.now) (faults_of faults) tokens.now) }
     {
         let mut values = Seq::new(self.alloc);
         let mut so_far = faults;
@@ -103,13 +76,13 @@ impl<
     #[tactic(auto, unfolding(sj_statement::specs::Reading::member_value_at))]
     fn member_value<'a>(
         &self,
-        key: Box<SValue>,
+        key: Box<V>,
         faults: Faults,
         tokens: Tokens<'a>,
-    ) -> Result<(Member, Faults, Tokens<'a>), Refusal>
-        requires { Nests self.now.depth (F.pre self.now.inner) (F.post self.now.inner) }
-        ensures { Gives (λ x. (member_of x.0, faults_of x.1, x.2.now)) result
-            (reading.member_value_at parsing (reading.value_at parsing grammar.document self.now.depth) (svalue_of key.value) (faults_of faults) tokens.now) }
+    ) -> Result<(Member<V>, Faults, Tokens<'a>), Refusal>
+        requires { Nests V.value_of V.source self.now.depth (F.pre self.now.inner) (F.post self.now.inner) }
+        ensures { Gives (λ x. (member_of V.value_of x.0, faults_of x.1, x.2.now)) result
+            (reading.member_value_at parsing (reading.value_at parsing V.source self.now.depth) (V.value_of key.value) (faults_of faults) tokens.now) }
     {
         let (value, faults, rest) = self.inner(faults, tokens)?;
         let value = Box::new(self.alloc, value)?;
@@ -122,10 +95,10 @@ impl<
         &self,
         faults: Faults,
         tokens: Tokens<'a>,
-    ) -> Result<(Member, Faults, Tokens<'a>), Refusal>
-        requires { Nests self.now.depth (F.pre self.now.inner) (F.post self.now.inner) }
-        ensures { Gives (λ x. (member_of x.0, faults_of x.1, x.2.now)) result
-            (reading.keyed_at parsing (reading.value_at parsing grammar.document self.now.depth) (faults_of faults) tokens.now) }
+    ) -> Result<(Member<V>, Faults, Tokens<'a>), Refusal>
+        requires { Nests V.value_of V.source self.now.depth (F.pre self.now.inner) (F.post self.now.inner) }
+        ensures { Gives (λ x. (member_of V.value_of x.0, faults_of x.1, x.2.now)) result
+            (reading.keyed_at parsing (reading.value_at parsing V.source self.now.depth) (faults_of faults) tokens.now) }
     {
         let (key, faults, rest) = self.inner(faults, tokens)?;
         let key = Box::new(self.alloc, key)?;
@@ -139,10 +112,10 @@ impl<
         &self,
         faults: Faults,
         tokens: Tokens<'a>,
-    ) -> Result<(Member, Faults, Tokens<'a>), Refusal>
-        requires { Nests self.now.depth (F.pre self.now.inner) (F.post self.now.inner) }
-        ensures { Gives (λ x. (member_of x.0, faults_of x.1, x.2.now)) result
-            (reading.valued_at parsing (reading.value_at parsing grammar.document self.now.depth) (faults_of faults) tokens.now) }
+    ) -> Result<(Member<V>, Faults, Tokens<'a>), Refusal>
+        requires { Nests V.value_of V.source self.now.depth (F.pre self.now.inner) (F.post self.now.inner) }
+        ensures { Gives (λ x. (member_of V.value_of x.0, faults_of x.1, x.2.now)) result
+            (reading.valued_at parsing (reading.value_at parsing V.source self.now.depth) (faults_of faults) tokens.now) }
     {
         let (key, faults, rest) = self.inner(faults, tokens)?;
         let key = Box::new(self.alloc, key)?;
@@ -153,15 +126,16 @@ impl<
         self.member_value(key, faults, rest)
     }
 
+    /// A member, of a key and a value.
     #[tactic(auto, unfolding(sj_statement::specs::Reading::member_at))]
-    fn member<'a>(
+    pub fn member<'a>(
         &self,
         faults: Faults,
         tokens: Tokens<'a>,
-    ) -> Result<(Member, Faults, Tokens<'a>), Refusal>
-        requires { Nests self.now.depth (F.pre self.now.inner) (F.post self.now.inner) }
-        ensures { Gives (λ x. (member_of x.0, faults_of x.1, x.2.now)) result
-            (reading.member_at parsing (reading.value_at parsing grammar.document self.now.depth) (faults_of faults) tokens.now) }
+    ) -> Result<(Member<V>, Faults, Tokens<'a>), Refusal>
+        requires { Nests V.value_of V.source self.now.depth (F.pre self.now.inner) (F.post self.now.inner) }
+        ensures { Gives (λ x. (member_of V.value_of x.0, faults_of x.1, x.2.now)) result
+            (reading.member_at parsing (reading.value_at parsing V.source self.now.depth) (faults_of faults) tokens.now) }
     {
         match word(Keyword::Key, tokens) {
             Some(rest) => self.keyed(faults, rest),
@@ -175,10 +149,10 @@ impl<
         &self,
         faults: Faults,
         tokens: Tokens<'a>,
-    ) -> Result<(SMembers, Faults, Tokens<'a>), Refusal>
-        requires { Nests self.now.depth (F.pre self.now.inner) (F.post self.now.inner) }
-        ensures { Gives (λ x. (smembers_of x.0, faults_of x.1, x.2.now)) result
-            (reading.members_from parsing (reading.value_at parsing grammar.document self.now.depth) (length tokens.now) (faults_of faults) tokens.now) }
+    ) -> Result<(V::Members, Faults, Tokens<'a>), Refusal>
+        requires { Nests V.value_of V.source self.now.depth (F.pre self.now.inner) (F.post self.now.inner) }
+        ensures { Gives (λ x. (V.members_of x.0, faults_of x.1, x.2.now)) result
+            (reading.members_from parsing (reading.value_at parsing V.source self.now.depth) (length tokens.now) (faults_of faults) tokens.now) }
     {
         let mut members = Seq::new(self.alloc);
         let mut so_far = faults;
@@ -201,16 +175,16 @@ impl<
         &self,
         faults: Faults,
         tokens: Tokens<'a>,
-    ) -> Result<(SValue, Faults, Tokens<'a>), Refusal>
-        requires { Nests self.now.depth (F.pre self.now.inner) (F.post self.now.inner) }
-        ensures { Gives (λ x. (svalue_of x.0, faults_of x.1, x.2.now)) result
-            (reading.members_to_end parsing (reading.value_at parsing grammar.document self.now.depth) (faults_of faults) tokens.now) }
+    ) -> Result<(V, Faults, Tokens<'a>), Refusal>
+        requires { Nests V.value_of V.source self.now.depth (F.pre self.now.inner) (F.post self.now.inner) }
+        ensures { Gives (λ x. (V.value_of x.0, faults_of x.1, x.2.now)) result
+            (reading.members_to_end parsing (reading.value_at parsing V.source self.now.depth) (faults_of faults) tokens.now) }
     {
         let (members, faults, rest) = self.members(faults, tokens)?;
         let (nulls, rest) = nulls_clause(rest).unwrap_or((Nulls::Null, rest));
         let (unique, rest) = unique_clause(rest).unwrap_or((false, rest));
         let rest = close(rest).ok_or(Refusal::Syntax)?;
-        Ok((SValue::Object(members, nulls, unique), faults, rest))
+        Ok((V::object(members, nulls, unique), faults, rest))
     }
 
     /// JSON_OBJECT, behind its word.
@@ -219,14 +193,14 @@ impl<
         &self,
         faults: Faults,
         tokens: Tokens<'a>,
-    ) -> Result<(SValue, Faults, Tokens<'a>), Refusal>
-        requires { Nests self.now.depth (F.pre self.now.inner) (F.post self.now.inner) }
-        ensures { Gives (λ x. (svalue_of x.0, faults_of x.1, x.2.now)) result
-            (reading.object_from parsing (reading.value_at parsing grammar.document self.now.depth) (faults_of faults) tokens.now) }
+    ) -> Result<(V, Faults, Tokens<'a>), Refusal>
+        requires { Nests V.value_of V.source self.now.depth (F.pre self.now.inner) (F.post self.now.inner) }
+        ensures { Gives (λ x. (V.value_of x.0, faults_of x.1, x.2.now)) result
+            (reading.object_from parsing (reading.value_at parsing V.source self.now.depth) (faults_of faults) tokens.now) }
     {
         let rest = open(tokens).ok_or(Refusal::Syntax)?;
         if let Some(rest) = close(rest) {
-            let none = SValue::Object(SMembers::Empty, Nulls::Null, false);
+            let none = V::object(V::no_members(), Nulls::Null, false);
             return Ok((none, faults, rest));
         }
         self.members_to_end(faults, rest)
@@ -237,15 +211,15 @@ impl<
         &self,
         faults: Faults,
         tokens: Tokens<'a>,
-    ) -> Result<(SValue, Faults, Tokens<'a>), Refusal>
-        requires { Nests self.now.depth (F.pre self.now.inner) (F.post self.now.inner) }
-        ensures { Gives (λ x. (svalue_of x.0, faults_of x.1, x.2.now)) result
-            (reading.values_to_end parsing (reading.value_at parsing grammar.document self.now.depth) (faults_of faults) tokens.now) }
+    ) -> Result<(V, Faults, Tokens<'a>), Refusal>
+        requires { Nests V.value_of V.source self.now.depth (F.pre self.now.inner) (F.post self.now.inner) }
+        ensures { Gives (λ x. (V.value_of x.0, faults_of x.1, x.2.now)) result
+            (reading.values_to_end parsing (reading.value_at parsing V.source self.now.depth) (faults_of faults) tokens.now) }
     {
         let (values, faults, rest) = self.values(faults, tokens)?;
         let (nulls, rest) = nulls_clause(rest).unwrap_or((Nulls::Absent, rest));
         let rest = close(rest).ok_or(Refusal::Syntax)?;
-        Ok((SValue::Array(values, nulls), faults, rest))
+        Ok((V::array(values, nulls), faults, rest))
     }
 
     /// JSON_ARRAY, behind its word.
@@ -254,33 +228,34 @@ impl<
         &self,
         faults: Faults,
         tokens: Tokens<'a>,
-    ) -> Result<(SValue, Faults, Tokens<'a>), Refusal>
-        requires { Nests self.now.depth (F.pre self.now.inner) (F.post self.now.inner) }
-        ensures { Gives (λ x. (svalue_of x.0, faults_of x.1, x.2.now)) result
-            (reading.array_from parsing (reading.value_at parsing grammar.document self.now.depth) (faults_of faults) tokens.now) }
+    ) -> Result<(V, Faults, Tokens<'a>), Refusal>
+        requires { Nests V.value_of V.source self.now.depth (F.pre self.now.inner) (F.post self.now.inner) }
+        ensures { Gives (λ x. (V.value_of x.0, faults_of x.1, x.2.now)) result
+            (reading.array_from parsing (reading.value_at parsing V.source self.now.depth) (faults_of faults) tokens.now) }
     {
         let rest = open(tokens).ok_or(Refusal::Syntax)?;
         if let Some(rest) = close(rest) {
-            let none = SValue::Array(SValues::Empty, Nulls::Absent);
+            let none = V::array(V::no_values(), Nulls::Absent);
             return Ok((none, faults, rest));
         }
         self.values_to_end(faults, rest)
     }
 
+    /// A value, with the values of a constructor by the function inside.
     #[tactic(auto, unfolding(sj_statement::specs::Reading::value_over))]
-    fn over<'a>(
+    pub fn over<'a>(
         &self,
         faults: Faults,
         tokens: Tokens<'a>,
-    ) -> Result<(SValue, Faults, Tokens<'a>), Refusal>
-        requires { Nests self.now.depth (F.pre self.now.inner) (F.post self.now.inner) }
-        ensures { Gives (λ x. (svalue_of x.0, faults_of x.1, x.2.now)) result
-            (reading.value_over parsing grammar.document (reading.value_at parsing grammar.document self.now.depth) (faults_of faults) tokens.now) }
+    ) -> Result<(V, Faults, Tokens<'a>), Refusal>
+        requires { Nests V.value_of V.source self.now.depth (F.pre self.now.inner) (F.post self.now.inner) }
+        ensures { Gives (λ x. (V.value_of x.0, faults_of x.1, x.2.now)) result
+            (reading.value_over parsing V.source (reading.value_at parsing V.source self.now.depth) (faults_of faults) tokens.now) }
     {
         match literal(self.alloc, tokens) {
             Ok(read) => {
                 let (literal, rest) = read;
-                Ok((SValue::Lit(literal), faults, rest))
+                Ok((V::literal(literal), faults, rest))
             }
             Err(Refusal::Memory) => Err(Refusal::Memory),
             Err(Refusal::Syntax) => {
@@ -290,28 +265,8 @@ impl<
                 if let Some(rest) = word(Keyword::JsonArray, tokens) {
                     return self.array(faults, rest);
                 }
-                asking(self.alloc, faults, tokens)
+                V::asking(self.alloc, faults, tokens)
             }
         }
     }
-}
-
-/// A value, with constructors inside one another at most `depth` deep.
-pub fn document_value(
-    alloc: Global,
-    depth: usize,
-    faults: Faults,
-    tokens: Tokens<'_>,
-) -> Result<(SValue, Faults, Tokens<'_>), Refusal>
-    ensures { Gives (λ x. (svalue_of x.0, faults_of x.1, x.2.now)) result (reading.value_at parsing grammar.document depth (faults_of faults) tokens.now) }
-{
-    if depth == 0 {
-        return Err(Refusal::Syntax);
-    }
-    Level {
-        alloc,
-        depth: depth - 1,
-        inner: document_value,
-    }
-    .over(faults, tokens)
 }

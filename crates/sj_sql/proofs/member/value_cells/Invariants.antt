@@ -1,12 +1,11 @@
-use Rattle.std.proofs.Common.{◌≡◌, vec_len}
+use Rattle.std.proofs.Common.{◌≡◌, map, vec_len}
 use Rattle.sj_statement.specs.Tree.{MoreValues, NoValues}
 use Rattle.sj_sql.specs.Cells.{onto}
-use Rattle.sj_sql.specs.View.{plain_of, svalue_of, svalues_of}
 use Rattle.sj_sql.proofs.member.value_cells.Given as goal
 
 abbrev pub decreases-loop-value : goal.decreases-loop-value
-decreases-loop-value l = vec_len l.before
+decreases-loop-value g l = vec_len l.before
 
 abbrev pub invariant-loop-value : goal.invariant-loop-value
-invariant-loop-value l =
-    onto MoreValues (plain_of l.fn.before) (MoreValues (svalue_of l.fn.last) NoValues) ≡ onto MoreValues (plain_of l.before.items) (svalues_of l.cells)
+invariant-loop-value g l =
+    onto MoreValues (map g.V.ValueTree.value_of l.fn.before) (MoreValues (g.V.ValueTree.value_of l.fn.last) NoValues) ≡ onto MoreValues (map g.V.ValueTree.value_of l.before.items) (g.V.ValueTree.values_of l.cells)

@@ -1,12 +1,12 @@
-use Rattle.std.proofs.Common.{◌≡◌, ◌-◌, length}
+use Rattle.std.proofs.Common.{◌≡◌, ◌-◌, length, map}
 use Rattle.sj_statement.specs.Faults.{parsing}
 use Rattle.sj_statement.specs.Reading.{columns_at, columns_from}
 use Rattle.sj_statement.specs.Tree.{More}
-use Rattle.sj_sql.specs.Cells.{column_list_of, fronted}
+use Rattle.sj_sql.specs.Cells.{boxed_column_of, fronted}
 use Rattle.sj_sql.specs.Noted.{faults_of}
 use Rattle.sj_sql.proofs.column.Level.columns.Given as goal
 
 abbrev pub invariant-loop-turn : goal.invariant-loop-turn
 invariant-loop-turn g l =
     columns_from parsing (columns_at parsing l.self.depth) (length l.tokens) (faults_of l.fn.faults) l.tokens
-    ≡ fronted More (column_list_of l.columns) (columns_from parsing (columns_at parsing l.self.depth) (l._turn-end - l._turn) (faults_of l.so_far) l.left.tokens.now)
+    ≡ fronted More (map boxed_column_of l.columns) (columns_from parsing (columns_at parsing l.self.depth) (l._turn-end - l._turn) (faults_of l.so_far) l.left.tokens.now)

@@ -1,12 +1,11 @@
-use Rattle.std.proofs.Common.{◌≡◌, ◌-◌, length}
-use Rattle.sj_statement.specs.Grammar.{document}
+use Rattle.std.proofs.Common.{◌≡◌, ◌-◌, length, map}
 use Rattle.sj_statement.specs.Faults.{parsing}
 use Rattle.sj_statement.specs.Reading.{value_at, members_from}
-use Rattle.sj_sql.specs.Cells.{members_of, fronted, more_members}
+use Rattle.sj_sql.specs.Cells.{member_of, fronted, more_members}
 use Rattle.sj_sql.specs.Noted.{faults_of}
 use Rattle.sj_sql.proofs.value.Level.members.Given as goal
 
 abbrev pub invariant-loop-turn : goal.invariant-loop-turn
 invariant-loop-turn g l =
-    members_from parsing (value_at parsing document l.self.depth) (length l.tokens) (faults_of l.fn.faults) l.tokens
-    ≡ fronted more_members (members_of l.members) (members_from parsing (value_at parsing document l.self.depth) (l._turn-end - l._turn) (faults_of l.so_far) l.left.tokens.now)
+    members_from parsing (value_at parsing g.V.ValueTree.source l.self.depth) (length l.tokens) (faults_of l.fn.faults) l.tokens
+    ≡ fronted more_members (map (member_of g.V.ValueTree.value_of) l.members) (members_from parsing (value_at parsing g.V.ValueTree.source l.self.depth) (l._turn-end - l._turn) (faults_of l.so_far) l.left.tokens.now)

@@ -1,14 +1,12 @@
-use Rattle.std.proofs.Common.{◌≡◌, ◌-◌, length}
-use Rattle.sj_statement.specs.Grammar.{document}
+use Rattle.std.proofs.Common.{◌≡◌, ◌-◌, length, map}
 use Rattle.sj_statement.specs.Faults.{parsing}
 use Rattle.sj_statement.specs.Reading.{value_at, values_from}
 use Rattle.sj_statement.specs.Tree.{MoreValues}
 use Rattle.sj_sql.specs.Cells.{fronted}
 use Rattle.sj_sql.specs.Noted.{faults_of}
-use Rattle.sj_sql.specs.View.{plain_of}
 use Rattle.sj_sql.proofs.value.Level.values.Given as goal
 
 abbrev pub invariant-loop-turn : goal.invariant-loop-turn
 invariant-loop-turn g l =
-    values_from parsing (value_at parsing document l.self.depth) (length l.tokens) (faults_of l.fn.faults) l.tokens
-    ≡ fronted MoreValues (plain_of l.values) (values_from parsing (value_at parsing document l.self.depth) (l._turn-end - l._turn) (faults_of l.so_far) l.left.tokens.now)
+    values_from parsing (value_at parsing g.V.ValueTree.source l.self.depth) (length l.tokens) (faults_of l.fn.faults) l.tokens
+    ≡ fronted MoreValues (map g.V.ValueTree.value_of l.values) (values_from parsing (value_at parsing g.V.ValueTree.source l.self.depth) (l._turn-end - l._turn) (faults_of l.so_far) l.left.tokens.now)

@@ -3,7 +3,7 @@ use Rattle.sj_statement.specs.Grammar.{document}
 use Rattle.sj_statement.specs.Faults.{parsing}
 use Rattle.sj_statement.specs.Reading.{value_at}
 use Rattle.sj_sql.specs.Noted.{faults_of}
-use Rattle.sj_sql.proofs.value.+document_value.Goals as goal
+use Rattle.sj_sql.proofs.document_value.+document_value.Goals as goal
 
 pub returns-then-depth-eq0 : goal.returns-then-depth-eq0
 unfolding value_at
