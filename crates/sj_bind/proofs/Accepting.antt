@@ -23,8 +23,8 @@ use Rattle.sj_statement.specs.Phrases.{Tokens, word, open_at, close_at, comma_at
 use Rattle.sj_statement.specs.Grammar as g
 use Rattle.sj_statement.specs.Grammar.{IsOptional, IsList, IsValueCall, Source, IsValue, IsValues, IsMember, IsMembers, IsColumn, IsColumns, IsColumnList, IsTable, IsPlainItem, IsSelect}
 use Rattle.sj_statement.specs.Notes.{exists_with, value_call_with, query_with, value_with, values_with, members_with, regular_with, formatted_with, column_with, columns_with, table_with, plain_with, statement_with, note_encoding, note_type, note_common, note_value, note_values, note_members, note_column, note_columns, note_table, note_plain, note_items}
-use Rattle.sj_statement.specs.Answers.{Mark, path, lack, listing, marks, Lacks, Free, none, more, finishing, Accepted, Ending, IsScript, done, unended, faulty, refused, accepted, IsFile}
-use Rattle.sj_statement.proofs.Words.{If, nothing, here, given, either, chosen}
+use Rattle.sj_statement.specs.Answers.{Mark, path, unsupported, listing, marks, IsUnsupported, Free, none, more, finishing, Accepted, Ending, IsScript, done, unended, faulty, refused, accepted, IsFile}
+use Rattle.sj_statement.proofs.ReadTokens.{If, nothing, here, given, either, chosen}
 use Rattle.sj_bind.specs.Clauses.{IsBindableType}
 use Rattle.sj_bind.specs.Leaves.{leaves_in, leaves}
 use Rattle.sj_bind.specs.Parts.{Call, exists_call, value_call, query_call, calls_in, calls_in_values, calls_in_members, calls_in_list}
@@ -99,15 +99,15 @@ call_given (g.value_call name opens call returning empty error closes) = returni
 -- ---- what stands among the marks
 
 -- where no mark is lacking, the last is not, and none before it is
-free_last : (ms : List Mark) (m : Mark) → Free Lacks (ms ++ m ∷ []) → Free Lacks ms × ((x : Name) → Lacks m x → ⊥)
+free_last : (ms : List Mark) (m : Mark) → Free IsUnsupported (ms ++ m ∷ []) → Free IsUnsupported ms × ((x : Name) → IsUnsupported m x → ⊥)
 free_last [] m (more other rest) = (none, other)
 free_last (x ∷ ms) m (more other rest) = let r = free_last ms m rest in (more other r.0, r.1)
 
-no_path : (ms : List Mark) (p : PathText) → Free Lacks (ms ++ path p ∷ []) → Free Lacks ms
+no_path : (ms : List Mark) (p : PathText) → Free IsUnsupported (ms ++ path p ∷ []) → Free IsUnsupported ms
 no_path ms p d = (free_last ms (path p) d).0
 
-no_lack : (Q : Type 0) (ms : List Mark) (x : Name) → Free Lacks (ms ++ lack x ∷ []) → Q
-no_lack Q ms x d = absurd ((free_last ms (lack x) d).1 x refl)
+no_unsupported : (Q : Type 0) (ms : List Mark) (x : Name) → Free IsUnsupported (ms ++ unsupported x ∷ []) → Q
+no_unsupported Q ms x d = absurd ((free_last ms (unsupported x) d).1 x refl)
 
 -- Two parts in turn: what is known of the marks goes back over the second to what stood before the first.
 in_turn : {A B C P Q : Type 0} → (A → B × Q) → (B → C × P) → A → C × P × Q
@@ -118,16 +118,16 @@ in_turn second first d =
 
 -- From here on: a part of a tree is listed behind the marks ms. If no mark is lacking then, none of ms is, and the part can be bound.
 
-encoding_read : (x : Encoding) (ms : List Mark) → Free Lacks (note_encoding listing x ms) → Free Lacks ms × IsRead x
+encoding_read : (x : Encoding) (ms : List Mark) → Free IsUnsupported (note_encoding listing x ms) → Free IsUnsupported ms × IsRead x
 encoding_read Read ms d = (d, tt)
-encoding_read Refused ms d = no_lack _ ms lacks.Encoding d
+encoding_read Refused ms d = no_unsupported _ ms lacks.Encoding d
 
-type_bindable : (ty : TypeName) → IsGiven ty → (ms : List Mark) → Free Lacks (note_type listing ty ms) → Free Lacks ms × IsBindableType ty
+type_bindable : (ty : TypeName) → IsGiven ty → (ms : List Mark) → Free IsUnsupported (note_type listing ty ms) → Free IsUnsupported ms × IsBindableType ty
 type_bindable (Known ty) i ms d = (d, i)
-type_bindable Approximate i ms d = no_lack _ ms lacks.ApproximateType d
-type_bindable Datetime i ms d = no_lack _ ms lacks.DatetimeType d
+type_bindable Approximate i ms d = no_unsupported _ ms lacks.ApproximateType d
+type_bindable Datetime i ms d = no_unsupported _ ms lacks.DatetimeType d
 
-common_read : (c : Common PathText) (ms : List Mark) → Free Lacks (note_common listing c ms) → Free Lacks ms × IsRead c.encoding
+common_read : (c : Common PathText) (ms : List Mark) → Free IsUnsupported (note_common listing c ms) → Free IsUnsupported ms × IsRead c.encoding
 common_read c ms d = encoding_read c.encoding ms (no_path (note_encoding listing c.encoding ms) c.path d)
 
 -- ---- values
@@ -144,22 +144,22 @@ one_call c i = All-cons IsBindableCall c [] i no_call
 both_calls : (xs ys : List (Call Path)) → AreBindable xs → AreBindable ys → AreBindable (xs ++ ys)
 both_calls = All-append IsBindableCall
 
-exists_bindable : (c : ExistsCall PathText) (ms : List Mark) → Free Lacks (note_common listing c.common ms) → Free Lacks ms × AreBindable (exists_call (exists_with finishing c) ∷ [])
+exists_bindable : (c : ExistsCall PathText) (ms : List Mark) → Free IsUnsupported (note_common listing c.common ms) → Free IsUnsupported ms × AreBindable (exists_call (exists_with finishing c) ∷ [])
 exists_bindable c ms d = let r = common_read c.common ms d in (r.0, one_call (exists_call (exists_with finishing c)) r.1)
 
-query_bindable : (c : QueryCall PathText) (ms : List Mark) → Free Lacks (note_common listing c.common ms) → Free Lacks ms × AreBindable (query_call (query_with finishing c) ∷ [])
+query_bindable : (c : QueryCall PathText) (ms : List Mark) → Free IsUnsupported (note_common listing c.common ms) → Free IsUnsupported ms × AreBindable (query_call (query_with finishing c) ∷ [])
 query_bindable c ms d = let r = common_read c.common ms d in (r.0, one_call (query_call (query_with finishing c)) r.1)
 
-value_call_bindable : (c : ValueCall PathText) → IsGiven c.ty → (ms : List Mark) → Free Lacks (note_type listing c.ty (note_common listing c.common ms))
-    → Free Lacks ms × AreBindable (value_call (value_call_with finishing c) ∷ [])
+value_call_bindable : (c : ValueCall PathText) → IsGiven c.ty → (ms : List Mark) → Free IsUnsupported (note_type listing c.ty (note_common listing c.common ms))
+    → Free IsUnsupported ms × AreBindable (value_call (value_call_with finishing c) ∷ [])
 value_call_bindable c i ms d =
     let t = type_bindable c.ty i (note_common listing c.common ms) d in
     let r = common_read c.common ms t.0 in
     (r.0, one_call (value_call (value_call_with finishing c)) (r.1, t.1))
 
 mutual
-  value_bindable : {s : Source} {ts rest : Tokens} {x : Value PathText} → IsValue s ts x rest → (ms : List Mark) → Free Lacks (note_value listing x ms)
-      → Free Lacks ms × AreBindable (calls_in (value_with finishing x))
+  value_bindable : {s : Source} {ts rest : Tokens} {x : Value PathText} → IsValue s ts x rest → (ms : List Mark) → Free IsUnsupported (note_value listing x ms)
+      → Free IsUnsupported ms × AreBindable (calls_in (value_with finishing x))
   value_bindable (g.literal h) ms d = (d, no_call)
   value_bindable (g.column h) ms d = (d, no_call)
   value_bindable (g.exists {x = c} i) ms d = exists_bindable c ms d
@@ -171,30 +171,30 @@ mutual
   value_bindable (g.no_array name opens closes) ms d = (d, no_call)
   value_bindable (g.array name opens values nulls closes) ms d = values_bindable values ms d
 
-  values_bindable : {s : Source} {ts rest : Tokens} {xs : Values PathText} → IsValues s ts xs rest → (ms : List Mark) → Free Lacks (note_values listing xs ms)
-      → Free Lacks ms × AreBindable (calls_in_values (values_with finishing xs))
+  values_bindable : {s : Source} {ts rest : Tokens} {xs : Values PathText} → IsValues s ts xs rest → (ms : List Mark) → Free IsUnsupported (note_values listing xs ms)
+      → Free IsUnsupported ms × AreBindable (calls_in_values (values_with finishing xs))
   values_bindable (g.last_value i) ms d = let q = value_bindable i ms d in (q.0, both_calls _ [] q.1 no_call)
   values_bindable (g.more_values {x = x} i comma j) ms d =
       let r = values_bindable j (note_value listing x ms) d in
       let q = value_bindable i ms r.0 in
       (q.0, both_calls _ _ q.1 r.1)
 
-  member_bindable : {s : Source} {ts rest : Tokens} {x y : Value PathText} → IsMember s ts x y rest → (ms : List Mark) → Free Lacks (note_value listing y (note_value listing x ms))
-      → Free Lacks ms × AreBindable (calls_in (value_with finishing x)) × AreBindable (calls_in (value_with finishing y))
+  member_bindable : {s : Source} {ts rest : Tokens} {x y : Value PathText} → IsMember s ts x y rest → (ms : List Mark) → Free IsUnsupported (note_value listing y (note_value listing x ms))
+      → Free IsUnsupported ms × AreBindable (calls_in (value_with finishing x)) × AreBindable (calls_in (value_with finishing y))
   member_bindable (g.keyed {x = x} key i value j) ms d = in_turn (value_bindable j (note_value listing x ms)) (value_bindable i ms) d
   member_bindable (g.valued {x = x} i value j) ms d = in_turn (value_bindable j (note_value listing x ms)) (value_bindable i ms) d
   member_bindable (g.coloned {x = x} i colon j) ms d = in_turn (value_bindable j (note_value listing x ms)) (value_bindable i ms) d
 
-  members_bindable : {s : Source} {ts rest : Tokens} {xs : Members PathText} → IsMembers s ts xs rest → (ms : List Mark) → Free Lacks (note_members listing xs ms)
-      → Free Lacks ms × AreBindable (calls_in_members (members_with finishing xs))
+  members_bindable : {s : Source} {ts rest : Tokens} {xs : Members PathText} → IsMembers s ts xs rest → (ms : List Mark) → Free IsUnsupported (note_members listing xs ms)
+      → Free IsUnsupported ms × AreBindable (calls_in_members (members_with finishing xs))
   members_bindable (g.last_member i) ms d = let q = member_bindable i ms d in (q.0, both_calls _ [] (both_calls _ _ q.1 q.2) no_call)
   members_bindable (g.more_members {x = x} {y = y} i comma j) ms d =
       let r = members_bindable j (note_value listing y (note_value listing x ms)) d in
       let q = member_bindable i ms r.0 in
       (q.0, both_calls _ _ (both_calls _ _ q.1 q.2) r.1)
 
-plain_bindable : {ts rest : Tokens} {xs : List (Value PathText)} → IsList IsPlainItem ts xs rest → (ms : List Mark) → Free Lacks (note_plain listing xs ms)
-    → Free Lacks ms × AreBindable (calls_in_list (plain_with finishing xs))
+plain_bindable : {ts rest : Tokens} {xs : List (Value PathText)} → IsList IsPlainItem ts xs rest → (ms : List Mark) → Free IsUnsupported (note_plain listing xs ms)
+    → Free IsUnsupported ms × AreBindable (calls_in_list (plain_with finishing xs))
 plain_bindable (g.last (g.plain_item i alias)) ms d = let q = value_bindable i ms d in (q.0, both_calls _ [] q.1 no_call)
 plain_bindable (g.more {x = x} (g.plain_item i alias) comma j) ms d =
     let r = plain_bindable j (note_value listing x ms) d in
@@ -210,8 +210,8 @@ one_column : (c : ColumnOf Path) → IsBindableColumn c → AreBindableColumns (
 one_column c i = All-cons IsBindableColumn c [] i (All-nil IsBindableColumn)
 
 mutual
-  column_bindable : {ts rest : Tokens} {x : ColumnOf PathText} → IsColumn ts x rest → (ms : List Mark) → Free Lacks (note_column listing x ms)
-      → Free Lacks ms × AreBindableColumns (leaves_in (column_with finishing x))
+  column_bindable : {ts rest : Tokens} {x : ColumnOf PathText} → IsColumn ts x rest → (ms : List Mark) → Free IsUnsupported (note_column listing x ms)
+      → Free IsUnsupported ms × AreBindableColumns (leaves_in (column_with finishing x))
   column_bindable (g.ordinality {name = n} name for ordinality) ms d = (d, one_column (Ordinality n) tt)
   column_bindable (g.regular {name = n} {ty = ty} {path = p} {empty = e} {error = f} name type column_path empty error) ms d =
       let r = type_bindable ty (type_given _ _ ty type) ms (no_path (note_type listing ty ms) p d) in
@@ -223,19 +223,19 @@ mutual
       (no_path ms p d, one_column (column_with finishing (Existence n p e)) tt)
   column_bindable (g.nested {path = p} nested nested_path name i) ms d = let r = columns_bindable i (ms ++ path p ∷ []) d in (no_path ms p r.0, r.1)
 
-  columns_bindable : {ts rest : Tokens} {xs : Columns PathText} → IsColumns ts xs rest → (ms : List Mark) → Free Lacks (note_columns listing xs ms)
-      → Free Lacks ms × AreBindableColumns (leaves (columns_with finishing xs))
+  columns_bindable : {ts rest : Tokens} {xs : Columns PathText} → IsColumns ts xs rest → (ms : List Mark) → Free IsUnsupported (note_columns listing xs ms)
+      → Free IsUnsupported ms × AreBindableColumns (leaves (columns_with finishing xs))
   columns_bindable (g.columns word opens i closes) ms d = column_list_bindable i ms d
 
-  column_list_bindable : {ts rest : Tokens} {xs : Columns PathText} → IsColumnList ts xs rest → (ms : List Mark) → Free Lacks (note_columns listing xs ms)
-      → Free Lacks ms × AreBindableColumns (leaves (columns_with finishing xs))
+  column_list_bindable : {ts rest : Tokens} {xs : Columns PathText} → IsColumnList ts xs rest → (ms : List Mark) → Free IsUnsupported (note_columns listing xs ms)
+      → Free IsUnsupported ms × AreBindableColumns (leaves (columns_with finishing xs))
   column_list_bindable (g.last_column i) ms d = column_bindable i ms d
   column_list_bindable (g.more_columns {x = x} {xs = xs} i comma j) ms d =
       let r = column_list_bindable j (note_column listing x ms) d in
       let q = column_bindable i ms r.0 in
       (q.0, All-append IsBindableColumn (leaves_in (column_with finishing x)) (leaves (columns_with finishing xs)) q.1 r.1)
 
-table_bindable : {ts rest : Tokens} {x : Table PathText} → IsTable ts x rest → (ms : List Mark) → Free Lacks (note_table listing x ms) → IsBindableTable (table_with finishing x)
+table_bindable : {ts rest : Tokens} {x : Table PathText} → IsTable ts x rest → (ms : List Mark) → Free IsUnsupported (note_table listing x ms) → IsBindableTable (table_with finishing x)
 table_bindable {x = x} i ms d =
     let r = columns_given i (note_common listing x.common ms) d in
     record {
@@ -243,14 +243,14 @@ table_bindable {x = x} i ms d =
       columns = subst AreBindableColumns (sym (leaves_of_columns 0 1 (columns_with finishing x.columns))) r.1;
     }
   where
-    columns_given : {ts rest : Tokens} {x : Table PathText} → IsTable ts x rest → (ms : List Mark) → Free Lacks (note_columns listing x.columns ms)
-        → Free Lacks ms × AreBindableColumns (leaves (columns_with finishing x.columns))
+    columns_given : {ts rest : Tokens} {x : Table PathText} → IsTable ts x rest → (ms : List Mark) → Free IsUnsupported (note_columns listing x.columns ms)
+        → Free IsUnsupported ms × AreBindableColumns (leaves (columns_with finishing x.columns))
     columns_given (g.json_table table opens document comma string name passing i plan error closes alias) ms d = columns_bindable i ms d
 
 -- ---- statements
 
 -- Beside a table no function stands in the list, so nothing is asked of its items.
-pub select_bindable : {ts : Tokens} {x : Statement PathText} → IsSelect ts x → Free Lacks (marks x) → IsBindable (statement_with finishing x)
+pub select_bindable : {ts : Tokens} {x : Statement PathText} → IsSelect ts x → Free IsUnsupported (marks x) → IsBindable (statement_with finishing x)
 select_bindable (g.plain select i) d = (plain_bindable i [] d).1
 select_bindable (g.all select star from i) d = table_bindable i [] d
 select_bindable (g.listed {xs = xs} select items from i) d = table_bindable i (note_items listing xs []) d

@@ -8,7 +8,7 @@ use Rattle.sj_statement.specs.Tree.{Columns, Last, More, ColumnOf, Ordinality, R
 use Rattle.sj_value.specs.Plans.{PlanTree, one_at, times, root_of}
 use Rattle.sj_bind.specs.Paths.{paths_in, paths_below}
 use Rattle.sj_bind.specs.Plans.{joined, beside, grouped, over, default_in, default_below}
-use Rattle.sj_bind.proofs.Inside.{inside, inside-none, inside-append, inside-first}
+use Rattle.sj_bind.proofs.ConsecutiveNumbers.{inside, inside-none, inside-append, inside-first}
 
 -- how often a number stands in plans
 total : ℕ → List PlanTree → ℕ

@@ -1,28 +1,60 @@
+-- for `note_name`, `number_of` and `variable_names`
 pub mod AddedNames
+-- for crates above
 pub mod Bindable
+-- for `accepted_statements_are_bindable`, and for other lemmas
 pub mod Accepting
-pub mod Chained
-pub mod Clean
+-- for `bind_members`, `bind_row_members`, `bind_row_value`, `bind_row_values`, `bind_value`, `bind_values`,
+-- `chain_members` and `chain_values`
+pub mod LinkedCells
+-- for `bind_all`, `bind_listed` and `bind_plain`, and for other lemmas
+pub mod UnbrokenRules
+-- for the lemmas of `PlansOver`
 pub mod DefaultOver
+-- for `plan_by`
 pub mod DefaultPlans
-pub mod Fitted
+-- for the lemmas of `SoundStatements`, `SoundTables`, `SoundValues` and `UnbrokenRules`
+pub mod BindableValues
+-- for `find_all`, `find_all_items`, `find_column`, `find_columns`, `find_in_item`, `find_in_members`,
+-- `find_in_pair`, `find_in_values`, `find_parts` and `find_row_parts`
 pub mod Found
+-- for `all_fault`, `bind_listed`, `bind_plain`, `has_too_many_parts`, `listed_fault`, `plain_fault` and
+-- `some_key_is_no_text`, and for other lemmas
 pub mod Groups
-pub mod Inside
+-- for the lemmas of `DefaultOver`, `NamedOver` and `PlansOver`
+pub mod ConsecutiveNumbers
+-- for `find_columns` and `table_parts`, and for other lemmas
 pub mod LeafLists
+-- for `bind_items`, `bind_list` and `first_columns`
 pub mod Listed
+-- for `covers_expr`, `covers_pred`, `covers_step`, `covers_sub`, `covers_subs`, `has_name` and `number_of`, and for
+-- other lemmas
 pub mod Lists
-pub mod Missed
+-- for `table_lacks_variable`
+pub mod MissingVariables
+-- for `has_name_twice`, `note`, `note_columns`, `note_nested` and `note_paths`, and for other lemmas
 pub mod NameLists
+-- for the lemmas of `PlansOver`
 pub mod NamedOver
+-- for `passed_vars`
 pub mod Passed
+-- for `find_path`, `has_nested`, `occurrences` and `stand_once`
 pub mod PathLists
-pub mod Picked
+-- for `some_column_default_fails` and `some_default_fails`
+pub mod IndexedParts
+-- for `table_plan`, and for other lemmas
 pub mod PlansOver
+-- for the lemmas of `SoundTables` and `SoundValues`
 pub mod SoundClauses
+-- for the lemmas of `SoundStatements`
 pub mod SoundTables
+-- for the lemmas of `SoundStatements` and `SoundTables`
 pub mod SoundValues
-pub mod Sounds
+-- for `bind`
+pub mod SoundStatements
+-- for the lemmas of `SoundStatements` and `SoundTables`
 pub mod TableSizes
-pub mod Takes
+-- for `bind_table`, `put_column`, `put_path` and `take_all`
+pub mod TakenColumns
+-- for `Bound::width`
 pub mod ViewLists

@@ -11,7 +11,7 @@ use Rattle.sj_bind.specs.Tables.{has_twice, path_names_in, path_names_below}
 use Rattle.sj_value.specs.Plans.{one_at, times, root_of}
 use Rattle.sj_bind.specs.Plans.{standing, is_name, name_count, stands_once, each_once, path_named, nested_of, is_nil, fits, has_root, number_of, numbered}
 use Rattle.sj_bind.proofs.NameLists.{bytes_eq-sym, list_any-append, has_twice-more}
-use Rattle.sj_bind.proofs.Inside.{inside, inside-none, inside-one, inside-append, inside-first}
+use Rattle.sj_bind.proofs.ConsecutiveNumbers.{inside, inside-none, inside-one, inside-append, inside-first}
 
 -- ---- tests
 

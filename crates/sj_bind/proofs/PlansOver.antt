@@ -9,7 +9,7 @@ use Rattle.sj_value.specs.Plans as v
 use Rattle.sj_bind.specs.Paths.{row_path, paths_below, table_paths}
 use Rattle.sj_bind.specs.Tables.{has_path_name_twice, path_names_below}
 use Rattle.sj_bind.specs.Plans.{has_root, fits, differs, has_plan_mismatch, default_below, plan_by, table_plan}
-use Rattle.sj_bind.proofs.Inside.{inside-yes, inside-no}
+use Rattle.sj_bind.proofs.ConsecutiveNumbers.{inside-yes, inside-no}
 use Rattle.sj_bind.proofs.DefaultOver.{default-times, default-root}
 use Rattle.sj_bind.proofs.NamedOver.{both, twice-right, named-times, named-root}
 

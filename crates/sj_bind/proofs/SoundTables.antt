@@ -19,8 +19,8 @@ use Rattle.sj_bind.specs.Plans.{table_plan}
 use Rattle.sj_bind.specs.Rules.{text_name, text_names, columns_alone, paths_alone, all_columns, all_paths, lacks_variable, column_lacks_variable, column_default_fails, table_lacks_variable}
 use Rattle.sj_bind.specs.Sound.{IsBindableColumn, IsBindableTable, IsTextColumn, IsSoundColumn, IsSoundTable}
 use Rattle.sj_bind.specs.Tables.{TableColumn, columns_in, columns_below, table_columns, names_in, names_below, column_names, has_twice}
-use Rattle.sj_bind.proofs.Clean.{IsCleanTable, few_columns}
-use Rattle.sj_bind.proofs.Fitted.{neither}
+use Rattle.sj_bind.proofs.UnbrokenRules.{IsCleanTable, few_columns}
+use Rattle.sj_bind.proofs.BindableValues.{neither}
 use Rattle.sj_bind.proofs.PlansOver.{plan_over}
 use Rattle.sj_bind.proofs.SoundClauses.{sound_clauses}
 use Rattle.sj_bind.proofs.SoundValues.{holds, text_type}

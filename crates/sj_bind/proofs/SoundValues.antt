@@ -17,7 +17,7 @@ use Rattle.sj_bind.specs.Meaning.{bound_value, bound_values, bound_members, colu
 use Rattle.sj_bind.specs.Parts.{Call, calls_in, calls_in_values, calls_in_members, keys_in, keys_in_values, keys_in_members, names_in, names_in_values, names_in_members}
 use Rattle.sj_bind.specs.Rules.{call_lacks_variable, call_default_fails, is_key, is_key_literal}
 use Rattle.sj_bind.specs.Sound.{IsBindableCall, IsTextColumn, IsKey, IsSoundValue, AreSoundValues, AreSoundMembers}
-use Rattle.sj_bind.proofs.Fitted.{neither}
+use Rattle.sj_bind.proofs.BindableValues.{neither}
 use Rattle.sj_bind.proofs.SoundClauses.{sound_clauses}
 
 pub holds : (c : Bool) → not c ≡ false → c ≡ true

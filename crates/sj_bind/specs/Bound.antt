@@ -2,7 +2,7 @@
 use Rattle.std.specs.Prelude.{ℕ, Bool as Truth, List, Option}
 use Rattle.sj_grammar.specs.declared.tree.Literal.{Literal}
 use Rattle.sj_grammar.specs.Tree.{Path}
-use Rattle.sj_path.specs.Vars.{Named}
+use Rattle.sj_path.specs.Vars.{Variables}
 use Rattle.sj_statement.specs.declared.clauses.IsJsonCall.{IsJsonCall}
 use Rattle.sj_value.specs.declared.clauses.ExistsAction.{ExistsAction}
 use Rattle.sj_value.specs.declared.clauses.Nulls.{Nulls}
@@ -14,7 +14,7 @@ use Rattle.sj_value.specs.Plans.{PlanTree}
 -- a path with the variables that are passed to it
 pub record PathWith : Type 0 where
   pub path : Path
-  pub vars : Named
+  pub vars : Variables
 
 -- A value of a SELECT list. A member has its key first. The truth value beside the nulls is true for WITH UNIQUE KEYS.
 mutual
@@ -51,7 +51,7 @@ pub data ColumnOf : Type 0 where
 
 pub record Table : Type 0 where
   pub paths : List Path
-  pub vars : Named
+  pub vars : Variables
   pub plan : PlanTree
   pub on_error : TableAction
   pub columns : List ColumnOf

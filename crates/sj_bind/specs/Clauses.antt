@@ -5,7 +5,7 @@ use Rattle.std.specs.Result.{result_ok}
 use Rattle.sj_grammar.specs.declared.tree.Literal.{Literal}
 use Rattle.sj_grammar.specs.declared.tree.Literal.TheVariants as literal
 use Rattle.sj_grammar.specs.Tree.{Path}
-use Rattle.sj_path.specs.Vars.{Named}
+use Rattle.sj_path.specs.Vars.{Variables}
 use Rattle.sj_item.specs.Items.{ItemValue, made_text, made_number, made_truth, made_null}
 use Rattle.sj_statement.specs.declared.clauses.Passed.{Passed}
 use Rattle.sj_statement.specs.declared.clauses.Quotes.{Quotes}
@@ -36,7 +36,7 @@ abbrev pub passed_names : List Passed → List (List ℕ)
 passed_names [] = []
 passed_names (p ∷ ps) = p.name ∷ passed_names ps
 
-abbrev pub passed : List Passed → Named
+abbrev pub passed : List Passed → Variables
 passed [] = []
 passed (p ∷ ps) = (p.name, p.value) ∷ passed ps
 

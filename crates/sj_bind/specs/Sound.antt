@@ -2,7 +2,7 @@
 use Rattle.std.specs.Prelude.{◌≡◌, ℕ, ◌<◌, ◌≤◌, Bool, true, false, List, [], length, Option, Some, None, All as Each, slice_get, IsSomeAnd, ◌⊎◌}
 use Rattle.sj_grammar.specs.declared.tree.Literal.TheVariants as literal
 use Rattle.sj_grammar.specs.Tree.{Path}
-use Rattle.sj_path.specs.Vars.{Named, covers}
+use Rattle.sj_path.specs.Vars.{Variables, covers}
 use Rattle.sj_statement.specs.declared.clauses.Encoding.{Encoding}
 use Rattle.sj_statement.specs.declared.clauses.Encoding.TheVariants.{Read, Refused}
 use Rattle.sj_statement.specs.Tree as t
@@ -130,7 +130,7 @@ is_aggregate (ArrayAgg x _) = true
 is_aggregate (ObjectAgg key x _ unique) = true
 
 -- a column of a table with these variables and this number of paths
-abbrev pub IsSoundColumn : Named → ℕ → BoundColumn → Type 0
+abbrev pub IsSoundColumn : Variables → ℕ → BoundColumn → Type 0
 IsSoundColumn vars paths (Ordinality n) = n < paths
 IsSoundColumn vars paths (Regular n path clauses) = (n < paths) × (covers vars path ≡ true) × AreClauses clauses
 IsSoundColumn vars paths (Formatted n path clauses) = (n < paths) × (covers vars path ≡ true)

@@ -27,7 +27,7 @@ use std::alloc::Global;
 ///
 /// # Errors
 /// `Kind` exactly where the statement breaks a rule, with the first that it breaks, and `Memory` where memory ran out.
-#[tactic(auto, using(crate::proofs::Sounds::sound_answer))]
+#[tactic(auto, using(crate::proofs::SoundStatements::sound_answer))]
 pub fn bind(alloc: Global, statement: Statement) -> Result<Bound, BindRefusal>
     requires { IsBindable (statement_of statement) }
     ensures binds { Binds (statement_of statement) result }

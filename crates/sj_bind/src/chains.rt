@@ -10,7 +10,7 @@ use sj_base::Memory;
 use std::alloc::Global;
 
 /// The values as linked cells, in the same order.
-#[tactic(auto, using(crate::proofs::Chained::chains))]
+#[tactic(auto, using(crate::proofs::LinkedCells::chains))]
 pub fn chain_values(alloc: Global, values: Vec<BoundValue>) -> Result<BoundValues, Memory>
     ensures { IfOk result (λ c. values_of c ≡ chained values.items NoValues) }
 {
@@ -23,7 +23,7 @@ pub fn chain_values(alloc: Global, values: Vec<BoundValue>) -> Result<BoundValue
 }
 
 /// The members as linked cells, in the same order.
-#[tactic(auto, using(crate::proofs::Chained::chains))]
+#[tactic(auto, using(crate::proofs::LinkedCells::chains))]
 pub fn chain_members(
     alloc: Global,
     members: Vec<(BoundValue, BoundValue)>,

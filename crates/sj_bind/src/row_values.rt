@@ -29,7 +29,7 @@ fn number_of(columns: &NameSet<'_>, name: &str) -> u32
 
 /// A bound value.
 #[cycle(bind_row_values)]
-#[tactic(auto, using(crate::proofs::Chained::chains))]
+#[tactic(auto, using(crate::proofs::LinkedCells::chains))]
 fn bind_row_value(alloc: Global, value: TValue, columns: &NameSet<'_>) -> Result<BoundValue, Memory>
     requires known { AreNamed (names_of columns.now) (tvalue_of value) }
     requires few { length (names_of columns.now) ≤ 1000 }
@@ -50,7 +50,7 @@ fn bind_row_value(alloc: Global, value: TValue, columns: &NameSet<'_>) -> Result
 }
 
 #[cycle(bind_row_values)]
-#[tactic(auto, using(crate::proofs::Chained::chains))]
+#[tactic(auto, using(crate::proofs::LinkedCells::chains))]
 fn bind_row_values(
     alloc: Global,
     values: TValues,
@@ -70,7 +70,7 @@ fn bind_row_values(
 }
 
 #[cycle(bind_row_values)]
-#[tactic(auto, using(crate::proofs::Chained::chains))]
+#[tactic(auto, using(crate::proofs::LinkedCells::chains))]
 fn bind_row_members(
     alloc: Global,
     members: TMembers,

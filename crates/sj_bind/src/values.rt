@@ -56,7 +56,7 @@ fn bind_query(alloc: Global, call: Box<QueryCall>) -> Result<BoundValue, Memory>
 
 /// A bound value.
 #[cycle(bind_values)]
-#[tactic(auto, using(crate::proofs::Chained::chains))]
+#[tactic(auto, using(crate::proofs::LinkedCells::chains))]
 pub fn bind_value(alloc: Global, value: SValue) -> Result<BoundValue, Memory>
     requires { IsFit (svalue_of value) }
     ensures { IfOk result (λ b. value_of b ≡ bound_value [] (svalue_of value)) }
@@ -79,7 +79,7 @@ pub fn bind_value(alloc: Global, value: SValue) -> Result<BoundValue, Memory>
 }
 
 #[cycle(bind_values)]
-#[tactic(auto, using(crate::proofs::Chained::chains))]
+#[tactic(auto, using(crate::proofs::LinkedCells::chains))]
 fn bind_values(alloc: Global, values: SValues) -> Result<BoundValues, Memory>
     requires { AreFit (svalues_of values) }
     ensures { IfOk result (λ b. values_of b ≡ bound_values [] (svalues_of values)) }
@@ -94,7 +94,7 @@ fn bind_values(alloc: Global, values: SValues) -> Result<BoundValues, Memory>
 }
 
 #[cycle(bind_values)]
-#[tactic(auto, using(crate::proofs::Chained::chains))]
+#[tactic(auto, using(crate::proofs::LinkedCells::chains))]
 fn bind_members(alloc: Global, members: SMembers) -> Result<BoundMembers, Memory>
     requires { AreFitMembers (smembers_of members) }
     ensures { IfOk result (λ b. members_of b ≡ bound_members [] (smembers_of members)) }

@@ -3,7 +3,7 @@ use Rattle.std.specs.Prelude.{if◌then◌else◌}
 use Rattle.std.proofs.Common.{◌≡◌, ℕ, ◌+◌, ◌-◌, ◌≤◌, List, [], ◌∷◌, ◌++◌, map, take, drop, get_or, length, Bool, true, false, Option, None, ap, sym, ◌∙◌, refl, arith}
 use Rattle.std.proofs.lemmas.List.{take_all}
 use Rattle.sj_base.specs.Outside.{raised}
-use Rattle.sj_json.specs.Tree.{Tree, children, numbered}
+use Rattle.sj_json.specs.Tree.{Tree, children, numbered, NumberedChild}
 use Rattle.sj_doc.specs.Keyed.{is_key, from_key}
 use Rattle.sj_doc.specs.Kinds.{kind_of}
 use Rattle.sj_doc.specs.Slots.{Key, texts}
@@ -12,17 +12,18 @@ use Rattle.sj_doc.specs.declared.node.Kind.TheVariants as kinds
 use Rattle.sj_grammar.specs.Tree as t
 use Rattle.sj_grammar.specs.declared.tree.Mode.TheVariants.{Lax}
 use Rattle.sj_item.specs.Items.{ItemValue, node}
-use Rattle.sj_step.specs.Trace.{Trace, stop, visit, give, only, pay, join, each}
+use Rattle.sj_step.specs.Trace.{Trace, stop, visit, give, only, after_visits, join, each}
 use Rattle.sj_step.specs.Reach.{reach, on_kind, by_key, unwrapped, unwrap, child_item, under_key}
-use Rattle.sj_step.proofs.Traces.{join-pay, join-stop, join_assoc, each-only, each-pay, each_assoc}
+use Rattle.sj_step.proofs.Traces.{join-after_visits, join-stop, join_assoc, each-only, each-after_visits, each_assoc}
 use Rattle.sj_step.proofs.Keyed.{gives_first, gives_none}
-use Rattle.sj_cursor.specs.Meaning.{Env, Variables, meaning, start_env, path_trace}
+use Rattle.sj_path.specs.Vars.{Variables}
+use Rattle.sj_cursor.specs.Meaning.{Env, meaning, start_env, path_trace}
 use Rattle.sj_cursor.specs.Looks.{Found, none_found, Look, more, is_enough, looked, look_cost, Finds}
 use Rattle.sj_cursor.specs.Chains.{accessed, below, under, over, IsChainOf, Sought, Seeking}
 use Rattle.sj_cursor.specs.declared.chain.Chain.{Chain}
 use Rattle.sj_cursor.specs.declared.look.Limit.{Limit}
-use Rattle.sj_cursor.proofs.Unopened.{unopened}
-use Rattle.sj_cursor.proofs.Looks.{looked-pay, cost-pay}
+use Rattle.sj_cursor.proofs.NotUnwrapped.{unopened}
+use Rattle.sj_cursor.proofs.Looks.{looked-after_visits, cost-after_visits}
 
 -- ---- keys in a row
 
@@ -73,31 +74,27 @@ pub under_none : (key : List ℕ) (keys : List (List ℕ)) (i : ℕ) (tree : Tre
 unfolding reach
 under_none key keys i tree other = ap (λ u. each u (below keys)) (kind_without (kind_of tree) key (node i tree) other)
 
--- what the members of a list that are under the key give
-abbrev pub Named : Type 0
-Named = Option (List ℕ) × ℕ × Tree
-
-abbrev pub keyed : List ℕ → List (List ℕ) → List Named → Trace
+abbrev pub keyed : List ℕ → List (List ℕ) → List NumberedChild → Trace
 keyed key keys cs = each (under_key 1 Lax key false (map child_item cs)) (below keys)
 
 pub under_object : (key : List ℕ) (keys : List (List ℕ)) (i : ℕ) (tree : Tree) → kind_of tree ≡ kinds.Object → under key keys (node i tree) ≡ keyed key keys (numbered (i + 1) (children tree))
 unfolding reach
 under_object key keys i tree e = ap (λ k. each (on_kind k (by_key key) Lax (node i tree)) (below keys)) e
 
-found_or_not : (key : List ℕ) (cs : List Named) → under_key 1 Lax key true (map child_item cs) ≡ under_key 1 Lax key false (map child_item cs)
+found_or_not : (key : List ℕ) (cs : List NumberedChild) → under_key 1 Lax key true (map child_item cs) ≡ under_key 1 Lax key false (map child_item cs)
 found_or_not key [] = refl
 found_or_not key (c ∷ cs) = ap (λ u. visit (if is_key key c.0 then give (child_item c).1 (under_key 1 Lax key true (map child_item cs)) else u)) (found_or_not key cs)
 
-pub keyed_first : (key : List ℕ) (keys : List (List ℕ)) (c : Named) (cs ms : List Named) → from_key key cs ≡ c ∷ ms
-    → keyed key keys cs ≡ pay (length cs - length ms) (join (below keys (node c.1 c.2)) (keyed key keys ms))
+pub keyed_first : (key : List ℕ) (keys : List (List ℕ)) (c : NumberedChild) (cs ms : List NumberedChild) → from_key key cs ≡ c ∷ ms
+    → keyed key keys cs ≡ after_visits (length cs - length ms) (join (below keys (node c.1 c.2)) (keyed key keys ms))
 keyed_first key keys c cs ms e =
     let n = length cs - length ms in
     ap (λ u. each u (below keys)) (gives_first Lax key false c ms cs e)
-    ∙ each-pay n (give (child_item c).1 (under_key 1 Lax key true (map child_item ms))) (below keys)
-    ∙ ap (λ u. pay n (join (below keys (node c.1 c.2)) (each u (below keys)))) (found_or_not key ms)
+    ∙ each-after_visits n (give (child_item c).1 (under_key 1 Lax key true (map child_item ms))) (below keys)
+    ∙ ap (λ u. after_visits n (join (below keys (node c.1 c.2)) (each u (below keys)))) (found_or_not key ms)
 
-pub keyed_none : (key : List ℕ) (keys : List (List ℕ)) (cs : List Named) → from_key key cs ≡ [] → keyed key keys cs ≡ pay (length cs) stop
-keyed_none key keys cs e = ap (λ u. each u (below keys)) (gives_none Lax key false cs e) ∙ each-pay (length cs) stop (below keys)
+pub keyed_none : (key : List ℕ) (keys : List (List ℕ)) (cs : List NumberedChild) → from_key key cs ≡ [] → keyed key keys cs ≡ after_visits (length cs) stop
+keyed_none key keys cs e = ap (λ u. each u (below keys)) (gives_none Lax key false cs e) ∙ each-after_visits (length cs) stop (below keys)
 
 -- ---- an array is unwrapped
 
@@ -120,10 +117,10 @@ module _ (limit : Limit) (f : Found) where
   pub seeking_from : (t : Trace) (a : ℕ) → Seeking limit f t f t a a
   seeking_from t a = record { same = λ w. refl; costs = λ w. omega arith }
 
-  pub seeking_visits : (n : ℕ) (t u : Trace) (g : Found) (a b c : ℕ) → Seeking limit f t g (pay n u) a b → c ≡ raised b n → Seeking limit f t g u a c
+  pub seeking_visits : (n : ℕ) (t u : Trace) (g : Found) (a b c : ℕ) → Seeking limit f t g (after_visits n u) a b → c ≡ raised b n → Seeking limit f t g u a c
   seeking_visits n t u g a b c k e = record {
-    same = λ w. sym (ap (looked limit g) (join-pay n u w) ∙ looked-pay limit g n (join u w)) ∙ k.same w;
-    costs = λ w. omega (arith, e, ap (look_cost limit g) (join-pay n u w), cost-pay limit g n (join u w), k.costs w);
+    same = λ w. sym (ap (looked limit g) (join-after_visits n u w) ∙ looked-after_visits limit g n (join u w)) ∙ k.same w;
+    costs = λ w. omega (arith, e, ap (look_cost limit g) (join-after_visits n u w), cost-after_visits limit g n (join u w), k.costs w);
   }
 
   pub seeking_over : (t p u : Trace) (g h : Found) (a b c : ℕ) → Seeking limit f t g (join p u) a b → Sought limit g p h false b c → Seeking limit f t h u a c
@@ -173,7 +170,7 @@ module _ (limit : Limit) (f g : Found) where
       → Sought limit f u g enough a b → all ≡ first ∷ key → below (first ∷ key) x ≡ u → Sought limit f (below all x) g enough a b
   sought_first all key first x u enough a b s e is = sought_same _ _ enough a b s (ap (λ ks. below ks x) e ∙ is)
 
-  pub sought_array : (all key : List (List ℕ)) (first : List ℕ) (i : ℕ) (tree : Tree) (cs : List Named) (enough : Bool) (a b : ℕ)
+  pub sought_array : (all key : List (List ℕ)) (first : List ℕ) (i : ℕ) (tree : Tree) (cs : List NumberedChild) (enough : Bool) (a b : ℕ)
       → Sought limit f (over first key cs) g enough a b → all ≡ first ∷ key → kind_of tree ≡ kinds.Array → cs ≡ numbered (i + 1) (children tree)
       → Sought limit f (below all (node i tree)) g enough a b
   sought_array all key first i tree cs enough a b s e array is = sought_first all key first (node i tree) _ enough a b s e (below_array first key i tree array ∙ ap (over first key) (sym is))
@@ -184,22 +181,22 @@ module _ (limit : Limit) (f g : Found) where
   sought_other all key first i tree enough a b s e other = sought_first all key first (node i tree) _ enough a b s e (below_other first key i tree other)
 
   -- an element is handed out, and no element is left
-  pub element_next : (t : Trace) (key : List ℕ) (keys : List (List ℕ)) (c : Named) (cs ds : List Named) (a b later : ℕ)
+  pub element_next : (t : Trace) (key : List ℕ) (keys : List (List ℕ)) (c : NumberedChild) (cs ds : List NumberedChild) (a b later : ℕ)
       → Seeking limit f t g (over key keys cs) a b → cs ≡ c ∷ ds → later ≡ raised b 1 → Seeking limit f t g (join (under key keys (node c.1 c.2)) (over key keys ds)) a later
   element_next t key keys c cs ds a b later k e step = seeking_visits limit f 1 t _ g a b later (rw e at k) step
 
-  pub elements_over : (t : Trace) (key : List ℕ) (keys : List (List ℕ)) (cs : List Named) (a b later : ℕ)
+  pub elements_over : (t : Trace) (key : List ℕ) (keys : List (List ℕ)) (cs : List NumberedChild) (a b later : ℕ)
       → Seeking limit f t g (over key keys cs) a b → cs ≡ [] → later ≡ b → Sought limit f t g false a later
   elements_over t key keys cs a b later k e step = rw step (seeking_end limit f t g a b (rw e at k))
 
   -- a member under the key is handed out, and none is left
-  pub member_next : (t : Trace) (key : List ℕ) (keys : List (List ℕ)) (c : Named) (cs ms : List Named) (a b later : ℕ)
+  pub member_next : (t : Trace) (key : List ℕ) (keys : List (List ℕ)) (c : NumberedChild) (cs ms : List NumberedChild) (a b later : ℕ)
       → Seeking limit f t g (keyed key keys cs) a b → from_key key cs ≡ c ∷ ms → later ≡ raised b (length cs - length ms)
       → Seeking limit f t g (join (below keys (node c.1 c.2)) (keyed key keys ms)) a later
   member_next t key keys c cs ms a b later k e step = seeking_visits limit f (length cs - length ms) t _ g a b later (rw (keyed_first key keys c cs ms e) at k) step
 
-  pub members_over : (t : Trace) (key : List ℕ) (keys : List (List ℕ)) (cs ms : List Named) (a b later : ℕ)
+  pub members_over : (t : Trace) (key : List ℕ) (keys : List (List ℕ)) (cs ms : List NumberedChild) (a b later : ℕ)
       → Seeking limit f t g (keyed key keys cs) a b → from_key key cs ≡ [] → ms ≡ [] → later ≡ raised b (length cs - length ms) → Sought limit f t g false a later
   members_over t key keys cs ms a b later k e none step =
-      let all : length cs - length ms ≡ length cs = omega (arith, ap (λ (xs : List Named). length xs) none) in
+      let all : length cs - length ms ≡ length cs = omega (arith, ap (λ (xs : List NumberedChild). length xs) none) in
       seeking_end limit f t g a later (seeking_visits limit f (length cs) t stop g a b later (rw (keyed_none key keys cs e) at k) (step ∙ ap (raised b) all))

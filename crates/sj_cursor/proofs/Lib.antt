@@ -1,16 +1,32 @@
-mod Compared
+-- for the lemmas of `ComparisonVerdicts`
+mod ComparisonPairs
+-- examples of the definitions, which no proof needs
 mod Examples
+-- for `Cursor::look_on` and `next`, and for other lemmas
 mod Draws
+-- for `Cursor::exists`, `Cursor::look_on`, `Cursor::single` and `next`, and for other lemmas
 mod Looks
+-- for `next`
 mod Pairs
-mod Begins
-mod Doings
-mod Acts
-mod Decided
-mod Pulls
+-- for `Cursor::put_next`
+mod CellsAtTheBeginning
+-- for `build`, `next` and `rewind`
+mod Operators
+-- for `key_values`
+mod KeyValuePairs
+-- for `next`
+mod ComparisonVerdicts
+-- for `next`
+mod ItemAnswers
+-- for `next`
 mod Parts
+-- for `next`
 mod Connectives
-mod Unopened
-mod Soles
+-- for `is_array`, and for other lemmas
+mod NotUnwrapped
+-- for `see_one`
+mod SingleItems
+-- for `Chain::look`, `Cursor::look`, `collect` and `seek`
 mod Chains
+-- for `fault_free_paths_end_well`, and for crates above
 pub mod WithoutFaults

@@ -9,7 +9,7 @@ use Rattle.sj_grammar.specs.declared.tree.Mode.TheVariants.{Lax, Strict}
 use Rattle.sj_item.specs.Items.{ItemValue, gives, ends, faults}
 use Rattle.sj_item.specs.Truths.{truth_of}
 use Rattle.sj_item.specs.declared.truth.Truth.{Truth}
-use Rattle.sj_step.specs.Trace.{Trace, stop, fail, visit, give, pay, items, count, visits, visits_before, fault_of, fore}
+use Rattle.sj_step.specs.Trace.{Trace, stop, fail, visit, give, after_visits, items, count, visits, visits_before, fault_of, visits_to_first}
 use Rattle.sj_cursor.specs.Single.{need, Single, bad, of_items, unless_fault, single}
 use Rattle.sj_cursor.specs.Verdicts.{exists_truth, exists_verdict, is_faulty, has_item}
 use Rattle.sj_cursor.specs.Draws.{Draws}
@@ -22,13 +22,13 @@ use Rattle.sj_cursor.proofs.Draws.{draw_item, draw_end, draw_fault}
 
 -- ---- draw by draw
 
-pub looked-pay : (limit : Limit) (f : Found) (n : ℕ) (t : Trace) → looked limit f (pay n t) ≡ looked limit f t
-looked-pay limit f zero t = refl
-looked-pay limit f (suc n) t = looked-pay limit f n t
+pub looked-after_visits : (limit : Limit) (f : Found) (n : ℕ) (t : Trace) → looked limit f (after_visits n t) ≡ looked limit f t
+looked-after_visits limit f zero t = refl
+looked-after_visits limit f (suc n) t = looked-after_visits limit f n t
 
-pub cost-pay : (limit : Limit) (f : Found) (n : ℕ) (t : Trace) → look_cost limit f (pay n t) ≡ n + look_cost limit f t
-cost-pay limit f zero t = omega arith
-cost-pay limit f (suc n) t = omega (arith, cost-pay limit f n t)
+pub cost-after_visits : (limit : Limit) (f : Found) (n : ℕ) (t : Trace) → look_cost limit f (after_visits n t) ≡ n + look_cost limit f t
+cost-after_visits limit f zero t = omega arith
+cost-after_visits limit f (suc n) t = omega (arith, cost-after_visits limit f n t)
 
 -- what was found so far, and what is left to find
 pub record Looking (limit : Limit) (all : Trace) (f : Found) (left : Trace) (a b : ℕ) : Type 0 where
@@ -44,11 +44,11 @@ looking_on limit all t t' f g x a b c k d eg e =
     let shape = draw_item t t' x b c d in
     let less : is_enough limit (more f x) ≡ false = ap (is_enough limit) (sym eg) ∙ e in
     let now : looked limit f t ≡ looked limit g t' =
-    ap (looked limit f) shape ∙ looked-pay limit f (fore t) (give x t') ∙ ap (λ q. cond q (record { found = more f x; fault = None }) (looked limit (more f x) t')) less
+    ap (looked limit f) shape ∙ looked-after_visits limit f (visits_to_first t) (give x t') ∙ ap (λ q. cond q (record { found = more f x; fault = None }) (looked limit (more f x) t')) less
     ∙ ap (λ h. looked limit h t') (sym eg) in
-    let cost : look_cost limit f t ≡ fore t + look_cost limit g t' =
-    ap (look_cost limit f) shape ∙ cost-pay limit f (fore t) (give x t') ∙ ap (λ q. fore t + cond q 0 (look_cost limit (more f x) t')) less
-    ∙ ap (λ h. fore t + look_cost limit h t') (sym eg) in
+    let cost : look_cost limit f t ≡ visits_to_first t + look_cost limit g t' =
+    ap (look_cost limit f) shape ∙ cost-after_visits limit f (visits_to_first t) (give x t') ∙ ap (λ q. visits_to_first t + cond q 0 (look_cost limit (more f x) t')) less
+    ∙ ap (λ h. visits_to_first t + look_cost limit h t') (sym eg) in
     record { same = sym now ∙ k.same; costs = omega (arith, cost, d.costs, k.costs) }
 
 pub looking_enough : (limit : Limit) (all t t' : Trace) (f g : Found) (x : ItemValue) (a b c : ℕ)
@@ -57,24 +57,24 @@ looking_enough limit all t t' f g x a b c k d eg e =
     let shape = draw_item t t' x b c d in
     let full : is_enough limit (more f x) ≡ true = ap (is_enough limit) (sym eg) ∙ e in
     let now : looked limit f t ≡ record { found = g; fault = None } =
-    ap (looked limit f) shape ∙ looked-pay limit f (fore t) (give x t') ∙ ap (λ q. cond q (record { found = more f x; fault = None }) (looked limit (more f x) t')) full
+    ap (looked limit f) shape ∙ looked-after_visits limit f (visits_to_first t) (give x t') ∙ ap (λ q. cond q (record { found = more f x; fault = None }) (looked limit (more f x) t')) full
     ∙ ap (λ h. record { found = h; fault = None }) (sym eg) in
-    let cost : look_cost limit f t ≡ fore t + 0 =
-    ap (look_cost limit f) shape ∙ cost-pay limit f (fore t) (give x t') ∙ ap (λ q. fore t + cond q 0 (look_cost limit (more f x) t')) full in
+    let cost : look_cost limit f t ≡ visits_to_first t + 0 =
+    ap (look_cost limit f) shape ∙ cost-after_visits limit f (visits_to_first t) (give x t') ∙ ap (λ q. visits_to_first t + cond q 0 (look_cost limit (more f x) t')) full in
     record { finds = sym now ∙ k.same; costs = omega (arith, cost, d.costs, k.costs) }
 
 pub looking_end : (limit : Limit) (all t t' : Trace) (f : Found) (a b c : ℕ) → Looking limit all f t a b → Draws t ends t' b c → Finds limit all (record { found = f; fault = None }) a c
 looking_end limit all t t' f a b c k d =
     let shape = draw_end t t' b c d in
-    let now : looked limit f t ≡ record { found = f; fault = None } = ap (looked limit f) shape ∙ looked-pay limit f (fore t) stop in
-    let cost : look_cost limit f t ≡ fore t + 0 = ap (look_cost limit f) shape ∙ cost-pay limit f (fore t) stop in
+    let now : looked limit f t ≡ record { found = f; fault = None } = ap (looked limit f) shape ∙ looked-after_visits limit f (visits_to_first t) stop in
+    let cost : look_cost limit f t ≡ visits_to_first t + 0 = ap (look_cost limit f) shape ∙ cost-after_visits limit f (visits_to_first t) stop in
     record { finds = sym now ∙ k.same; costs = omega (arith, cost, d.costs, k.costs) }
 
 pub looking_fault : (limit : Limit) (all t t' : Trace) (f : Found) (s : State) (a b c : ℕ) → Looking limit all f t a b → Draws t (faults s) t' b c → Finds limit all (record { found = f; fault = Some s }) a c
 looking_fault limit all t t' f s a b c k d =
     let shape = draw_fault t t' s b c d in
-    let now : looked limit f t ≡ record { found = f; fault = Some s } = ap (looked limit f) shape ∙ looked-pay limit f (fore t) (fail s) in
-    let cost : look_cost limit f t ≡ fore t + 0 = ap (look_cost limit f) shape ∙ cost-pay limit f (fore t) (fail s) in
+    let now : looked limit f t ≡ record { found = f; fault = Some s } = ap (looked limit f) shape ∙ looked-after_visits limit f (visits_to_first t) (fail s) in
+    let cost : look_cost limit f t ≡ visits_to_first t + 0 = ap (look_cost limit f) shape ∙ cost-after_visits limit f (visits_to_first t) (fail s) in
     record { finds = sym now ∙ k.same; costs = omega (arith, cost, d.costs, k.costs) }
 
 -- ---- to the end

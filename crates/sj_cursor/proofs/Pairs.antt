@@ -5,7 +5,7 @@ use Rattle.std.proofs.lemmas.Bool.Decides.{nat_tests}
 use Rattle.sj_base.specs.Outside.{raised}
 use Rattle.sj_base.specs.declared.state.State.{State}
 use Rattle.sj_item.specs.Items.{ItemValue, gives, ends, faults}
-use Rattle.sj_step.specs.Trace.{Trace, stop, fail, give, pay, count, fore}
+use Rattle.sj_step.specs.Trace.{Trace, stop, fail, give, after_visits, count, visits_to_first}
 use Rattle.sj_cursor.specs.Verdicts.{is_unknown, has_item}
 use Rattle.sj_cursor.specs.Comparisons.{PairTruth, is_true}
 use Rattle.sj_cursor.specs.Rows.{ItemTruth, row_true, row_doubt, row_cost, rows_true, rows_doubt, rows_cost}
@@ -53,17 +53,17 @@ no_halt e a b P h k = absurd (cc)
 
 -- ---- one row
 
-row_true-pay : (p : ItemTruth) (n : ℕ) (t : Trace) → row_true p (pay n t) ≡ row_true p t
-row_true-pay p zero t = refl
-row_true-pay p (suc n) t = row_true-pay p n t
+row_true-after_visits : (p : ItemTruth) (n : ℕ) (t : Trace) → row_true p (after_visits n t) ≡ row_true p t
+row_true-after_visits p zero t = refl
+row_true-after_visits p (suc n) t = row_true-after_visits p n t
 
-row_doubt-pay : (p : ItemTruth) (n : ℕ) (t : Trace) → row_doubt p (pay n t) ≡ row_doubt p t
-row_doubt-pay p zero t = refl
-row_doubt-pay p (suc n) t = row_doubt-pay p n t
+row_doubt-after_visits : (p : ItemTruth) (n : ℕ) (t : Trace) → row_doubt p (after_visits n t) ≡ row_doubt p t
+row_doubt-after_visits p zero t = refl
+row_doubt-after_visits p (suc n) t = row_doubt-after_visits p n t
 
-row_cost-pay : (e : Bool) (p : ItemTruth) (n : ℕ) (t : Trace) → row_cost e p (pay n t) ≡ n + row_cost e p t
-row_cost-pay e p zero t = omega arith
-row_cost-pay e p (suc n) t = omega (arith, row_cost-pay e p n t)
+row_cost-after_visits : (e : Bool) (p : ItemTruth) (n : ℕ) (t : Trace) → row_cost e p (after_visits n t) ≡ n + row_cost e p t
+row_cost-after_visits e p zero t = omega arith
+row_cost-after_visits e p (suc n) t = omega (arith, row_cost-after_visits e p n t)
 
 -- seen so far, and left to see
 pub record RowLeft (e : Bool) (p : ItemTruth) (all left : Trace) (found doubt : Bool) (a b : ℕ) : Type 0 where
@@ -84,10 +84,10 @@ pub row_item : (e : Bool) (p : ItemTruth) (all t t' : Trace) (y : ItemValue) (f 
 row_item e p all t t' y f d f' d' a b c k w ef ed q =
     let shape = draw_item t t' y b c w in
     let quiet : e && (f || is_true (p y)) ≡ false = ap (λ z. e && z) (sym ef) ∙ q in
-    let found : row_true p t ≡ is_true (p y) || row_true p t' = ap (row_true p) shape ∙ row_true-pay p (fore t) (give y t') in
-    let doubt : row_doubt p t ≡ is_unknown (p y) || row_doubt p t' = ap (row_doubt p) shape ∙ row_doubt-pay p (fore t) (give y t') in
-    let cost : row_cost e p t ≡ fore t + row_cost e p t' =
-    ap (row_cost e p) shape ∙ row_cost-pay e p (fore t) (give y t') ∙ ap (λ z. fore t + cond z 0 (row_cost e p t')) (quiet_later e f (is_true (p y)) quiet) in
+    let found : row_true p t ≡ is_true (p y) || row_true p t' = ap (row_true p) shape ∙ row_true-after_visits p (visits_to_first t) (give y t') in
+    let doubt : row_doubt p t ≡ is_unknown (p y) || row_doubt p t' = ap (row_doubt p) shape ∙ row_doubt-after_visits p (visits_to_first t) (give y t') in
+    let cost : row_cost e p t ≡ visits_to_first t + row_cost e p t' =
+    ap (row_cost e p) shape ∙ row_cost-after_visits e p (visits_to_first t) (give y t') ∙ ap (λ z. visits_to_first t + cond z 0 (row_cost e p t')) (quiet_later e f (is_true (p y)) quiet) in
     record {
       finds = ap (λ z. z || row_true p t') ef ∙ or_assoc f (is_true (p y)) (row_true p t') ∙ ap (λ z. f || z) (sym found) ∙ k.finds;
       doubts = ap (λ z. z || row_doubt p t') ed ∙ or_assoc d (is_unknown (p y)) (row_doubt p t') ∙ ap (λ z. d || z) (sym doubt) ∙ k.doubts;
@@ -100,9 +100,9 @@ pub row_stop : (e : Bool) (p : ItemTruth) (all t t' : Trace) (y : ItemValue) (f 
 row_stop e p all t t' y f d f' d' a b c k w ef h =
     let shape = draw_item t t' y b c w in
     let halts : e && (f || is_true (p y)) ≡ true = ap (λ z. e && z) (sym ef) ∙ h in
-    let found : row_true p t ≡ is_true (p y) || row_true p t' = ap (row_true p) shape ∙ row_true-pay p (fore t) (give y t') in
-    let cost : row_cost e p t ≡ fore t + 0 =
-    ap (row_cost e p) shape ∙ row_cost-pay e p (fore t) (give y t') ∙ ap (λ z. fore t + cond z 0 (row_cost e p t')) (halts_later e f (is_true (p y)) k.quiet halts) in
+    let found : row_true p t ≡ is_true (p y) || row_true p t' = ap (row_true p) shape ∙ row_true-after_visits p (visits_to_first t) (give y t') in
+    let cost : row_cost e p t ≡ visits_to_first t + 0 =
+    ap (row_cost e p) shape ∙ row_cost-after_visits e p (visits_to_first t) (give y t') ∙ ap (λ z. visits_to_first t + cond z 0 (row_cost e p t')) (halts_later e f (is_true (p y)) k.quiet halts) in
     let is : f || is_true (p y) ≡ true = halt_is e f (is_true (p y)) halts in
     record {
       finds = ef ∙ is ∙ sym (sym k.finds ∙ ap (λ z. f || z) found ∙ true_then f (is_true (p y)) (row_true p t') is);
@@ -113,9 +113,9 @@ row_stop e p all t t' y f d f' d' a b c k w ef h =
 pub row_end : (e : Bool) (p : ItemTruth) (all t t' : Trace) (f d : Bool) (a b c : ℕ) → RowLeft e p all t f d a b → Draws t ends t' b c → RowSeen e p all f d a c
 row_end e p all t t' f d a b c k w =
     let shape = draw_end t t' b c w in
-    let found : row_true p t ≡ false = ap (row_true p) shape ∙ row_true-pay p (fore t) stop in
-    let doubt : row_doubt p t ≡ false = ap (row_doubt p) shape ∙ row_doubt-pay p (fore t) stop in
-    let cost : row_cost e p t ≡ fore t + 0 = ap (row_cost e p) shape ∙ row_cost-pay e p (fore t) stop in
+    let found : row_true p t ≡ false = ap (row_true p) shape ∙ row_true-after_visits p (visits_to_first t) stop in
+    let doubt : row_doubt p t ≡ false = ap (row_doubt p) shape ∙ row_doubt-after_visits p (visits_to_first t) stop in
+    let cost : row_cost e p t ≡ visits_to_first t + 0 = ap (row_cost e p) shape ∙ row_cost-after_visits e p (visits_to_first t) stop in
     record {
       finds = sym (or_false f) ∙ ap (λ z. f || z) (sym found) ∙ k.finds;
       doubts = λ q. sym (or_false d) ∙ ap (λ z. d || z) (sym doubt) ∙ k.doubts;
@@ -125,9 +125,9 @@ row_end e p all t t' f d a b c k w =
 pub row_fault : (e : Bool) (p : ItemTruth) (all t t' : Trace) (s : State) (f d : Bool) (a b c : ℕ) → RowLeft e p all t f d a b → Draws t (faults s) t' b c → RowSeen e p all f true a c
 row_fault e p all t t' s f d a b c k w =
     let shape = draw_fault t t' s b c w in
-    let found : row_true p t ≡ false = ap (row_true p) shape ∙ row_true-pay p (fore t) (fail s) in
-    let doubt : row_doubt p t ≡ true = ap (row_doubt p) shape ∙ row_doubt-pay p (fore t) (fail s) in
-    let cost : row_cost e p t ≡ fore t + 0 = ap (row_cost e p) shape ∙ row_cost-pay e p (fore t) (fail s) in
+    let found : row_true p t ≡ false = ap (row_true p) shape ∙ row_true-after_visits p (visits_to_first t) (fail s) in
+    let doubt : row_doubt p t ≡ true = ap (row_doubt p) shape ∙ row_doubt-after_visits p (visits_to_first t) (fail s) in
+    let cost : row_cost e p t ≡ visits_to_first t + 0 = ap (row_cost e p) shape ∙ row_cost-after_visits e p (visits_to_first t) (fail s) in
     record {
       finds = sym (or_false f) ∙ ap (λ z. f || z) (sym found) ∙ k.finds;
       doubts = λ q. sym (or_true d) ∙ ap (λ z. d || z) (sym doubt) ∙ k.doubts;
@@ -136,21 +136,21 @@ row_fault e p all t t' s f d a b c k w =
 
 -- ---- all rows
 
-rows_true-pay : (p : PairTruth) (n : ℕ) (t r : Trace) → rows_true p (pay n t) r ≡ rows_true p t r
-rows_true-pay p zero t r = refl
-rows_true-pay p (suc n) t r = rows_true-pay p n t r
+rows_true-after_visits : (p : PairTruth) (n : ℕ) (t r : Trace) → rows_true p (after_visits n t) r ≡ rows_true p t r
+rows_true-after_visits p zero t r = refl
+rows_true-after_visits p (suc n) t r = rows_true-after_visits p n t r
 
-rows_doubt-pay : (p : PairTruth) (n : ℕ) (t r : Trace) → rows_doubt p (pay n t) r ≡ rows_doubt p t r
-rows_doubt-pay p zero t r = refl
-rows_doubt-pay p (suc n) t r = rows_doubt-pay p n t r
+rows_doubt-after_visits : (p : PairTruth) (n : ℕ) (t r : Trace) → rows_doubt p (after_visits n t) r ≡ rows_doubt p t r
+rows_doubt-after_visits p zero t r = refl
+rows_doubt-after_visits p (suc n) t r = rows_doubt-after_visits p n t r
 
-rows_cost-pay : (e : Bool) (p : PairTruth) (n : ℕ) (t r : Trace) → rows_cost e p (pay n t) r ≡ n + rows_cost e p t r
-rows_cost-pay e p zero t r = omega arith
-rows_cost-pay e p (suc n) t r = omega (arith, rows_cost-pay e p n t r)
+rows_cost-after_visits : (e : Bool) (p : PairTruth) (n : ℕ) (t r : Trace) → rows_cost e p (after_visits n t) r ≡ n + rows_cost e p t r
+rows_cost-after_visits e p zero t r = omega arith
+rows_cost-after_visits e p (suc n) t r = omega (arith, rows_cost-after_visits e p n t r)
 
-has_item-pay : (n : ℕ) (t : Trace) → has_item (pay n t) ≡ has_item t
-has_item-pay zero t = refl
-has_item-pay (suc n) t = has_item-pay n t
+has_item-after_visits : (n : ℕ) (t : Trace) → has_item (after_visits n t) ≡ has_item t
+has_item-after_visits zero t = refl
+has_item-after_visits (suc n) t = has_item-after_visits n t
 
 some_count : (n : ℕ) → nat_lt 0 (suc n) ≡ true
 some_count n = grind (arith, nat_tests)
@@ -177,11 +177,11 @@ rows_item e p all t t' r x f d o f' d' rf rd a b c g k w s ef ed q =
     let quiet : e && (f || rf) ≡ false = ap (λ z. e && z) (sym ef) ∙ q in
     let later : e && rf ≡ false = quiet_later e f rf quiet in
     let row : e && row_true (p x) r ≡ false = ap (λ z. e && z) (sym s.finds) ∙ later in
-    let found : rows_true p t r ≡ rf || rows_true p t' r = ap (λ u. rows_true p u r) shape ∙ rows_true-pay p (fore t) (give x t') r ∙ ap (λ z. z || rows_true p t' r) (sym s.finds) in
-    let doubt : rows_doubt p t r ≡ rd || rows_doubt p t' r = ap (λ u. rows_doubt p u r) shape ∙ rows_doubt-pay p (fore t) (give x t') r ∙ ap (λ z. z || rows_doubt p t' r) (sym (s.doubts later)) in
-    let cost : rows_cost e p t r ≡ fore t + (row_cost e (p x) r + rows_cost e p t' r) =
-    ap (λ u. rows_cost e p u r) shape ∙ rows_cost-pay e p (fore t) (give x t') r ∙ ap (λ z. fore t + (row_cost e (p x) r + cond z 0 (rows_cost e p t' r))) row in
-    let some : has_item t ≡ true = ap has_item shape ∙ has_item-pay (fore t) (give x t') ∙ some_count (count t') in
+    let found : rows_true p t r ≡ rf || rows_true p t' r = ap (λ u. rows_true p u r) shape ∙ rows_true-after_visits p (visits_to_first t) (give x t') r ∙ ap (λ z. z || rows_true p t' r) (sym s.finds) in
+    let doubt : rows_doubt p t r ≡ rd || rows_doubt p t' r = ap (λ u. rows_doubt p u r) shape ∙ rows_doubt-after_visits p (visits_to_first t) (give x t') r ∙ ap (λ z. z || rows_doubt p t' r) (sym (s.doubts later)) in
+    let cost : rows_cost e p t r ≡ visits_to_first t + (row_cost e (p x) r + rows_cost e p t' r) =
+    ap (λ u. rows_cost e p u r) shape ∙ rows_cost-after_visits e p (visits_to_first t) (give x t') r ∙ ap (λ z. visits_to_first t + (row_cost e (p x) r + cond z 0 (rows_cost e p t' r))) row in
+    let some : has_item t ≡ true = ap has_item shape ∙ has_item-after_visits (visits_to_first t) (give x t') ∙ some_count (count t') in
     record {
       finds = ap (λ z. z || rows_true p t' r) ef ∙ or_assoc f rf (rows_true p t' r) ∙ ap (λ z. f || z) (sym found) ∙ k.finds;
       doubts = ap (λ z. z || rows_doubt p t' r) ed ∙ or_assoc d rd (rows_doubt p t' r) ∙ ap (λ z. d || z) (sym doubt) ∙ k.doubts;
@@ -197,9 +197,9 @@ rows_stop e p all t t' r x f d o f' d' o' rf rd a b c g k w s ef h =
     let shape = draw_item t t' x b c w in
     let halts : e && (f || rf) ≡ true = ap (λ z. e && z) (sym ef) ∙ h in
     let row : e && row_true (p x) r ≡ true = ap (λ z. e && z) (sym s.finds) ∙ halts_later e f rf k.quiet halts in
-    let found : rows_true p t r ≡ rf || rows_true p t' r = ap (λ u. rows_true p u r) shape ∙ rows_true-pay p (fore t) (give x t') r ∙ ap (λ z. z || rows_true p t' r) (sym s.finds) in
-    let cost : rows_cost e p t r ≡ fore t + (row_cost e (p x) r + 0) =
-    ap (λ u. rows_cost e p u r) shape ∙ rows_cost-pay e p (fore t) (give x t') r ∙ ap (λ z. fore t + (row_cost e (p x) r + cond z 0 (rows_cost e p t' r))) row in
+    let found : rows_true p t r ≡ rf || rows_true p t' r = ap (λ u. rows_true p u r) shape ∙ rows_true-after_visits p (visits_to_first t) (give x t') r ∙ ap (λ z. z || rows_true p t' r) (sym s.finds) in
+    let cost : rows_cost e p t r ≡ visits_to_first t + (row_cost e (p x) r + 0) =
+    ap (λ u. rows_cost e p u r) shape ∙ rows_cost-after_visits e p (visits_to_first t) (give x t') r ∙ ap (λ z. visits_to_first t + (row_cost e (p x) r + cond z 0 (rows_cost e p t' r))) row in
     let is : f || rf ≡ true = halt_is e f rf halts in
     record {
       finds = ef ∙ is ∙ sym (sym k.finds ∙ ap (λ z. f || z) found ∙ true_then f rf (rows_true p t' r) is);
@@ -211,10 +211,10 @@ rows_stop e p all t t' r x f d o f' d' o' rf rd a b c g k w s ef h =
 pub rows_end : (e : Bool) (p : PairTruth) (all t t' r : Trace) (f d o : Bool) (a b c : ℕ) → RowsLeft e p all t r f d o a b → Draws t ends t' b c → RowsSeen e p all r f d o a c
 rows_end e p all t t' r f d o a b c k w =
     let shape = draw_end t t' b c w in
-    let found : rows_true p t r ≡ false = ap (λ u. rows_true p u r) shape ∙ rows_true-pay p (fore t) stop r in
-    let doubt : rows_doubt p t r ≡ false = ap (λ u. rows_doubt p u r) shape ∙ rows_doubt-pay p (fore t) stop r in
-    let some : has_item t ≡ false = ap has_item shape ∙ has_item-pay (fore t) stop in
-    let cost : rows_cost e p t r ≡ fore t + 0 = ap (λ u. rows_cost e p u r) shape ∙ rows_cost-pay e p (fore t) stop r in
+    let found : rows_true p t r ≡ false = ap (λ u. rows_true p u r) shape ∙ rows_true-after_visits p (visits_to_first t) stop r in
+    let doubt : rows_doubt p t r ≡ false = ap (λ u. rows_doubt p u r) shape ∙ rows_doubt-after_visits p (visits_to_first t) stop r in
+    let some : has_item t ≡ false = ap has_item shape ∙ has_item-after_visits (visits_to_first t) stop in
+    let cost : rows_cost e p t r ≡ visits_to_first t + 0 = ap (λ u. rows_cost e p u r) shape ∙ rows_cost-after_visits e p (visits_to_first t) stop r in
     record {
       finds = sym (or_false f) ∙ ap (λ z. f || z) (sym found) ∙ k.finds;
       doubts = λ q. sym (or_false d) ∙ ap (λ z. d || z) (sym doubt) ∙ k.doubts;
@@ -225,10 +225,10 @@ rows_end e p all t t' r f d o a b c k w =
 pub rows_fault : (e : Bool) (p : PairTruth) (all t t' r : Trace) (s : State) (f d o : Bool) (a b c : ℕ) → RowsLeft e p all t r f d o a b → Draws t (faults s) t' b c → RowsSeen e p all r f true o a c
 rows_fault e p all t t' r s f d o a b c k w =
     let shape = draw_fault t t' s b c w in
-    let found : rows_true p t r ≡ false = ap (λ u. rows_true p u r) shape ∙ rows_true-pay p (fore t) (fail s) r in
-    let doubt : rows_doubt p t r ≡ true = ap (λ u. rows_doubt p u r) shape ∙ rows_doubt-pay p (fore t) (fail s) r in
-    let some : has_item t ≡ false = ap has_item shape ∙ has_item-pay (fore t) (fail s) in
-    let cost : rows_cost e p t r ≡ fore t + 0 = ap (λ u. rows_cost e p u r) shape ∙ rows_cost-pay e p (fore t) (fail s) r in
+    let found : rows_true p t r ≡ false = ap (λ u. rows_true p u r) shape ∙ rows_true-after_visits p (visits_to_first t) (fail s) r in
+    let doubt : rows_doubt p t r ≡ true = ap (λ u. rows_doubt p u r) shape ∙ rows_doubt-after_visits p (visits_to_first t) (fail s) r in
+    let some : has_item t ≡ false = ap has_item shape ∙ has_item-after_visits (visits_to_first t) (fail s) in
+    let cost : rows_cost e p t r ≡ visits_to_first t + 0 = ap (λ u. rows_cost e p u r) shape ∙ rows_cost-after_visits e p (visits_to_first t) (fail s) r in
     record {
       finds = sym (or_false f) ∙ ap (λ z. f || z) (sym found) ∙ k.finds;
       doubts = λ q. sym (or_true d) ∙ ap (λ z. d || z) (sym doubt) ∙ k.doubts;

@@ -7,36 +7,36 @@ use Rattle.sj_grammar.specs.declared.tree.Arith.{Arith}
 use Rattle.sj_grammar.specs.declared.tree.Mode.{Mode}
 use Rattle.sj_item.specs.Items.{ItemValue}
 use Rattle.sj_step.specs.Trace.{Trace, fail}
-use Rattle.sj_cursor.specs.Draws.{Nears}
+use Rattle.sj_cursor.specs.Draws.{Approaches}
 use Rattle.sj_cursor.specs.Single.{need, single}
 use Rattle.sj_cursor.specs.Numbers.{operand_in, subscript_in, binary_trace, element_part, range_part}
 use Rattle.sj_cursor.specs.Left.{computed, element_at, range_between}
-use Rattle.sj_cursor.proofs.Draws.{paid, nears_trans}
+use Rattle.sj_cursor.proofs.Draws.{paid, approaches_trans}
 
 pub element_goes : (mode : Mode) (t : Trace) (x : ItemValue) (r : Result ℤ State) (a b : ℕ)
-    → r ≡ subscript_in (single mode S22033 t) → b ≤ raised a (need mode 2 t) → Nears (element_part mode t x) a (element_at r mode x) b
+    → r ≡ subscript_in (single mode S22033 t) → b ≤ raised a (need mode 2 t) → Approaches (element_part mode t x) a (element_at r mode x) b
 unfolding element_part
 element_goes mode t x r a b e h = rw e (paid (need mode 2 t) _ a b h)
 
 pub range_bad : (mode : Mode) (t u : Trace) (x : ItemValue) (s : State) (a b : ℕ)
-    → Err s ≡ subscript_in (single mode S22033 t) → b ≤ raised a (need mode 2 t) → Nears (range_part mode t u x) a (fail s) b
+    → Err s ≡ subscript_in (single mode S22033 t) → b ≤ raised a (need mode 2 t) → Approaches (range_part mode t u x) a (fail s) b
 unfolding range_part
 range_bad mode t u x s a b e h = rw (← e) (paid (need mode 2 t) _ a b h)
 
 pub range_goes : (mode : Mode) (t u : Trace) (x : ItemValue) (q r : Result ℤ State) (i : ℤ) (a b c : ℕ)
     → q ≡ Ok i → q ≡ subscript_in (single mode S22033 t) → b ≤ raised a (need mode 2 t)
-    → r ≡ subscript_in (single mode S22033 u) → c ≤ raised b (need mode 2 u) → Nears (range_part mode t u x) a (range_between q r mode x) c
+    → r ≡ subscript_in (single mode S22033 u) → c ≤ raised b (need mode 2 u) → Approaches (range_part mode t u x) a (range_between q r mode x) c
 unfolding range_part
 range_goes mode t u x q r i a b c is e h f k =
-    rw (← e, f, is) (nears_trans _ _ _ _ _ _ (paid (need mode 2 t) _ a b h) (paid (need mode 2 u) _ b c k))
+    rw (← e, f, is) (approaches_trans _ _ _ _ _ _ (paid (need mode 2 t) _ a b h) (paid (need mode 2 u) _ b c k))
 
 pub binary_bad : (op : Arith) (mode : Mode) (t u : Trace) (s : State) (a b : ℕ)
-    → Err s ≡ operand_in (single mode S22038 t) → b ≤ raised a (need mode 2 t) → Nears (binary_trace op mode t u) a (fail s) b
+    → Err s ≡ operand_in (single mode S22038 t) → b ≤ raised a (need mode 2 t) → Approaches (binary_trace op mode t u) a (fail s) b
 unfolding binary_trace
 binary_bad op mode t u s a b e h = rw (← e) (paid (need mode 2 t) _ a b h)
 
 pub binary_goes : (op : Arith) (mode : Mode) (t u : Trace) (n : ℤ × ℕ) (r : Result (ℤ × ℕ) State) (a b c : ℕ)
     → Ok n ≡ operand_in (single mode S22038 t) → b ≤ raised a (need mode 2 t)
-    → r ≡ operand_in (single mode S22038 u) → c ≤ raised b (need mode 2 u) → Nears (binary_trace op mode t u) a (computed op n r) c
+    → r ≡ operand_in (single mode S22038 u) → c ≤ raised b (need mode 2 u) → Approaches (binary_trace op mode t u) a (computed op n r) c
 unfolding binary_trace
-binary_goes op mode t u n r a b c e h f k = rw (← e, f) (nears_trans _ _ _ _ _ _ (paid (need mode 2 t) _ a b h) (paid (need mode 2 u) _ b c k))
+binary_goes op mode t u n r a b c e h f k = rw (← e, f) (approaches_trans _ _ _ _ _ _ (paid (need mode 2 t) _ a b h) (paid (need mode 2 u) _ b c k))

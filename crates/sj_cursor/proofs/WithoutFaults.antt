@@ -13,13 +13,14 @@ use Rattle.sj_grammar.specs.Tree.{Path, Expr, Root, Var, Context, Last, Lit, Acc
 use Rattle.sj_item.specs.Items.{ItemValue, made_number, item_tree}
 use Rattle.sj_item.specs.declared.truth.Truth.{Truth}
 use Rattle.sj_item.specs.declared.truth.Truth.TheVariants.{True, False, Unknown}
-use Rattle.sj_step.specs.Trace.{Trace, stop, fail, visit, give, only, pay, join, each, fault_of}
+use Rattle.sj_step.specs.Trace.{Trace, stop, fail, visit, give, only, after_visits, join, each, fault_of}
 use Rattle.sj_step.specs.Reach.{ReachValue, by_key, all_members, all_elements, by_range, unwrapped, Child, child_visits, children_of, every, under_key, between, lax_range, range_of_one, on_array, on_object, on_scalar, on_kind, reach, unwrap, spread, last_on, last}
-use Rattle.sj_step.proofs.Traces.{fault-pay}
+use Rattle.sj_step.proofs.Traces.{fault-after_visits}
 use Rattle.sj_method.specs.Numbers.{operand_of, subscript_of}
 use Rattle.sj_cursor.specs.Verdicts.{Verdict, kept, filtered}
 use Rattle.sj_cursor.specs.Numbers.{with_subscript, element_part, range_part}
-use Rattle.sj_cursor.specs.Meaning.{Env, Variables, at_item, at_last, where_array, meaning, step_on, parts, part, verdict, start_env, path_trace}
+use Rattle.sj_path.specs.Vars.{Variables}
+use Rattle.sj_cursor.specs.Meaning.{Env, at_item, at_last, where_array, meaning, step_on, parts, part, verdict, start_env, path_trace}
 use Rattle.sj_cursor.specs.FaultFree.{is_fixed, sub_fault_free, subs_fault_free, step_fault_free, expr_fault_free, fault_free_in, fault_free}
 
 -- ---- traces that are put together of such as end well
@@ -36,8 +37,8 @@ each_well (fail s) g e f = cc
 each_well (visit t) g e f = each_well t g e f
 each_well (give x t) g e f = join_well (g x) (each t g) (f x) (each_well t g e f)
 
-pay_well : (n : ℕ) (t : Trace) → fault_of t ≡ None → fault_of (pay n t) ≡ None
-pay_well n t e = fault-pay n t ∙ e
+after_visits_well : (n : ℕ) (t : Trace) → fault_of t ≡ None → fault_of (after_visits n t) ≡ None
+after_visits_well n t e = fault-after_visits n t ∙ e
 
 if_well : (b : Bool) (t u : Trace) → fault_of t ≡ None → fault_of u ≡ None → fault_of (if b then t else u) ≡ None
 if_well true t u e f = e
@@ -47,16 +48,16 @@ if_well false t u e f = f
 
 every_well : (n : ℕ) (cs : List Child) → fault_of (every n cs) ≡ None
 every_well n [] = refl
-every_well n (c ∷ cs) = pay_well n (give c.1 (every n cs)) (every_well n cs)
+every_well n (c ∷ cs) = after_visits_well n (give c.1 (every n cs)) (every_well n cs)
 
 under_key_well : (n : ℕ) (key : List ℕ) (found : Bool) (cs : List Child) → fault_of (under_key n Lax key found cs) ≡ None
 under_key_well n key found [] = refl
 under_key_well n key found (c ∷ cs) =
-    pay_well n (if is_key key c.0 then give c.1 (under_key n Lax key true cs) else under_key n Lax key found cs)
+    after_visits_well n (if is_key key c.0 then give c.1 (under_key n Lax key true cs) else under_key n Lax key found cs)
     (if_well (is_key key c.0) (give c.1 (under_key n Lax key true cs)) (under_key n Lax key found cs) (under_key_well n key true cs) (under_key_well n key found cs))
 
 between_well : (i j : ℕ) (cs : List Child) → fault_of (between i j cs) ≡ None
-between_well i j cs = pay_well i (every 1 (slice_range cs i j)) (every_well 1 (slice_range cs i j))
+between_well i j cs = after_visits_well i (every 1 (slice_range cs i j)) (every_well 1 (slice_range cs i j))
 
 range_well : (a b : ℤ) (cs : List Child) → fault_of (lax_range a b cs) ≡ None
 range_well a b cs =
@@ -165,7 +166,7 @@ kept_well Unknown x = refl
 
 filtered_well : (v : Verdict) (x : ItemValue) → fault_of (filtered v x) ≡ None
 unfolding filtered
-filtered_well v x = pay_well v.allow (kept v.truth x) (kept_well v.truth x)
+filtered_well v x = after_visits_well v.allow (kept v.truth x) (kept_well v.truth x)
 
 step_well : (s : Step) (t : Trace) (env : Env) → env.mode ≡ Lax → step_fault_free s ≡ true → fault_of t ≡ None → fault_of (step_on s t env) ≡ None
 step_well (Member key) t env m h e = each_well (spread env.mode t) (reach (by_key key) env.mode) (spread_well env.mode t m e) (λ x. reach_well (by_key key) env.mode x m)

@@ -24,10 +24,10 @@ use Rattle.sj_cursor.specs.declared.cells.Source.TheVariants as sources
 use Rattle.sj_cursor.specs.declared.cells.One.{One as OneCell}
 use Rattle.sj_cursor.specs.declared.cells.Opening.{Opening}
 use Rattle.sj_cursor.specs.declared.cells.Opening.TheVariants.{AsItIs, Unwrapped}
-use Rattle.sj_cursor.specs.declared.cells.Act.{Act}
-use Rattle.sj_cursor.specs.declared.cells.Act.TheVariants as acts
-use Rattle.sj_cursor.specs.declared.cells.Acted.{Acted}
-use Rattle.sj_cursor.specs.declared.cells.Acted.TheVariants as acteds
+use Rattle.sj_cursor.specs.declared.cells.Simple.{Simple}
+use Rattle.sj_cursor.specs.declared.cells.Simple.TheVariants as simples
+use Rattle.sj_cursor.specs.declared.cells.Results.{Results}
+use Rattle.sj_cursor.specs.declared.cells.Results.TheVariants as all_results
 
 -- where an expression is evaluated
 abbrev pub env_value : EnvHeld → Env
@@ -72,33 +72,33 @@ abbrev pub opened : Opening → Mode → ItemValue → Trace
 opened AsItIs mode x = only x
 opened Unwrapped mode x = unwrap mode x
 
-abbrev pub acted : Act → Mode → ItemValue → Trace
-acted (acts.Member key) mode x = reach (by_key key.now) mode x
-acted acts.AllMembers mode x = reach all_members mode x
-acted acts.AllElements mode x = reach all_elements mode x
-acted acts.Plus mode x = sign_of false x
-acted acts.Minus mode x = sign_of true x
-acted (acts.Method m) mode x = method_of m x
+abbrev pub results : Simple → Mode → ItemValue → Trace
+results (simples.Member key) mode x = reach (by_key key.now) mode x
+results simples.AllMembers mode x = reach all_members mode x
+results simples.AllElements mode x = reach all_elements mode x
+results simples.Plus mode x = sign_of false x
+results simples.Minus mode x = sign_of true x
+results (simples.Method m) mode x = method_of m x
 
 abbrev pub method_opening : Method → Opening
 method_opening m = if takes_arrays m then AsItIs else Unwrapped
 
-abbrev pub act_opening : Act → Opening
-act_opening (acts.Member key) = Unwrapped
-act_opening acts.AllMembers = Unwrapped
-act_opening acts.AllElements = AsItIs
-act_opening acts.Plus = Unwrapped
-act_opening acts.Minus = Unwrapped
-act_opening (acts.Method m) = method_opening m
+abbrev pub simple_opening : Simple → Opening
+simple_opening (simples.Member key) = Unwrapped
+simple_opening simples.AllMembers = Unwrapped
+simple_opening simples.AllElements = AsItIs
+simple_opening simples.Plus = Unwrapped
+simple_opening simples.Minus = Unwrapped
+simple_opening (simples.Method m) = method_opening m
 
-abbrev pub act_on : Act → t.Expr → t.Expr
-act_on (acts.Member key) e = t.Access e (t.Member key.now)
-act_on acts.AllMembers e = t.Access e t.AllMembers
-act_on acts.AllElements e = t.Access e t.AllElements
-act_on acts.Plus e = t.Plus e
-act_on acts.Minus e = t.Minus e
-act_on (acts.Method m) e = t.Access e (t.Call m)
+abbrev pub simple_on : Simple → t.Expr → t.Expr
+simple_on (simples.Member key) e = t.Access e (t.Member key.now)
+simple_on simples.AllMembers e = t.Access e t.AllMembers
+simple_on simples.AllElements e = t.Access e t.AllElements
+simple_on simples.Plus e = t.Plus e
+simple_on simples.Minus e = t.Minus e
+simple_on (simples.Method m) e = t.Access e (t.Call m)
 
-abbrev pub acted_left : Acted → Trace
-acted_left (acteds.Walk w) = walk_left w
-acted_left (acteds.Pairs w) = pairs_left w
+abbrev pub results_left : Results → Trace
+results_left (all_results.Walk w) = walk_left w
+results_left (all_results.Pairs w) = pairs_left w

@@ -1,7 +1,7 @@
 -- Plain paths: the root and, behind it, accessors of members. Private clauses alone cite this; it is proved to be what `Meaning` says.
 use Rattle.std.specs.Prelude.{◌≡◌, ◌≤◌, ℕ, Bool, List, [], ◌∷◌, map, Option, None, if◌then◌else◌}
 use Rattle.sj_base.specs.Outside.{raised}
-use Rattle.sj_json.specs.Tree.{Tree}
+use Rattle.sj_json.specs.Tree.{Tree, NumberedChild}
 use Rattle.sj_doc.specs.Listed.{node_id, node_tree}
 use Rattle.sj_doc.specs.Slots.{texts}
 use Rattle.sj_doc.specs.declared.doc.NodeRef.{NodeRef}
@@ -32,7 +32,7 @@ abbrev pub under : List ℕ → List (List ℕ) → ItemValue → Trace
 under key keys x = each (reach (by_key key) Lax x) (below keys)
 
 -- the same of the elements of an array, each as its key, its number and its tree
-abbrev pub over : List ℕ → List (List ℕ) → List (Option (List ℕ) × ℕ × Tree) → Trace
+abbrev pub over : List ℕ → List (List ℕ) → List NumberedChild → Trace
 over key keys elements = each (every 1 (map child_item elements)) (under key keys)
 
 -- the keys of a plain path

@@ -19,16 +19,16 @@ use Rattle.sj_step.specs.declared.answer.Answer.TheVariants as answers
 use Rattle.sj_method.specs.Numbers.{binary_of}
 use Rattle.sj_cursor.specs.Numbers.{followed}
 use Rattle.sj_cursor.specs.Verdicts.{filtered, is_unknown}
-use Rattle.sj_cursor.specs.Cells.{source_expr, one_left, opened, acted, act_opening, act_on, acted_left}
-use Rattle.sj_cursor.specs.declared.cells.Act.{Act}
+use Rattle.sj_cursor.specs.Cells.{source_expr, one_left, opened, results, simple_opening, simple_on, results_left}
+use Rattle.sj_cursor.specs.declared.cells.Simple.{Simple}
 use Rattle.sj_cursor.specs.declared.cells.Opening.{Opening}
 use Rattle.sj_cursor.specs.declared.cells.Opening.TheVariants.{AsItIs, Unwrapped}
 use Rattle.sj_cursor.specs.declared.cells.Cell.{Cell}
 use Rattle.sj_cursor.specs.declared.cells.Cell.TheVariants as cells
 use Rattle.sj_cursor.specs.declared.cells.Operand.{Operand}
 use Rattle.sj_cursor.specs.declared.cells.Each.{Each}
-use Rattle.sj_cursor.specs.declared.cells.Deed.{Deed}
-use Rattle.sj_cursor.specs.declared.cells.Deed.TheVariants as deeds
+use Rattle.sj_cursor.specs.declared.cells.Operator.{Operator}
+use Rattle.sj_cursor.specs.declared.cells.Operator.TheVariants as operators
 use Rattle.sj_cursor.specs.declared.cells.Filter.{Filter}
 use Rattle.sj_cursor.specs.declared.cells.Elements.{Elements}
 use Rattle.sj_cursor.specs.declared.cells.At.{At}
@@ -52,24 +52,24 @@ use Rattle.sj_cursor.specs.declared.cells.Start.{Start}
 -- ---- what is done with an item, without where it stands
 
 pub data Doing : Type 0 where
-  Acts : Act → Doing
+  Acts : Simple → Doing
   Keeps : t.Pred → Doing
   Picks : t.Subs → Doing
 
 -- the expression of it on another
 abbrev pub doing_on : Doing → t.Expr → t.Expr
-doing_on (Acts a) e = act_on a e
+doing_on (Acts a) e = simple_on a e
 doing_on (Keeps p) e = t.Access e (t.Filter p)
 doing_on (Picks s) e = t.Access e (t.Elements s)
 
 abbrev pub doing_opening : Doing → Opening
-doing_opening (Acts a) = act_opening a
+doing_opening (Acts a) = simple_opening a
 doing_opening (Keeps p) = Unwrapped
 doing_opening (Picks s) = AsItIs
 
 -- what it gives of one item
 abbrev pub done : Doing → Env → ItemValue → Trace
-done (Acts a) env x = acted a env.mode x
+done (Acts a) env x = results a env.mode x
 done (Keeps p) env x = filtered (verdict p (at_item env x)) x
 done (Picks s) env x = where_array (last env.mode x) (λ n. parts s (at_last env n) x)
 
@@ -83,13 +83,13 @@ doing_nodes (Picks s) = subs_nodes s
 abbrev mutual
   pub core : Cell → t.Expr
   core (cells.One o) = source_expr o.source
-  core (cells.Each' p input walk deed) = doing_on (doing deed) (core input)
+  core (cells.Each' p input walk operator) = doing_on (doing operator) (core input)
   core (cells.Binary' op p a v q b w reached) = t.Binary op (core a) (core b)
 
-  pub doing : Deed → Doing
-  doing (deeds.Act a) = Acts a.act
-  doing (deeds.Filter' p test) = Keeps (test_core test)
-  doing (deeds.Elements' p subs at) = Picks (parts_core subs)
+  pub doing : Operator → Doing
+  doing (operators.Simple a) = Acts a.simple
+  doing (operators.Filter' p test) = Keeps (test_core test)
+  doing (operators.Elements' p subs at) = Picks (parts_core subs)
 
   pub parts_core : Parts → t.Subs
   parts_core (parts_.Only' bounds reached) = t.Only (bounds_core bounds)
@@ -112,7 +112,7 @@ abbrev pub operand_core : Operand → t.Expr
 operand_core o = core o.cell.value
 
 abbrev pub each_core : Each → t.Expr
-each_core e = doing_on (doing e.deed) (operand_core e.input)
+each_core e = doing_on (doing e.operator) (operand_core e.input)
 
 abbrev pub binary_core : Binary → t.Expr
 binary_core b = t.Binary b.op (operand_core b.left) (operand_core b.right)
@@ -171,22 +171,22 @@ at_left (ats.On spot) subs env = parts_left subs (at_last env spot.last) (item_v
 abbrev pub elements_left : Elements → Env → Trace
 elements_left e env = at_left e.at e.parts.value env
 
-abbrev pub deed_left : Deed → Env → Trace
-deed_left (deeds.Act a) env = acted_left a.left
-deed_left (deeds.Filter' p test) env = stop
-deed_left (deeds.Elements' p subs at) env = at_left at subs env
+abbrev pub operator_left : Operator → Env → Trace
+operator_left (operators.Simple a) env = results_left a.left
+operator_left (operators.Filter' p test) env = stop
+operator_left (operators.Elements' p subs at) env = at_left at subs env
 
 abbrev pub left : Cell → Env → Trace
 left (cells.One o) env = one_left o env
-left (cells.Each' p input walk deed) env =
-    join (deed_left deed env) (each (join (walk_left walk) (each (left input env) (opened (doing_opening (doing deed)) env.mode))) (done (doing deed) env))
+left (cells.Each' p input walk operator) env =
+    join (operator_left operator env) (each (join (walk_left walk) (each (left input env) (opened (doing_opening (doing operator)) env.mode))) (done (doing operator) env))
 left (cells.Binary' op p a v q b w reached) env = begun_left reached (meaning (t.Binary op (core a) (core b)) env)
 
 abbrev pub operand_left : Opening → Operand → Env → Trace
 operand_left how o env = join (walk_left o.opened) (each (left o.cell.value env) (opened how env.mode))
 
 abbrev pub each_left : Each → Env → Trace
-each_left e env = join (deed_left e.deed env) (each (operand_left (doing_opening (doing e.deed)) e.input env) (done (doing e.deed) env))
+each_left e env = join (operator_left e.operator env) (each (operand_left (doing_opening (doing e.operator)) e.input env) (done (doing e.operator) env))
 
 abbrev pub binary_left : Binary → Env → Trace
 binary_left b env = begun_left b.reached (meaning (binary_core b) env)

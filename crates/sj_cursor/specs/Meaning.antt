@@ -13,16 +13,13 @@ use Rattle.sj_grammar.specs.Tree.{Path, Expr, Root, Var, Context, Last, Lit, Acc
 use Rattle.sj_item.specs.Items.{ItemValue, made_number, made_text, made_truth, made_null}
 use Rattle.sj_item.specs.Pairs.{items_compare, item_starts_with}
 use Rattle.sj_item.specs.declared.truth.Truth.TheVariants.{Unknown}
+use Rattle.sj_path.specs.Vars.{Variables}
 use Rattle.sj_step.specs.Trace.{Trace, stop, fail, only, join, each}
 use Rattle.sj_step.specs.Reach.{reach, by_key, all_members, all_elements, spread, last}
 use Rattle.sj_method.specs.Methods.{method_of, sign_of}
 use Rattle.sj_cursor.specs.Numbers.{binary_trace, element_part, range_part}
 use Rattle.sj_cursor.specs.Verdicts.{Verdict, and_verdict, or_verdict, not_verdict, unknown_verdict, exists_verdict, filtered}
 use Rattle.sj_cursor.specs.Comparisons.{compare_verdict}
-
--- the variables that are passed, by name
-abbrev pub Variables : Type 0
-Variables = List (List ℕ × Literal)
 
 -- where an expression is evaluated: `$`, the variables, `@` and `last`
 pub record Env : Type 0 where

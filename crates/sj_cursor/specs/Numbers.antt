@@ -5,7 +5,7 @@ use Rattle.sj_base.specs.declared.state.State.TheVariants.{S22033, S22038}
 use Rattle.sj_grammar.specs.declared.tree.Arith.{Arith}
 use Rattle.sj_grammar.specs.declared.tree.Mode.{Mode}
 use Rattle.sj_item.specs.Items.{ItemValue, made_number}
-use Rattle.sj_step.specs.Trace.{Trace, fail, only, pay}
+use Rattle.sj_step.specs.Trace.{Trace, fail, only, after_visits}
 use Rattle.sj_step.specs.Reach.{reach, by_range}
 use Rattle.sj_method.specs.Numbers.{operand_of, subscript_of, binary_of}
 use Rattle.sj_cursor.specs.Single.{need, Single, bad, zero_items, one_item, single}
@@ -24,7 +24,7 @@ operand_in (one_item x) = operand_of x
 
 -- the operand of a trace, at its price, and what follows it
 abbrev pub with_operand : Mode → Trace → (ℤ × ℕ → Trace) → Trace
-with_operand mode t go = pay (need mode 2 t) (followed (operand_in (single mode S22038 t)) go)
+with_operand mode t go = after_visits (need mode 2 t) (followed (operand_in (single mode S22038 t)) go)
 
 -- the left operand is decided before the right one is asked
 unfoldable pub binary_trace : Arith → Mode → Trace → Trace → Trace
@@ -40,7 +40,7 @@ subscript_in (one_item x) = subscript_of x
 
 -- the subscript of a trace, at its price, and what follows it
 abbrev pub with_subscript : Mode → Trace → (ℤ → Trace) → Trace
-with_subscript mode t go = pay (need mode 2 t) (followed (subscript_in (single mode S22033 t)) go)
+with_subscript mode t go = after_visits (need mode 2 t) (followed (subscript_in (single mode S22033 t)) go)
 
 -- a part of a list of subscripts on the item x
 unfoldable pub element_part : Mode → Trace → ItemValue → Trace

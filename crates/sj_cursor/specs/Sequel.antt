@@ -8,7 +8,7 @@ use Rattle.sj_path.specs.declared.tree.Path.{Path}
 use Rattle.sj_path.specs.contracts.tree.Path as path
 use Rattle.sj_step.specs.Trace.{Trace}
 use Rattle.sj_step.specs.Coding.{trace_code}
-use Rattle.sj_cursor.specs.Meaning.{Variables}
+use Rattle.sj_path.specs.Vars.{Variables}
 
 pub record Sequel : Type 0 where
   pub path : Path

@@ -6,7 +6,7 @@ use Rattle.sj_item.specs.Items.{ItemValue}
 use Rattle.sj_item.specs.Truths.{conjunction, disjunction, negation, truth_of}
 use Rattle.sj_item.specs.declared.truth.Truth.{Truth}
 use Rattle.sj_item.specs.declared.truth.Truth.TheVariants.{True, False, Unknown}
-use Rattle.sj_step.specs.Trace.{Trace, stop, only, pay, count, fault_of}
+use Rattle.sj_step.specs.Trace.{Trace, stop, only, after_visits, count, fault_of}
 use Rattle.sj_cursor.specs.Single.{need}
 
 pub record Verdict : Type 0 where
@@ -67,4 +67,4 @@ kept Unknown x = stop
 
 -- an item is kept where its predicate is true, at what that may take
 unfoldable pub filtered : Verdict → ItemValue → Trace
-filtered v x = pay v.allow (kept v.truth x)
+filtered v x = after_visits v.allow (kept v.truth x)

@@ -3,7 +3,7 @@ ghost use Rattle.std.specs.Prelude.{◌≡◌};
 ghost use Rattle.sj_step.specs.Answers.{answer_value};
 ghost use Rattle.sj_step.specs.Walk.{walk_left};
 ghost use Rattle.sj_cursor.specs.Cells.{env_value};
-ghost use Rattle.sj_cursor.specs.Draws.{Draws, Nears};
+ghost use Rattle.sj_cursor.specs.Draws.{Draws, Approaches};
 ghost use Rattle.sj_cursor.specs.Left as left_of;
 ghost use Rattle.sj_cursor.specs.Meaning.{meaning};
 
@@ -32,7 +32,7 @@ fn computed<'d>(op: Arith, left: Decimal, right: Result<Decimal, State>) -> Walk
 impl<'d> Binary<'d> {
     #[cycle(next)]
     pub(crate) fn start<L: Ledger>(&mut self, env: &Env<'_, 'd>, steps: &mut Steps<L>) -> Walk<'d>
-        ensures starts { Nears (meaning (left_of.binary_core self.old) (env_value env.now)) steps.old (walk_left result) steps.new }
+        ensures starts { Approaches (meaning (left_of.binary_core self.old) (env_value env.now)) steps.old (walk_left result) steps.new }
         ensures same { left_of.binary_core self.new ≡ left_of.binary_core self.old }
     {
         let left = self.left.number(env, steps);

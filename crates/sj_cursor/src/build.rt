@@ -5,13 +5,13 @@
 ghost use Rattle.std.specs.Prelude.{◌≡◌, IfOk};
 ghost use Rattle.sj_grammar.specs.Tree as tree;
 ghost use Rattle.sj_path.specs.Tree.{expr_of, step_of, sub_of, subs_of, pred_of};
-ghost use Rattle.sj_cursor.specs.Cells.{source_expr, act_on};
+ghost use Rattle.sj_cursor.specs.Cells.{source_expr, simple_on};
 ghost use Rattle.sj_cursor.specs.Ends.{ends_core};
 ghost use Rattle.sj_cursor.specs.Left.{core, doing, doing_on, part_core, parts_core, test_core};
 
 use crate::cells::{
-    Act, Acted, Acting, At, Binary, Both, Bounds, Cell, Comparison, Deed, Each, Elements, Filter,
-    MoreParts, One, Operand, Part, Parts, Range, Reached, Source, Start, Test,
+    Applied, At, Binary, Both, Bounds, Cell, Comparison, Each, Elements, Filter, MoreParts, One,
+    Operand, Operator, Part, Parts, Range, Reached, Results, Simple, Source, Start, Test,
 };
 use sj_base::Memory;
 use sj_path::{Arith, Compare, Expr, Initial, Pred, Step, Sub, Subs};
@@ -45,8 +45,8 @@ pub(crate) fn expr_cell<'d>(alloc: Global, expr: &'d Expr) -> Result<Box<Cell<'d
             let input = expr_cell(alloc, inner)?;
             step_cell(alloc, step, input)
         }
-        Expr::Plus(inner) => acting(alloc, expr_cell(alloc, inner)?, Act::Plus),
-        Expr::Minus(inner) => acting(alloc, expr_cell(alloc, inner)?, Act::Minus),
+        Expr::Plus(inner) => applied(alloc, expr_cell(alloc, inner)?, Simple::Plus),
+        Expr::Minus(inner) => applied(alloc, expr_cell(alloc, inner)?, Simple::Minus),
         Expr::Binary(op, left, right) => {
             let operands = two_cells(alloc, left, right)?;
             binary(alloc, *op, operands)
@@ -132,10 +132,10 @@ fn step_cell<'d>(
     ensures { IfOk result (λ c. core c.value ≡ tree.Access (core input.entry.value) (step_of step.now)) }
 {
     match step {
-        Step::Member(key) => acting(alloc, input, Act::Member(key.as_str())),
-        Step::AllMembers => acting(alloc, input, Act::AllMembers),
-        Step::AllElements => acting(alloc, input, Act::AllElements),
-        Step::Method(method) => acting(alloc, input, Act::Method(*method)),
+        Step::Member(key) => applied(alloc, input, Simple::Member(key.as_str())),
+        Step::AllMembers => applied(alloc, input, Simple::AllMembers),
+        Step::AllElements => applied(alloc, input, Simple::AllElements),
+        Step::Method(method) => applied(alloc, input, Simple::Method(*method)),
         Step::Elements(subs) => match parts_cell(alloc, subs) {
             Ok(parts) => elements(alloc, input, parts),
             Err(memory) => Err(give_up(input, memory)),
@@ -148,19 +148,27 @@ fn step_cell<'d>(
 }
 
 // Something that is done with each item of an expression.
-fn each<'d>(alloc: Global, input: Box<Cell<'d>>, deed: Deed<'d>) -> Result<Box<Cell<'d>>, Memory>
-    ensures { IfOk result (λ c. core c.value ≡ doing_on (doing deed.entry) (core input.entry.value)) }
+fn each<'d>(
+    alloc: Global,
+    input: Box<Cell<'d>>,
+    operator: Operator<'d>,
+) -> Result<Box<Cell<'d>>, Memory>
+    ensures { IfOk result (λ c. core c.value ≡ doing_on (doing operator.entry) (core input.entry.value)) }
 {
     let input = operand(input);
-    Ok(Box::new(alloc, Cell::Each(Each { input, deed }))?)
+    Ok(Box::new(alloc, Cell::Each(Each { input, operator }))?)
 }
 
 #[inline(never)]
-fn acting<'d>(alloc: Global, input: Box<Cell<'d>>, act: Act<'d>) -> Result<Box<Cell<'d>>, Memory>
-    ensures { IfOk result (λ c. core c.value ≡ act_on act.entry (core input.entry.value)) }
+fn applied<'d>(
+    alloc: Global,
+    input: Box<Cell<'d>>,
+    simple: Simple<'d>,
+) -> Result<Box<Cell<'d>>, Memory>
+    ensures { IfOk result (λ c. core c.value ≡ simple_on simple.entry (core input.entry.value)) }
 {
-    let left = Acted::Walk(Walk::ended());
-    each(alloc, input, Deed::Act(Acting { act, left }))
+    let left = Results::Walk(Walk::ended());
+    each(alloc, input, Operator::Simple(Applied { simple, left }))
 }
 
 #[inline(never)]
@@ -172,7 +180,7 @@ fn elements<'d>(
     ensures { IfOk result (λ c. core c.value ≡ tree.Access (core input.entry.value) (tree.Elements (parts_core parts.entry.value))) }
 {
     let at = At::Nothing;
-    each(alloc, input, Deed::Elements(Elements { parts, at }))
+    each(alloc, input, Operator::Elements(Elements { parts, at }))
 }
 
 #[inline(never)]
@@ -183,7 +191,7 @@ fn filter<'d>(
 ) -> Result<Box<Cell<'d>>, Memory>
     ensures { IfOk result (λ c. core c.value ≡ tree.Access (core input.entry.value) (tree.Filter (test_core test.entry.value))) }
 {
-    each(alloc, input, Deed::Filter(Filter { test }))
+    each(alloc, input, Operator::Filter(Filter { test }))
 }
 
 // ---- subscripts

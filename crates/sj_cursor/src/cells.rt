@@ -29,7 +29,7 @@ impl<'d> Drop for Cell<'d> {
                 Cell::Each(
                     Each {
                         input: Operand { cell, opened: _ },
-                        deed: _,
+                        operator: _,
                     },
                 ) => self = Box::into_inner(cell),
                 Cell::Binary(
@@ -84,21 +84,21 @@ pub(crate) enum Opening {
 #[derive(Drop)]
 pub(crate) struct Each<'d> {
     pub(crate) input: Operand<'d>,
-    pub(crate) deed: Deed<'d>,
+    pub(crate) operator: Operator<'d>,
 }
 
-/// What is done with an item, and what is left to give of the item at hand.
+/// What a cell does with each item, and what is left to give of the item at hand.
 #[cycle(cells)]
 #[derive(Drop)]
-pub(crate) enum Deed<'d> {
-    Act(Acting<'d>),
+pub(crate) enum Operator<'d> {
+    Simple(Applied<'d>),
     Filter(Filter<'d>),
     Elements(Elements<'d>),
 }
 
-/// An act that asks no cell.
+/// An operator that asks no cell: an accessor, a sign or a method.
 #[derive(Clone, Copy)]
-pub(crate) enum Act<'d> {
+pub(crate) enum Simple<'d> {
     Member(&'d str),
     AllMembers,
     AllElements,
@@ -108,14 +108,14 @@ pub(crate) enum Act<'d> {
 }
 
 #[derive(Drop)]
-pub(crate) struct Acting<'d> {
-    pub(crate) act: Act<'d>,
-    pub(crate) left: Acted<'d>,
+pub(crate) struct Applied<'d> {
+    pub(crate) simple: Simple<'d>,
+    pub(crate) left: Results<'d>,
 }
 
-/// What an act has left to give.
+/// What such an operator has left to give of the item at hand.
 #[derive(Drop)]
-pub(crate) enum Acted<'d> {
+pub(crate) enum Results<'d> {
     Walk(Walk<'d>),
     Pairs(PairWalk<'d>),
 }
@@ -143,12 +143,12 @@ pub(crate) enum At<'d> {
     /// The item at hand was refused.
     Refused(State),
     /// The parts are taken on this item.
-    On(Spot<'d>),
+    On(Subscripted<'d>),
 }
 
 /// An item, and the `last` of its subscripts.
 #[derive(Drop)]
-pub(crate) struct Spot<'d> {
+pub(crate) struct Subscripted<'d> {
     pub(crate) item: Item<'d>,
     pub(crate) last: i128,
     ghost small: { unsigned_abs last < 10 ^ 38 },

@@ -4,7 +4,8 @@ ghost use Rattle.sj_path.specs.Nodes.{expr_nodes, sub_nodes, subs_nodes, pred_no
 ghost use Rattle.sj_cursor.specs.Left as left_of;
 
 use crate::cells::{
-    At, Binary, Bounds, Cell, Deed, Each, Elements, MoreParts, Operand, Part, Parts, Reached, Test,
+    At, Binary, Bounds, Cell, Each, Elements, MoreParts, Operand, Operator, Part, Parts, Reached,
+    Test,
 };
 
 // What cells hold, and one more item each.
@@ -43,19 +44,19 @@ impl<'d> Each<'d> {
     fn held(&self) -> u64
         ensures { result + 2 ≤ 3 * expr_nodes (left_of.each_core self.now) }
     {
-        plus(self.input.held(), self.deed.held())
+        plus(self.input.held(), self.operator.held())
     }
 }
 
-impl<'d> Deed<'d> {
+impl<'d> Operator<'d> {
     #[cycle(held)]
     fn held(&self) -> u64
         ensures { result ≤ 3 * left_of.doing_nodes (left_of.doing self.now) + 1 }
     {
         match self {
-            Deed::Act(_) => 1,
-            Deed::Filter(filter) => filter.test.held(),
-            Deed::Elements(elements) => elements.held(),
+            Operator::Simple(_) => 1,
+            Operator::Filter(filter) => filter.test.held(),
+            Operator::Elements(elements) => elements.held(),
         }
     }
 }

@@ -48,7 +48,6 @@
 //! its end, takes no memory, and raises the counter by no more than the visits that stand before that item or end.
 #![tactic(auto)]
 
-mod act;
 mod arithmetic;
 mod ask;
 mod build;
@@ -65,6 +64,7 @@ mod one;
 mod predicates;
 mod rewind;
 mod row;
+mod simple;
 mod subscripts;
 
 pub use cursor::Cursor;

@@ -15,7 +15,7 @@ ghost use Rattle.sj_cursor.specs.Looks.{Finds, look_value};
 ghost use Rattle.sj_cursor.specs.Numbers.{operand_in, subscript_in};
 ghost use Rattle.sj_cursor.specs.Single.{need, single};
 
-use crate::cells::{Cell, Deed, Each, Filter, Opening, Operand};
+use crate::cells::{Cell, Each, Filter, Opening, Operand, Operator};
 use crate::env::Env;
 use crate::look::{Found, Limit, Look};
 use sj_base::{Ledger, State, Steps};
@@ -56,7 +56,7 @@ fn may_open(how: Opening, item: &Item<'_>) -> bool
     }
 }
 
-#[tactic(auto, using(crate::proofs::Unopened::unopened, crate::proofs::Unopened::made_unopened))]
+#[tactic(auto, using(crate::proofs::NotUnwrapped::unopened, crate::proofs::NotUnwrapped::made_unopened))]
 pub(crate) fn is_array(item: &Item<'_>) -> bool
     ensures { result ≡ false → (mode : PathMode) → unwrap mode (item_value item.now) ≡ only (item_value item.now) }
 {
@@ -195,12 +195,12 @@ impl<'d> Each<'d> {
         ensures same { left_of.each_core self.new ≡ left_of.each_core self.old }
     {
         'items: loop {
-            match self.deed.next(env, steps, place) {
+            match self.operator.next(env, steps, place) {
                 Answer::End => {}
                 answer => return answer,
             }
-            match self.input.next(self.deed.opening(), env, steps, place) {
-                Answer::Item => match self.deed.begin(env, steps, place) {
+            match self.input.next(self.operator.opening(), env, steps, place) {
+                Answer::Item => match self.operator.begin(env, steps, place) {
                     Answer::End => {}
                     answer => return answer,
                 },
@@ -210,14 +210,14 @@ impl<'d> Each<'d> {
     }
 }
 
-impl<'d> Deed<'d> {
+impl<'d> Operator<'d> {
     pub(crate) fn opening(&self) -> Opening
         ensures { result ≡ left_of.doing_opening (doing self.now) }
     {
         match self {
-            Deed::Act(acting) => acting.act.opening(),
-            Deed::Filter(_) => Opening::Unwrapped,
-            Deed::Elements(_) => Opening::AsItIs,
+            Operator::Simple(applied) => applied.simple.opening(),
+            Operator::Filter(_) => Opening::Unwrapped,
+            Operator::Elements(_) => Opening::AsItIs,
         }
     }
 
@@ -230,13 +230,13 @@ impl<'d> Deed<'d> {
         steps: &mut Steps<L>,
         place: &mut Item<'d>,
     ) -> Answer
-        ensures answers { Draws (left_of.deed_left self.old (env_value env.now)) (answer_value result place.new) (left_of.deed_left self.new (env_value env.now)) steps.old steps.new }
+        ensures answers { Draws (left_of.operator_left self.old (env_value env.now)) (answer_value result place.new) (left_of.operator_left self.new (env_value env.now)) steps.old steps.new }
         ensures same { doing self.new ≡ doing self.old }
     {
         match self {
-            Deed::Act(acting) => acting.left.next(steps, place),
-            Deed::Filter(_) => Answer::End,
-            Deed::Elements(elements) => elements.next(env, steps, place),
+            Operator::Simple(applied) => applied.left.next(steps, place),
+            Operator::Filter(_) => Answer::End,
+            Operator::Elements(elements) => elements.next(env, steps, place),
         }
     }
 
@@ -249,13 +249,13 @@ impl<'d> Deed<'d> {
         steps: &mut Steps<L>,
         place: &mut Item<'d>,
     ) -> Answer
-        ensures answers { Draws (done (doing self.old) (env_value env.now) (item_value place.old)) (answer_value result place.new) (left_of.deed_left self.new (env_value env.now)) steps.old steps.new }
+        ensures answers { Draws (done (doing self.old) (env_value env.now) (item_value place.old)) (answer_value result place.new) (left_of.operator_left self.new (env_value env.now)) steps.old steps.new }
         ensures same { doing self.new ≡ doing self.old }
     {
         match self {
-            Deed::Act(acting) => acting.begin(env.mode, steps, place),
-            Deed::Filter(filter) => filter.begin(env, steps, place),
-            Deed::Elements(elements) => elements.begin(env, steps, place),
+            Operator::Simple(applied) => applied.begin(env.mode, steps, place),
+            Operator::Filter(filter) => filter.begin(env, steps, place),
+            Operator::Elements(elements) => elements.begin(env, steps, place),
         }
     }
 }

@@ -60,7 +60,7 @@ impl<'d> Operand<'d> {
 
 impl<'d> Operand<'d> {
     // The pair of its one item with what stands beside it, where it is a literal, a variable or the like and no array: no walk is needed.
-    #[tactic(auto, using(crate::proofs::Soles::one_seen))]
+    #[tactic(auto, using(crate::proofs::SingleItems::one_seen))]
     pub(crate) fn see_one(&self, beside: Beside<'_, 'd>, env: &Env<'_, 'd>) -> Option<Row>
         ensures { IfSome result (λ row. (early : Bool) (steps : ℕ) → RowSeen early (beside_truth beside.entry) (operand_whole Opening.Unwrapped (operand_core self.now) (env_value env.now)) row.found row.doubt steps steps) }
     {

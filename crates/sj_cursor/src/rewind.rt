@@ -7,7 +7,7 @@ ghost use Rattle.sj_cursor.specs.Meaning.{Env as Surroundings};
 ghost use Rattle.sj_cursor.specs.Meaning.{meaning};
 ghost use Rattle.sj_cursor.specs.declared.cells.Opening.{Opening as HowOpened};
 
-use crate::cells::{At, Cell, Deed, Each, Operand, Reached};
+use crate::cells::{At, Cell, Each, Operand, Operator, Reached};
 use sj_step::Walk;
 
 impl<'d> Cell<'d> {
@@ -43,20 +43,20 @@ impl<'d> Each<'d> {
         ensures same { left_of.each_core self.new ≡ left_of.each_core self.old }
     {
         self.input.rewind();
-        self.deed.clear();
+        self.operator.clear();
     }
 }
 
-impl<'d> Deed<'d> {
+impl<'d> Operator<'d> {
     // There is no item at hand.
     pub(crate) fn clear(&mut self)
-        ensures clear { (env : Surroundings) → left_of.deed_left self.new env ≡ stop }
+        ensures clear { (env : Surroundings) → left_of.operator_left self.new env ≡ stop }
         ensures same { doing self.new ≡ doing self.old }
     {
         match self {
-            Deed::Act(acting) => acting.clear(),
-            Deed::Filter(_) => {}
-            Deed::Elements(elements) => elements.at = At::Nothing,
+            Operator::Simple(applied) => applied.clear(),
+            Operator::Filter(_) => {}
+            Operator::Elements(elements) => elements.at = At::Nothing,
         }
     }
 }

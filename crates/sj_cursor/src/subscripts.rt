@@ -4,14 +4,16 @@ ghost use Rattle.sj_item.specs.Items.{ItemValue, item_value};
 ghost use Rattle.sj_step.specs.Answers.{answer_value};
 ghost use Rattle.sj_step.specs.Walk.{walk_left};
 ghost use Rattle.sj_cursor.specs.Cells.{env_value};
-ghost use Rattle.sj_cursor.specs.Draws.{Draws, Nears};
+ghost use Rattle.sj_cursor.specs.Draws.{Draws, Approaches};
 ghost use Rattle.sj_cursor.specs.Left as left_of;
 ghost use Rattle.sj_cursor.specs.Left.{operand_core, done};
 ghost use Rattle.sj_cursor.specs.Meaning.{Env as Surroundings};
 ghost use Rattle.sj_cursor.specs.Meaning.{part, parts as parts_trace};
 ghost use Rattle.sj_grammar.specs.Tree.{One as one_of};
 
-use crate::cells::{At, Bounds, Elements, MoreParts, Operand, Part, Parts, Range, Reached, Spot};
+use crate::cells::{
+    At, Bounds, Elements, MoreParts, Operand, Part, Parts, Range, Reached, Subscripted,
+};
 use crate::env::Env;
 use sj_base::{Ledger, State, Steps};
 use sj_item::Item;
@@ -23,7 +25,7 @@ fn spot<'d>(mode: Mode, item: Item<'d>) -> At<'d>
     ensures { left_of.IsPlaced mode (item_value item.entry) result }
 {
     match last_index(item, mode) {
-        Some(last) => At::On(Spot { item, last }),
+        Some(last) => At::On(Subscripted { item, last }),
         None => At::Refused(State::S22039),
     }
 }
@@ -194,7 +196,7 @@ impl<'d> Bounds<'d> {
         item: Item<'d>,
         steps: &mut Steps<L>,
     ) -> Walk<'d>
-        ensures starts { Nears (part (left_of.bounds_core self.old) (env_value env.now) (item_value item.entry)) steps.old (walk_left result) steps.new }
+        ensures starts { Approaches (part (left_of.bounds_core self.old) (env_value env.now) (item_value item.entry)) steps.old (walk_left result) steps.new }
         ensures same { left_of.bounds_core self.new ≡ left_of.bounds_core self.old }
     {
         match self {
@@ -213,7 +215,7 @@ impl<'d> Operand<'d> {
         item: Item<'d>,
         steps: &mut Steps<L>,
     ) -> Walk<'d>
-        ensures starts { Nears (part (one_of (operand_core self.old)) (env_value env.now) (item_value item.entry)) steps.old (walk_left result) steps.new }
+        ensures starts { Approaches (part (one_of (operand_core self.old)) (env_value env.now) (item_value item.entry)) steps.old (walk_left result) steps.new }
         ensures same { operand_core self.new ≡ operand_core self.old }
     {
         let index = self.index(env, steps);
@@ -229,7 +231,7 @@ impl<'d> Range<'d> {
         item: Item<'d>,
         steps: &mut Steps<L>,
     ) -> Walk<'d>
-        ensures starts { Nears (part (left_of.range_core self.old) (env_value env.now) (item_value item.entry)) steps.old (walk_left result) steps.new }
+        ensures starts { Approaches (part (left_of.range_core self.old) (env_value env.now) (item_value item.entry)) steps.old (walk_left result) steps.new }
         ensures same { left_of.range_core self.new ≡ left_of.range_core self.old }
     {
         let from = self.from.index(env, steps);

@@ -1,10 +1,26 @@
+-- for `DocBuilder::exact`, `DocBuilder::number_at`, `DocBuilder::wide` and `value_of`, and for other lemmas and
+-- crates above
 pub mod Numerals
+-- for `Children::advance`, `Doc::count`, `Doc::end_of`, `Doc::key_at`, `Doc::node_at`, `Doc::root`, `Doc::up_at`,
+-- `NodeRef::children`, `NodeRef::kind`, `NodeRef::len`, `NodeRef::number`, `NodeRef::text` and `NodeRef::truth`, and
+-- for other lemmas
 pub mod Docs
-pub mod Made
+-- for `Doc::root`
+pub mod NumbersOfNodes
+-- for `DocBuilder::begin`, `DocBuilder::close`, `DocBuilder::depth`, `DocBuilder::finish`, `DocBuilder::holding`,
+-- `DocBuilder::key`, `DocBuilder::key_at`, `DocBuilder::null`, `DocBuilder::number`, `DocBuilder::number_at`,
+-- `DocBuilder::over`, `DocBuilder::text`, `DocBuilder::text_at`, `DocBuilder::truth`, `DocBuilder::wants` and
+-- `store`
 pub mod Builders
+-- for `Children::advance` and `NodeRef::children`, and for other lemmas
 pub mod Listing
+-- for `Children::next_under` and `find`
 mod Searching
+-- for `are_distinct`, `each_is_new` and `neighbours_differ`
 pub mod Distinct
+-- for the lemmas of `Touring`
 pub mod Stops
-pub mod Ups
+-- for `NodeRef::tour` and `Tour::advance`, and for other lemmas
+pub mod ParentLinks
+-- for `Doc::end_of`, `Doc::key_at`, `NodeRef::tour` and `Tour::advance`, and for other lemmas
 pub mod Touring

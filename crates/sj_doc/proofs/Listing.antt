@@ -1,7 +1,7 @@
 -- The children of a node, as they lie in the layout.
 use Rattle.std.proofs.Common.{◌≡◌, ℕ, ◌+◌, ◌-◌, ◌<◌, ◌≤◌, List, [], ◌∷◌, ◌++◌, length, take, drop, get_or, Option, Some, None, option_map, refl, sym, ap, ◌∙◌, append_assoc, length-append, arith}
 use Rattle.std.proofs.lemmas.List.{length-drop, drop-drop, drop_at, take_at}
-use Rattle.sj_json.specs.Tree.{Tree, null, truth, string, number, array, object, Items, no_items, item, Members, no_members, member, Child, item_list, member_list, children, below, subtree, node_count, numbered}
+use Rattle.sj_json.specs.Tree.{Tree, null, truth, string, number, array, object, Items, no_items, item, Members, no_members, member, Child, item_list, member_list, children, below, subtree, node_count, numbered, NumberedChild}
 use Rattle.sj_json.specs.Cells.{Entry, layout, layout_items, layout_members, Spine, last, into, prepend, spine}
 use Rattle.sj_json.specs.Layouts.{spine-append, spine-layout, prepend-prepend, prepend-nil}
 use Rattle.sj_json.proofs.Places.{length-layout, length-subtrees, LiesAt, lies_at}
@@ -104,7 +104,7 @@ next_of t i n (k ∷ ks) rest e c h =
       within = kid_within t i k ks rest e;
       tree = kid_is t i k ks rest e;
       lie = e ∙ append_assoc (layout k.0 k.1) (layout_kids ks) rest;
-      splits = left_is t i n (k ∷ ks) rest e c ∙ ap (λ (x : List (Option (List ℕ) × ℕ × Tree)). (k.0, i, k.1) ∷ x) (sym (left_is t (i + 1 + below k.1) (n - 1) ks rest next fewer));
+      splits = left_is t i n (k ∷ ks) rest e c ∙ ap (λ (x : List NumberedChild). (k.0, i, k.1) ∷ x) (sym (left_is t (i + 1 + below k.1) (n - 1) ks rest next fewer));
       after = record { kids = ks; rest = rest; lie = next; count = fewer };
       small = after_small t i k ks rest e;
     }

@@ -15,7 +15,7 @@ use Rattle.sj_doc.specs.Tours.{Visited, enter, leave, leaf, tour}
 use Rattle.sj_doc.specs.Stops.{TourPosition, Stop, arrive, depart, stops, item_stops, member_stops, arrival, visit, begins, beyond, ends, Leads, visits_from, up_of, stops_of, tour_left, IsTour, key_in}
 use Rattle.sj_doc.proofs.Docs.{layout-cons}
 use Rattle.sj_doc.proofs.Listing.{same_laid}
-use Rattle.sj_doc.proofs.Ups.{length-ups, ups_at}
+use Rattle.sj_doc.proofs.ParentLinks.{length-ups, ups_at}
 use Rattle.sj_doc.proofs.Stops.{visits_all, leads_all, between_all, ordered_all, from_here, from_end, all_append, last_of, Between, Ordered}
 
 -- the layout of u begins at i

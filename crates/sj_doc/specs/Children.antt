@@ -1,6 +1,6 @@
 -- The children that are left, from a node in the layout of a tree on.
 use Rattle.std.specs.Prelude.{◌≡◌, ℕ, List, [], ◌∷◌, ◌++◌, length, take, drop, Option, None}
-use Rattle.sj_json.specs.Tree.{Tree, Child, numbered}
+use Rattle.sj_json.specs.Tree.{Tree, Child, numbered, NumberedChild}
 use Rattle.sj_json.specs.Cells.{Entry, layout, Spine, last, into, spine}
 
 abbrev pub first_kids : Spine → List Child
@@ -11,7 +11,7 @@ first_kids (into ks k kind s) = ks
 abbrev pub kids_at : Tree → ℕ → List Child
 kids_at t i = first_kids (spine (drop i (layout None t)) (last []))
 
-abbrev pub children_left : Tree → ℕ → ℕ → List (Option (List ℕ) × ℕ × Tree)
+abbrev pub children_left : Tree → ℕ → ℕ → List NumberedChild
 children_left t i n = numbered i (take n (kids_at t i))
 
 abbrev pub layout_kids : List Child → List Entry

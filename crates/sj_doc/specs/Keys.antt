@@ -1,8 +1,8 @@
 -- The keys among children.
 use Rattle.std.specs.Prelude.{ℕ, List, [], ◌∷◌, Option, Some, None}
-use Rattle.sj_json.specs.Tree.{Tree}
+use Rattle.sj_json.specs.Tree.{Tree, NumberedChild}
 
-abbrev pub given : List (Option (List ℕ) × ℕ × Tree) → List (List ℕ)
+abbrev pub given : List NumberedChild → List (List ℕ)
 given [] = []
 given ((None, i, t) ∷ cs) = given cs
 given ((Some k, i, t) ∷ cs) = k ∷ given cs

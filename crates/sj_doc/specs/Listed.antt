@@ -1,6 +1,6 @@
 -- What contracts say of nodes and members: the words over a `NodeRef`.
 use Rattle.std.specs.Prelude.{ℕ, List, Option, option_map}
-use Rattle.sj_json.specs.Tree.{Tree, subtree}
+use Rattle.sj_json.specs.Tree.{Tree, subtree, NumberedChild}
 use Rattle.sj_doc.specs.declared.doc.Member.{Member}
 use Rattle.sj_doc.specs.declared.doc.NodeRef.{NodeRef}
 
@@ -13,5 +13,5 @@ abbrev pub node_tree : NodeRef → Tree
 node_tree n = subtree n.doc.now n.at
 
 -- a member as its key, its number and its tree
-abbrev pub member_of : Member → Option (List ℕ) × ℕ × Tree
+abbrev pub member_of : Member → NumberedChild
 member_of m = (option_map (λ s. s.now) m.key, node_id m.node, node_tree m.node)

@@ -1,22 +1,18 @@
 -- The tour of a tree: all its nodes in order, each container at its start and again at its end.
 use Rattle.std.specs.Prelude.{◌≡◌, ℕ, ◌+◌, List, [], ◌∷◌, ◌++◌, Bool, true, false, cond, ◌==◌, Option, Some, None, refl}
 use Rattle.std.specs.Coded.{Coded, code_by, coded×, coded_ℕ, coded_list, coded_bool}
-use Rattle.sj_json.specs.Tree.{Tree, null, truth, string, number, array, object, Items, no_items, item, Members, no_members, member, below}
+use Rattle.sj_json.specs.Tree.{Tree, null, truth, string, number, array, object, Items, no_items, item, Members, no_members, member, below, NumberedChild}
 use Rattle.sj_json.specs.Coding.{key_code, tree_code}
 use Rattle.sj_doc.specs.declared.node.Kind.{Kind}
 use Rattle.sj_doc.specs.declared.node.Kind.TheVariants as kinds
 
--- a node as its key, its number and its tree
-abbrev pub Named : Type 0
-Named = Option (List ℕ) × ℕ × Tree
-
 pub data Visited : Type 0 where
   -- an array or an object begins
-  enter : Named → Visited
+  enter : NumberedChild → Visited
   -- it ends
   leave : Kind → Visited
   -- a scalar
-  leaf : Named → Visited
+  leaf : NumberedChild → Visited
 
 abbrev mutual
   -- of a tree under the key k, whose root has the number i
@@ -73,7 +69,7 @@ visited_to (leaf n) = (2, (0, (n.0, (n.1, n.2))))
 
 abbrev pub visited_from : Stored → Visited
 visited_from p =
-    let n : Named = (p.1.1.0, p.1.1.1.0, p.1.1.1.1) in
+    let n : NumberedChild = (p.1.1.0, p.1.1.1.0, p.1.1.1.1) in
     cond (p.0 == 0) (enter n) (cond (p.0 == 1) (leave (kind_from p.1.0)) (leaf n))
 
 pub visited_back : (v : Visited) → visited_from (visited_to v) ≡ v

@@ -20,11 +20,11 @@ pub struct Children<'d> {
 }
 
 impl<'d> Model for Children<'d> {
-    ghost use Rattle.std.specs.Prelude.{List, ℕ, Option};
-    ghost use Rattle.sj_json.specs.Tree.{Tree};
+    ghost use Rattle.std.specs.Prelude.{List};
+    ghost use Rattle.sj_json.specs.Tree.{NumberedChild};
     ghost use Rattle.sj_json.specs.Coding.{numbered_code};
 
-    ghost Value = { List (Option (List ℕ) × ℕ × Tree) };
+    ghost Value = { List NumberedChild };
 
     ghost coded = { numbered_code };
 

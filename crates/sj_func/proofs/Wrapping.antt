@@ -8,8 +8,8 @@ use Rattle.sj_json.specs.Tree.{Tree, array, item, no_items}
 use Rattle.sj_json.specs.Printing.{printed, printed_more_items}
 use Rattle.sj_doc.specs.Kinds.{kind_of}
 use Rattle.sj_item.specs.Items.{ItemValue, item_tree, nodes_below, gives, ends, faults}
-use Rattle.sj_step.specs.Trace.{Trace, stop, fail, give, pay, items, count, visits, fault_of, fore}
-use Rattle.sj_step.proofs.Traces.{shape_item, shape_end, shape_fault, items-pay, count-pay, visits-pay, fault-pay}
+use Rattle.sj_step.specs.Trace.{Trace, stop, fail, give, after_visits, items, count, visits, fault_of, visits_to_first}
+use Rattle.sj_step.proofs.Traces.{shape_item, shape_end, shape_fault, items-after_visits, count-after_visits, visits-after_visits, fault-after_visits}
 use Rattle.sj_cursor.specs.Draws.{Draws}
 use Rattle.sj_value.specs.declared.clauses.Wrapper.{Wrapper}
 use Rattle.sj_value.specs.declared.clauses.Wrapper.TheVariants as wrappers
@@ -20,38 +20,38 @@ use Rattle.sj_func.specs.Gathering.{has_some, stays}
 
 -- ---- draws
 
-drawn_item : (t t' : Trace) (x : ItemValue) (a b : ℕ) → Draws t (gives x) t' a b → t ≡ pay (fore t) (give x t')
+drawn_item : (t t' : Trace) (x : ItemValue) (a b : ℕ) → Draws t (gives x) t' a b → t ≡ after_visits (visits_to_first t) (give x t')
 drawn_item t t' x a b d = rw d.leaves (shape_item t x (sym d.answers))
 
 items_given : (t t' : Trace) (x : ItemValue) (a b : ℕ) → Draws t (gives x) t' a b → items t ≡ x ∷ items t'
-items_given t t' x a b d = ap items (drawn_item t t' x a b d) ∙ items-pay (fore t) (give x t')
+items_given t t' x a b d = ap items (drawn_item t t' x a b d) ∙ items-after_visits (visits_to_first t) (give x t')
 
-visits_given : (t t' : Trace) (x : ItemValue) (a b : ℕ) → Draws t (gives x) t' a b → visits t ≡ fore t + visits t'
-visits_given t t' x a b d = ap visits (drawn_item t t' x a b d) ∙ visits-pay (fore t) (give x t')
+visits_given : (t t' : Trace) (x : ItemValue) (a b : ℕ) → Draws t (gives x) t' a b → visits t ≡ visits_to_first t + visits t'
+visits_given t t' x a b d = ap visits (drawn_item t t' x a b d) ∙ visits-after_visits (visits_to_first t) (give x t')
 
 fault_given : (t t' : Trace) (x : ItemValue) (a b : ℕ) → Draws t (gives x) t' a b → fault_of t ≡ fault_of t'
-fault_given t t' x a b d = ap fault_of (drawn_item t t' x a b d) ∙ fault-pay (fore t) (give x t')
+fault_given t t' x a b d = ap fault_of (drawn_item t t' x a b d) ∙ fault-after_visits (visits_to_first t) (give x t')
 
 pub count_given : (t t' : Trace) (x : ItemValue) (a b : ℕ) → Draws t (gives x) t' a b → count t' < count t
-count_given t t' x a b d = omega (arith, ap count (drawn_item t t' x a b d) ∙ count-pay (fore t) (give x t'))
+count_given t t' x a b d = omega (arith, ap count (drawn_item t t' x a b d) ∙ count-after_visits (visits_to_first t) (give x t'))
 
 pub items_ended : (t t' : Trace) (a b : ℕ) → Draws t ends t' a b → items t ≡ []
-items_ended t t' a b d = ap items (shape_end t (sym d.answers)) ∙ items-pay (fore t) stop
+items_ended t t' a b d = ap items (shape_end t (sym d.answers)) ∙ items-after_visits (visits_to_first t) stop
 
 pub fault_ended : (t t' : Trace) (a b : ℕ) → Draws t ends t' a b → fault_of t ≡ None
-fault_ended t t' a b d = ap fault_of (shape_end t (sym d.answers)) ∙ fault-pay (fore t) stop
+fault_ended t t' a b d = ap fault_of (shape_end t (sym d.answers)) ∙ fault-after_visits (visits_to_first t) stop
 
-visits_ended : (t t' : Trace) (a b : ℕ) → Draws t ends t' a b → visits t ≡ fore t + 0
-visits_ended t t' a b d = ap visits (shape_end t (sym d.answers)) ∙ visits-pay (fore t) stop
+visits_ended : (t t' : Trace) (a b : ℕ) → Draws t ends t' a b → visits t ≡ visits_to_first t + 0
+visits_ended t t' a b d = ap visits (shape_end t (sym d.answers)) ∙ visits-after_visits (visits_to_first t) stop
 
 pub items_failed : (t t' : Trace) (s : State) (a b : ℕ) → Draws t (faults s) t' a b → items t ≡ []
-items_failed t t' s a b d = ap items (shape_fault t s (sym d.answers)) ∙ items-pay (fore t) (fail s)
+items_failed t t' s a b d = ap items (shape_fault t s (sym d.answers)) ∙ items-after_visits (visits_to_first t) (fail s)
 
 pub fault_failed : (t t' : Trace) (s : State) (a b : ℕ) → Draws t (faults s) t' a b → fault_of t ≡ Some s
-fault_failed t t' s a b d = ap fault_of (shape_fault t s (sym d.answers)) ∙ fault-pay (fore t) (fail s)
+fault_failed t t' s a b d = ap fault_of (shape_fault t s (sym d.answers)) ∙ fault-after_visits (visits_to_first t) (fail s)
 
-visits_failed : (t t' : Trace) (s : State) (a b : ℕ) → Draws t (faults s) t' a b → visits t ≡ fore t + 0
-visits_failed t t' s a b d = ap visits (shape_fault t s (sym d.answers)) ∙ visits-pay (fore t) (fail s)
+visits_failed : (t t' : Trace) (s : State) (a b : ℕ) → Draws t (faults s) t' a b → visits t ≡ visits_to_first t + 0
+visits_failed t t' s a b d = ap visits (shape_fault t s (sym d.answers)) ∙ visits-after_visits (visits_to_first t) (fail s)
 
 -- ---- going through all items
 

@@ -3,7 +3,7 @@ use Rattle.std.specs.Prelude.{◌≡◌, ℕ, ℤ, unsigned_abs, List, [], Bool,
 use Rattle.std.specs.Coded.{Coded, code_by, coded×, coded_ℕ, coded_list, coded_option, coded_bool}
 use Rattle.std.proofs.Common.{ap}
 use Rattle.sj_decimal.specs.Signed.{signed, is_negative, signed_parts}
-use Rattle.sj_json.specs.Tree.{exact, wide, Tree, Child, item_list, member_list}
+use Rattle.sj_json.specs.Tree.{exact, wide, Tree, Child, item_list, member_list, NumberedChild}
 use Rattle.sj_json.specs.Building.{Part, top, elements, pairs, State}
 use Rattle.sj_json.specs.Cells.{Cell, null_cell, truth_cell, string_cell, number_cell, closed, opened, Entry, layout, tree_of, items_of, members_of}
 use Rattle.sj_json.specs.Layouts.{tree_of-layout, items_of-item_list, members_of-member_list}
@@ -75,5 +75,5 @@ part_code =
 abbrev pub state_code : Coded State
 state_code = coded× part_code (coded_list part_code)
 
-abbrev pub numbered_code : Coded (List (Option (List ℕ) × ℕ × Tree))
+abbrev pub numbered_code : Coded (List NumberedChild)
 numbered_code = coded_list (code_by (Option (List ℕ) × (ℕ × Tree)) (coded× key_code (coded× coded_ℕ tree_code)) (λ p. (p.0, (p.1, p.2))) (λ p. (p.0, p.1.0, p.1.1)) (λ _. refl))

@@ -104,8 +104,12 @@ abbrev mutual
 abbrev pub subtree : Tree → ℕ → Tree
 subtree t i = get_or (subtrees t) i null
 
+-- a child: its key, its number in preorder, and its tree
+abbrev pub NumberedChild : Type 0
+NumberedChild = Option (List ℕ) × ℕ × Tree
+
 -- the children as their keys, numbers and trees, where the first has the number i
-abbrev pub numbered : ℕ → List Child → List (Option (List ℕ) × ℕ × Tree)
+abbrev pub numbered : ℕ → List Child → List NumberedChild
 numbered i [] = []
 numbered i (k ∷ ks) = (k.0, i, k.1) ∷ numbered (i + 1 + below k.1) ks
 

@@ -8,15 +8,15 @@ use Rattle.sj_grammar.specs.declared.tree.Initial.TheVariants as initial
 use Rattle.sj_grammar.specs.Tree.{Path, Expr, Root, Var, Context, Last, Lit, Plus, Minus, Binary, Access, Step, Member, AllMembers, AllElements, Elements, Filter, Call, Double, Datetime, DatetimeBy, Sub, One, Range, Subs, Only, More, Pred, Compares, And, Or, Not, IsUnknown, Exists, StartsWith, LikeRegex, LikeRegexBy}
 
 -- names with their values
-abbrev pub Named : Type 0
-Named = List (List ℕ × Literal)
+abbrev pub Variables : Type 0
+Variables = List (List ℕ × Literal)
 
 -- whether a variable has this name
-abbrev pub has_name : Named → List ℕ → Bool
+abbrev pub has_name : Variables → List ℕ → Bool
 has_name vars name = list_any (λ v. bytes_eq v.0 name) vars
 
 -- the value of the first variable with this name
-abbrev pub value_of : Named → List ℕ → Option Literal
+abbrev pub value_of : Variables → List ℕ → Option Literal
 value_of vars name = option_map (λ v. v.1) (find (λ v. bytes_eq v.0 name) vars)
 
 abbrev pub initial_names : Initial → List (List ℕ)
@@ -70,5 +70,5 @@ abbrev pub names : Path → List (List ℕ)
 names p = expr_names p.expr
 
 -- each variable of the path has a value
-abbrev pub covers : Named → Path → Bool
+abbrev pub covers : Variables → Path → Bool
 covers vars p = list_all (has_name vars) (names p)

@@ -1,9 +1,19 @@
+-- for `ascii_end` and `text_of`
 pub mod Ascii
+-- for `string_end` and `unescape`, and for other lemmas
 pub mod Scanned
+-- for `any_number`, `colon_and_scalar`, `escaped_key`, `escaped_value`, `number`, `quoted_key`, `scalar`,
+-- `separator`, `turn` and `value`, and for other lemmas
 pub mod Steps
+-- for `any_number` and `number`
 pub mod Numerals
+-- for `escaped_char`, `long_escape` and `unit_step`
 pub mod Escapes
+-- for `unescape`
 pub mod Unescaping
+-- for `read_into`
 pub mod Ends
+-- for `high_in_32`, `stops_in_16`, `stops_in_32` and `stops_in_8`
 pub mod Lanes
+-- for `long_plain_end`, `plain_end` and `plain_end_of_31`
 pub mod Runs

@@ -16,7 +16,7 @@ use Rattle.sj_select.specs.Rows.{StatementRows, then_values, then_cost, one_row,
 use Rattle.sj_select.specs.Sources.{due_behind as found_due_behind}
 use Rattle.sj_select.specs.Values.{given_list, list_cost}
 use Rattle.sj_select.specs.declared.source.Found.{Found}
-use Rattle.sj_select.proofs.Spending.{spent_then, spent_less, falls_by}
+use Rattle.sj_select.proofs.CountedSteps.{spent_then, spent_less, falls_by}
 
 -- ---- what a table cursor gives is taken from its rows
 

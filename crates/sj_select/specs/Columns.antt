@@ -2,7 +2,7 @@
 use Rattle.std.specs.Prelude.{ℕ, List, map, Option, Some, None, Result, pos}
 use Rattle.sj_base.specs.declared.state.State.{State}
 use Rattle.sj_item.specs.Items.{ItemValue}
-use Rattle.sj_path.specs.Vars.{Named}
+use Rattle.sj_path.specs.Vars.{Variables}
 use Rattle.sj_value.specs.declared.clauses.ExistsAction.{ExistsAction}
 use Rattle.sj_value.specs.declared.clauses.QuerySpec.{QuerySpec}
 use Rattle.sj_value.specs.declared.clauses.ValueSpec.{ValueSpec}
@@ -23,7 +23,7 @@ pub data Column : Type 0 where
   formatted : ℕ → PathWith → QuerySpec → Column
   existence : ℕ → PathWith → ExistsAction → Column
 
-abbrev pub with_variables : Named → b.ColumnOf → Column
+abbrev pub with_variables : Variables → b.ColumnOf → Column
 with_variables vars (b.Ordinality n) = ordinality n
 with_variables vars (b.Regular n path clauses) = regular n (record { path = path; vars = vars }) clauses
 with_variables vars (b.Formatted n path clauses) = formatted n (record { path = path; vars = vars }) clauses

@@ -11,14 +11,14 @@ use Rattle.sj_build.specs.declared.field.Field.{Field}
 use Rattle.sj_select.specs.Line.{Line, context, tree_of}
 use Rattle.sj_select.specs.Operations.{Step, literal, column, exists, value, query, is_json, member, object, array}
 use Rattle.sj_select.specs.Values.{literal_outcome, column_outcome, is_json_outcome, trace_of, outcome_of}
-use Rattle.sj_select.specs.declared.pile.Pile.{Pile}
+use Rattle.sj_select.specs.declared.stack.Stack.{Stack}
 
 -- the values and the members that were found and are no part of another value yet, the last one at the end
 pub record Held : Type 0 where
   pub values : List SqlValue
   pub members : List Field
 
-abbrev pub held : Pile → Held
+abbrev pub held : Stack → Held
 held p = record { values = p.values.items; members = p.members.items }
 
 -- the last n of a list, and those before them

@@ -65,7 +65,7 @@ pub record IsReadySource (r : RowSource) : Type 0 where
   pub given : Each CanBeGiven (steps_of r.operations.items)
   pub aggregates : Each IsReady r.aggregates.items
   pub table : IsPlacedIfAny r.table
-  pub printable : Each IsPrintable r.pile.values.items
+  pub printable : Each IsPrintable r.stack.values.items
 
 -- ---- what is found
 

@@ -12,7 +12,7 @@ ghost use Rattle.sj_select.specs.Taking.{CanTake, array_call, object_call, aggre
 
 use crate::finder::Finder;
 use crate::line::LineDoc;
-use crate::pile::Pile;
+use crate::stack::Stack;
 use sj_base::{Ledger, Memory, State, Steps};
 use sj_bind::BoundItem;
 use sj_build::{ArrayAgg, BuildRefusal, Field, ObjectAgg};
@@ -64,7 +64,7 @@ impl<'d> ArrayCall<'d> {
         alloc: Global,
         line: LineDoc<'d>,
         columns: &[SqlValue],
-        pile: &mut Pile,
+        stack: &mut Stack,
         steps: &mut Steps<L>,
     ) -> Result<Option<State>, Memory>
         requires ready { IsArrayReady self.old }
@@ -74,9 +74,9 @@ impl<'d> ArrayCall<'d> {
         ensures costs { steps.new ≤ raised steps.old (input_cost (line_of line.entry) columns.now (array_call self.old)) }
         ensures call { array_call self.new ≡ array_call self.old }
         ensures ready { IsArrayReady self.new }
-        ensures printable { All IsPrintable pile.new.values.items }
+        ensures printable { All IsPrintable stack.new.values.items }
     {
-        match self.value.find(alloc, line, columns, pile, steps)? {
+        match self.value.find(alloc, line, columns, stack, steps)? {
             Outcome::Value(value) => {
                 self.array.add(&value)?;
                 Ok(None)
@@ -114,7 +114,7 @@ impl<'d> ObjectCall<'d> {
         alloc: Global,
         line: LineDoc<'d>,
         columns: &[SqlValue],
-        pile: &mut Pile,
+        stack: &mut Stack,
         steps: &mut Steps<L>,
     ) -> Result<Option<State>, Memory>
         requires ready { IsObjectReady self.old }
@@ -124,13 +124,13 @@ impl<'d> ObjectCall<'d> {
         ensures costs { steps.new ≤ raised steps.old (input_cost (line_of line.entry) columns.now (object_call self.old)) }
         ensures call { object_call self.new ≡ object_call self.old }
         ensures ready { IsObjectReady self.new }
-        ensures printable { All IsPrintable pile.new.values.items }
+        ensures printable { All IsPrintable stack.new.values.items }
     {
-        let key = match self.key.find(alloc, line, columns, pile, steps)? {
+        let key = match self.key.find(alloc, line, columns, stack, steps)? {
             Outcome::Value(key) => key,
             Outcome::Raised(state) => return Ok(Some(state)),
         };
-        let value = match self.value.find(alloc, line, columns, pile, steps)? {
+        let value = match self.value.find(alloc, line, columns, stack, steps)? {
             Outcome::Value(value) => value,
             Outcome::Raised(state) => return Ok(Some(state)),
         };
@@ -175,7 +175,7 @@ impl<'d> Aggregate<'d> {
         alloc: Global,
         line: LineDoc<'d>,
         columns: &[SqlValue],
-        pile: &mut Pile,
+        stack: &mut Stack,
         steps: &mut Steps<L>,
     ) -> Result<Option<State>, Memory>
         requires ready { IsReady self.old }
@@ -185,11 +185,11 @@ impl<'d> Aggregate<'d> {
         ensures costs { steps.new ≤ raised steps.old (input_cost (line_of line.entry) columns.now (aggregate_of self.old)) }
         ensures call { aggregate_of self.new ≡ aggregate_of self.old }
         ensures ready { IsReady self.new }
-        ensures printable { All IsPrintable pile.new.values.items }
+        ensures printable { All IsPrintable stack.new.values.items }
     {
         match self {
-            Aggregate::Array(call) => call.take(alloc, line, columns, pile, steps),
-            Aggregate::Object(call) => call.take(alloc, line, columns, pile, steps),
+            Aggregate::Array(call) => call.take(alloc, line, columns, stack, steps),
+            Aggregate::Object(call) => call.take(alloc, line, columns, stack, steps),
         }
     }
 
@@ -269,22 +269,22 @@ pub(crate) fn take_all<'d, L: Ledger>(
     all: &mut [Aggregate<'d>],
     line: LineDoc<'d>,
     columns: &[SqlValue],
-    pile: &mut Pile,
+    stack: &mut Stack,
     steps: &mut Steps<L>,
 ) -> Result<Option<State>, Memory>
     requires ready { All IsReady all.old }
     requires columns { All IsPrintable columns.now }
-    requires printable { All IsPrintable pile.old.values.items }
+    requires printable { All IsPrintable stack.old.values.items }
     ensures takes { (rows : List (List Value)) → All (HasTaken (line_of line.entry) rows) all.old → IfOk result (λ raised.
         AllTake (aggregates (line_of line.entry) (map aggregate_of all.old) (rows ++ columns.now ∷ [])) (All (HasTaken (line_of line.entry) (rows ++ columns.now ∷ [])) all.new) raised) }
     ensures costs { (rows : List (List Value)) → All (HasTaken (line_of line.entry) rows) all.old →
         steps.new ≤ raised steps.old (inputs_cost (line_of line.entry) (map aggregate_of all.old) (rows ++ columns.now ∷ []) columns.now) }
     ensures calls { map aggregate_of all.new ≡ map aggregate_of all.old }
     ensures ready { All IsReady all.new }
-    ensures printable { All IsPrintable pile.new.values.items }
+    ensures printable { All IsPrintable stack.new.values.items }
 {
     for aggregate in all.iter_mut() {
-        if let Some(state) = aggregate.take(alloc, line, columns, pile, steps)? {
+        if let Some(state) = aggregate.take(alloc, line, columns, stack, steps)? {
             return Ok(Some(state));
         }
     }

@@ -10,7 +10,7 @@ ghost use Rattle.sj_select.specs.Values as meaning;
 
 use crate::line::LineDoc;
 use crate::operation::Operation;
-use crate::pile::Pile;
+use crate::stack::Stack;
 use sj_base::{Ledger, Memory, State, Steps, Text};
 use sj_doc::Doc;
 use sj_func::{Outcome, is_json};
@@ -19,7 +19,7 @@ use sj_statement::IsJsonCall;
 use sj_value::{SqlValue, copy};
 use std::alloc::Global;
 
-/// Performs operations one behind the other on a pile, up to the first that raises a state, which is given. The counter rises by no
+/// Performs operations one behind the other on a stack, up to the first that raises a state, which is given. The counter rises by no
 /// more than what they may take up to there.
 ///
 /// # Errors
@@ -29,19 +29,19 @@ pub(crate) fn find<'d, L: Ledger>(
     operations: &mut [Operation<'d>],
     line: LineDoc<'d>,
     columns: &[SqlValue],
-    pile: &mut Pile,
+    stack: &mut Stack,
     steps: &mut Steps<L>,
 ) -> Result<Option<State>, Memory>
     requires columns { All IsPrintable columns.now }
     requires given { All CanBeGiven (steps_of operations.old) }
-    requires printable { All IsPrintable pile.old.values.items }
-    ensures finds { IfOk result (λ raised. EndsIn (performed (line_of line.entry) columns.now (steps_of operations.old) (held pile.old)).end raised (held pile.new)) }
-    ensures costs { steps.new ≤ raised steps.old (performed (line_of line.entry) columns.now (steps_of operations.old) (held pile.old)).cost }
+    requires printable { All IsPrintable stack.old.values.items }
+    ensures finds { IfOk result (λ raised. EndsIn (performed (line_of line.entry) columns.now (steps_of operations.old) (held stack.old)).end raised (held stack.new)) }
+    ensures costs { steps.new ≤ raised steps.old (performed (line_of line.entry) columns.now (steps_of operations.old) (held stack.old)).cost }
     ensures steps { steps_of operations.new ≡ steps_of operations.old }
-    ensures printable { All IsPrintable pile.new.values.items }
+    ensures printable { All IsPrintable stack.new.values.items }
 {
     for operation in operations.iter_mut() {
-        if let Some(state) = operation.perform(alloc, line, columns, pile, steps)? {
+        if let Some(state) = operation.perform(alloc, line, columns, stack, steps)? {
             return Ok(Some(state));
         }
     }
@@ -49,41 +49,41 @@ pub(crate) fn find<'d, L: Ledger>(
 }
 
 impl<'d> Operation<'d> {
-    // Performs the operation on a pile, and gives the state that it raises, if it does.
+    // Performs the operation on a stack, and gives the state that it raises, if it does.
     fn perform<L: Ledger>(
         &mut self,
         alloc: Global,
         line: LineDoc<'d>,
         columns: &[SqlValue],
-        pile: &mut Pile,
+        stack: &mut Stack,
         steps: &mut Steps<L>,
     ) -> Result<Option<State>, Memory>
         requires columns { All IsPrintable columns.now }
         requires given { CanBeGiven (step_of self.old) }
-        requires printable { All IsPrintable pile.old.values.items }
-        ensures does { IfOk result (λ raised. EndsIn (done (line_of line.entry) columns.now (step_of self.old) (held pile.old)) raised (held pile.new)) }
+        requires printable { All IsPrintable stack.old.values.items }
+        ensures does { IfOk result (λ raised. EndsIn (done (line_of line.entry) columns.now (step_of self.old) (held stack.old)) raised (held stack.new)) }
         ensures costs { steps.new ≤ raised steps.old (step_cost (line_of line.entry) columns.now (step_of self.old)) }
         ensures step { step_of self.new ≡ step_of self.old }
-        ensures printable { All IsPrintable pile.new.values.items }
+        ensures printable { All IsPrintable stack.new.values.items }
     {
         match self {
-            Operation::Literal(literal) => pile.put(literal_outcome(alloc, literal)?),
-            Operation::Column(number) => pile.put(column_outcome(alloc, columns, *number)?),
-            Operation::Exists(call) => pile.put(call.outcome(line.context(), steps)),
-            Operation::Value(call) => pile.put(call.outcome(alloc, line.context(), steps)?),
-            Operation::Query(call) => pile.put(call.outcome(alloc, line.context(), steps)?),
-            Operation::IsJson(call) => pile.put(is_json_outcome(alloc, line.doc(), *call)?),
+            Operation::Literal(literal) => stack.put(literal_outcome(alloc, literal)?),
+            Operation::Column(number) => stack.put(column_outcome(alloc, columns, *number)?),
+            Operation::Exists(call) => stack.put(call.outcome(line.context(), steps)),
+            Operation::Value(call) => stack.put(call.outcome(alloc, line.context(), steps)?),
+            Operation::Query(call) => stack.put(call.outcome(alloc, line.context(), steps)?),
+            Operation::IsJson(call) => stack.put(is_json_outcome(alloc, line.doc(), *call)?),
             Operation::Member => {
-                pile.pair()?;
+                stack.pair()?;
                 Ok(None)
             }
             Operation::Object(count, nulls, unique) => {
-                let outcome = pile.object(alloc, *count, *nulls, *unique)?;
-                pile.put(outcome)
+                let outcome = stack.object(alloc, *count, *nulls, *unique)?;
+                stack.put(outcome)
             }
             Operation::Array(count, nulls) => {
-                let outcome = pile.array(alloc, *count, *nulls)?;
-                pile.put(outcome)
+                let outcome = stack.array(alloc, *count, *nulls)?;
+                stack.put(outcome)
             }
         }
     }

@@ -14,7 +14,7 @@ use crate::build::operations_to;
 use crate::find::find;
 use crate::line::LineDoc;
 use crate::operation::Operation;
-use crate::pile::Pile;
+use crate::stack::Stack;
 use sj_base::{Ledger, Memory, Steps};
 use sj_bind::BoundValue;
 use sj_func::Outcome;
@@ -42,7 +42,7 @@ impl<'d> Finder<'d> {
         Ok(Finder { value, operations })
     }
 
-    /// The value for a line, beside columns with these values, or the state that it raises. The pile is used meanwhile.
+    /// The value for a line, beside columns with these values, or the state that it raises. The stack is used meanwhile.
     ///
     /// # Errors
     /// [`Memory`] where memory runs out. What is said of the counter holds then too.
@@ -51,7 +51,7 @@ impl<'d> Finder<'d> {
         alloc: Global,
         line: LineDoc<'d>,
         columns: &[SqlValue],
-        pile: &mut Pile,
+        stack: &mut Stack,
         steps: &mut Steps<L>,
     ) -> Result<Outcome, Memory>
         requires ready { IsFinder self.old }
@@ -61,14 +61,14 @@ impl<'d> Finder<'d> {
         ensures costs { steps.new ≤ raised steps.old (cost (line_of line.entry) columns.now (value_of self.old.value.now)) }
         ensures value { self.new.value ≡ self.old.value }
         ensures ready { IsFinder self.new }
-        ensures pile { All IsPrintable pile.new.values.items }
+        ensures stack { All IsPrintable stack.new.values.items }
     {
-        pile.clear();
+        stack.clear();
         let operations = self.operations.as_mut_slice();
-        if let Some(state) = find(alloc, operations, line, columns, pile, steps)? {
+        if let Some(state) = find(alloc, operations, line, columns, stack, steps)? {
             return Ok(Outcome::Raised(state));
         }
-        match pile.values.pop() {
+        match stack.values.pop() {
             Some(value) => Ok(Outcome::Value(value)),
             None => unreachable!(),
         }

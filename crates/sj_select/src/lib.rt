@@ -22,9 +22,9 @@ mod find;
 mod finder;
 mod line;
 mod operation;
-mod pile;
 mod rows;
 mod source;
+mod stack;
 mod table;
 
 pub use line::LineDoc;

@@ -12,8 +12,8 @@ ghost use Rattle.sj_select.specs.Sources.{IsFor, IsReadySource, Finds, source_le
 ghost use Rattle.sj_select.specs.Stages.{left_at, due_at, turn_for, stage_behind, row_kept};
 
 use crate::line::LineDoc;
-use crate::pile::Pile;
 use crate::source::{Found, RowSource};
+use crate::stack::Stack;
 use sj_base::{Ledger, Memory, State, Steps};
 use sj_bind::Bound;
 use sj_value::SqlValue;
@@ -77,7 +77,7 @@ impl Stage {
         steps: &mut Steps<L>,
     ) -> Result<Found, Memory>
         requires { IsReadySource source.old }
-        ensures finds { (s : b.Bound) → IsFor s source.old → IfOk result (λ found. Finds (left_at self (source_left s (line_of line.entry) source.old)) found source.new.pile.values.items (source_left s (line_of line.entry) source.new)) }
+        ensures finds { (s : b.Bound) → IsFor s source.old → IfOk result (λ found. Finds (left_at self (source_left s (line_of line.entry) source.old)) found source.new.stack.values.items (source_left s (line_of line.entry) source.new)) }
         ensures costs { (s : b.Bound) → IsFor s source.old → Spends (due_at self (source_due s (line_of line.entry) source.old)) (due_behind result (source_due s (line_of line.entry) source.new)) steps.old steps.new }
         ensures is_for { (s : b.Bound) → IsFor s source.old → IsFor s source.new }
         ensures ready { IsReadySource source.new }
@@ -91,14 +91,14 @@ impl Stage {
 }
 
 // Keeps the row that was found, or none behind an end.
-fn keep_row(found: Found, pile: &mut Pile)
-    requires { All IsPrintable pile.old.values.items }
-    ensures row { pile.new.values.items ≡ row_kept found pile.old.values.items }
-    ensures printable { All IsPrintable pile.new.values.items }
+fn keep_row(found: Found, stack: &mut Stack)
+    requires { All IsPrintable stack.old.values.items }
+    ensures row { stack.new.values.items ≡ row_kept found stack.old.values.items }
+    ensures printable { All IsPrintable stack.new.values.items }
 {
     match found {
         Found::Row | Found::LastRow => {}
-        Found::End | Found::Raised(_) => pile.clear(),
+        Found::End | Found::Raised(_) => stack.clear(),
     }
 }
 
@@ -143,7 +143,7 @@ impl<'d> Model for RowsOf<'d> {
     ghost use Rattle.sj_select.specs.Sources.{IsFor, IsReadySource, source_left, source_due};
     ghost use Rattle.sj_select.specs.Stages.{left_at, due_at};
 
-    ghost view = { λ r. record { bound = r.bound.now; line = line_of r.line; left = left_at r.stage (source_left (bound_of r.bound.now) (line_of r.line) r.source); row = r.source.pile.values.items; due = due_at r.stage (source_due (bound_of r.bound.now) (line_of r.line) r.source) } };
+    ghost view = { λ r. record { bound = r.bound.now; line = line_of r.line; left = left_at r.stage (source_left (bound_of r.bound.now) (line_of r.line) r.source); row = r.source.stack.values.items; due = due_at r.stage (source_due (bound_of r.bound.now) (line_of r.line) r.source) } };
 
     ghost invariant = { λ r. IsReadySource r.source × IsFor (bound_of r.bound.now) r.source };
 }
@@ -201,7 +201,7 @@ impl<'d> RowsOf<'d> {
         let stage = mem::replace(&mut self.stage, Stage::Ended);
         let found = stage.find(self.alloc, &mut self.source, self.line, steps)?;
         self.stage = Stage::behind(found);
-        keep_row(found, &mut self.source.pile);
+        keep_row(found, &mut self.source.stack);
         Ok(Turn::of(found))
     }
 
@@ -216,7 +216,7 @@ impl<'d> RowsOf<'d> {
         ensures bound { self.new.bound ≡ self.old.bound }
         ensures line { self.new.line ≡ self.old.line }
     {
-        mem::replace(&mut self.source.pile.values, Vec::new(self.alloc))
+        mem::replace(&mut self.source.stack.values, Vec::new(self.alloc))
     }
 
     /// Takes a row's vector back, so that the next row needs no memory of its own where it has room in it. Then no row is at hand; what
@@ -228,7 +228,7 @@ impl<'d> RowsOf<'d> {
         ensures bound { self.new.bound ≡ self.old.bound }
         ensures line { self.new.line ≡ self.old.line }
     {
-        self.source.pile.values = row;
-        self.source.pile.clear();
+        self.source.stack.values = row;
+        self.source.stack.clear();
     }
 }

@@ -22,7 +22,7 @@ use crate::build::operations_of;
 use crate::find::find;
 use crate::line::LineDoc;
 use crate::operation::Operation;
-use crate::pile::Pile;
+use crate::stack::Stack;
 use crate::table::TableRows;
 use sj_base::{Ledger, Memory, State, Steps};
 use sj_bind::Bound;
@@ -53,7 +53,7 @@ pub(crate) struct RowSource<'d> {
     /// The aggregates of the SELECT list.
     pub(crate) aggregates: Vec<Aggregate<'d>>,
     /// The values of the row that was found last.
-    pub(crate) pile: Pile,
+    pub(crate) stack: Stack,
 }
 
 impl<'d> RowSource<'d> {
@@ -74,7 +74,7 @@ impl<'d> RowSource<'d> {
             table,
             operations: operations_of(alloc, bound)?,
             aggregates: aggregates_of(alloc, bound.items.as_slice())?,
-            pile: Pile::new(alloc),
+            stack: Stack::new(alloc),
         })
     }
 
@@ -84,13 +84,13 @@ impl<'d> RowSource<'d> {
         ensures left { (s : b.Bound) → IsFor s self.old → source_left s (line_of line.entry) self.new ≡ statement_rows s (line_of line.entry) }
         ensures due { (s : b.Bound) → IsFor s self.old → source_due s (line_of line.entry) self.new ≡ statement_cost s (line_of line.entry) }
         ensures is_for { (s : b.Bound) → IsFor s self.old → IsFor s self.new }
-        ensures empty { self.new.pile.values.items ≡ [] }
+        ensures empty { self.new.stack.values.items ≡ [] }
         ensures ready { IsReadySource self.new }
     {
         if let Some(table) = &mut self.table {
             table.rewind(line.context());
         }
-        self.pile.clear();
+        self.stack.clear();
     }
 
     /// What comes next of the rows for a line, which is that of the last rewinding. The counter rises by no more than what may still be
@@ -105,20 +105,20 @@ impl<'d> RowSource<'d> {
         steps: &mut Steps<L>,
     ) -> Result<Found, Memory>
         requires { IsReadySource self.old }
-        ensures finds { (s : b.Bound) → IsFor s self.old → IfOk result (λ found. Finds (source_left s (line_of line.entry) self.old) found self.new.pile.values.items (source_left s (line_of line.entry) self.new)) }
+        ensures finds { (s : b.Bound) → IsFor s self.old → IfOk result (λ found. Finds (source_left s (line_of line.entry) self.old) found self.new.stack.values.items (source_left s (line_of line.entry) self.new)) }
         ensures costs { (s : b.Bound) → IsFor s self.old → Spends (source_due s (line_of line.entry) self.old) (due_behind result (source_due s (line_of line.entry) self.new)) steps.old steps.new }
         ensures is_for { (s : b.Bound) → IsFor s self.old → IsFor s self.new }
         ensures ready { IsReadySource self.new }
     {
         let operations = self.operations.as_mut_slice();
         let Some(table) = &mut self.table else {
-            return find_alone(alloc, operations, line, &mut self.pile, steps);
+            return find_alone(alloc, operations, line, &mut self.stack, steps);
         };
         if self.aggregates.is_empty() {
-            find_listed(alloc, table, operations, line, &mut self.pile, steps)
+            find_listed(alloc, table, operations, line, &mut self.stack, steps)
         } else {
             let aggregates = self.aggregates.as_mut_slice();
-            find_aggregated(alloc, table, aggregates, line, &mut self.pile, steps)
+            find_aggregated(alloc, table, aggregates, line, &mut self.stack, steps)
         }
     }
 }
@@ -130,20 +130,20 @@ fn find_list<'d, L: Ledger>(
     operations: &mut [Operation<'d>],
     line: LineDoc<'d>,
     columns: &[SqlValue],
-    pile: &mut Pile,
+    stack: &mut Stack,
     steps: &mut Steps<L>,
 ) -> Result<Option<State>, Memory>
     requires columns { All IsPrintable columns.now }
     requires given { All CanBeGiven (steps_of operations.old) }
     ensures finds { (list : List b.Value) → steps_of operations.old ≡ steps_to_all list →
-        IfOk result (λ raised. Gathers (given_list (line_of line.entry) columns.now list) raised pile.new.values.items) }
+        IfOk result (λ raised. Gathers (given_list (line_of line.entry) columns.now list) raised stack.new.values.items) }
     ensures costs { (list : List b.Value) → steps_of operations.old ≡ steps_to_all list →
         steps.new ≤ raised steps.old (list_cost (line_of line.entry) columns.now list) }
     ensures steps { steps_of operations.new ≡ steps_of operations.old }
-    ensures printable { All IsPrintable pile.new.values.items }
+    ensures printable { All IsPrintable stack.new.values.items }
 {
-    pile.clear();
-    find(alloc, operations, line, columns, pile, steps)
+    stack.clear();
+    find(alloc, operations, line, columns, stack, steps)
 }
 
 // The row of a statement without a table.
@@ -151,18 +151,18 @@ fn find_alone<'d, L: Ledger>(
     alloc: Global,
     operations: &mut [Operation<'d>],
     line: LineDoc<'d>,
-    pile: &mut Pile,
+    stack: &mut Stack,
     steps: &mut Steps<L>,
 ) -> Result<Found, Memory>
     requires { All CanBeGiven (steps_of operations.old) }
     ensures finds { (list : List b.Value) (left : StatementRows) → steps_of operations.old ≡ steps_to_all list →
-        IfOk result (λ found. Finds (one_row (given_list (line_of line.entry) [] list)) found pile.new.values.items left) }
+        IfOk result (λ found. Finds (one_row (given_list (line_of line.entry) [] list)) found stack.new.values.items left) }
     ensures costs { (list : List b.Value) (due : ℕ) → steps_of operations.old ≡ steps_to_all list →
         Spends (list_cost (line_of line.entry) [] list) (due_behind result due) steps.old steps.new }
     ensures steps { steps_of operations.new ≡ steps_of operations.old }
-    ensures printable { All IsPrintable pile.new.values.items }
+    ensures printable { All IsPrintable stack.new.values.items }
 {
-    match find_list(alloc, operations, line, &[], pile, steps)? {
+    match find_list(alloc, operations, line, &[], stack, steps)? {
         None => Ok(Found::LastRow),
         Some(state) => Ok(Found::Raised(state)),
     }
@@ -174,22 +174,22 @@ fn find_listed<'d, L: Ledger>(
     table: &mut TableRows<'d>,
     operations: &mut [Operation<'d>],
     line: LineDoc<'d>,
-    pile: &mut Pile,
+    stack: &mut Stack,
     steps: &mut Steps<L>,
 ) -> Result<Found, Memory>
     requires placed { IsPlaced table.old }
     requires given { All CanBeGiven (steps_of operations.old) }
     ensures finds { (list : List b.Value) → steps_of operations.old ≡ steps_to_all list →
-        IfOk result (λ found. Finds (listed (line_of line.entry) (table_of table.old.table.now) list (plan_left table.old)) found pile.new.values.items
+        IfOk result (λ found. Finds (listed (line_of line.entry) (table_of table.old.table.now) list (plan_left table.old)) found stack.new.values.items
         (listed (line_of line.entry) (table_of table.old.table.now) list (plan_left table.new))) }
     ensures costs { (list : List b.Value) → steps_of operations.old ≡ steps_to_all list →
         Spends (listed_due (line_of line.entry) list table.old) (due_behind result (listed_due (line_of line.entry) list table.new)) steps.old steps.new }
     ensures steps { steps_of operations.new ≡ steps_of operations.old }
-    ensures printable { All IsPrintable pile.new.values.items }
+    ensures printable { All IsPrintable stack.new.values.items }
     ensures table { table.new.table ≡ table.old.table }
     ensures placed { IsPlaced table.new }
 {
-    pile.clear();
+    stack.clear();
     match table.next_row(steps) {
         RowPull::Row => {}
         RowPull::End => return Ok(Found::End),
@@ -198,7 +198,7 @@ fn find_listed<'d, L: Ledger>(
     if let Some(state) = table.fill(alloc, steps)? {
         return Ok(Found::Raised(state));
     }
-    match find_list(alloc, operations, line, table.values(), pile, steps)? {
+    match find_list(alloc, operations, line, table.values(), stack, steps)? {
         None => Ok(Found::Row),
         Some(state) => Ok(Found::Raised(state)),
     }
@@ -210,24 +210,24 @@ fn find_aggregated<'d, L: Ledger>(
     table: &mut TableRows<'d>,
     aggregates: &mut [Aggregate<'d>],
     line: LineDoc<'d>,
-    pile: &mut Pile,
+    stack: &mut Stack,
     steps: &mut Steps<L>,
 ) -> Result<Found, Memory>
     requires placed { IsPlaced table.old }
     requires ready { All IsReady aggregates.old }
-    ensures finds { (left : StatementRows) → IfOk result (λ found. Finds (aggregated (line_of line.entry) (table_of table.old.table.now) (map aggregate_of aggregates.old) [] (plan_left table.old)) found pile.new.values.items left) }
+    ensures finds { (left : StatementRows) → IfOk result (λ found. Finds (aggregated (line_of line.entry) (table_of table.old.table.now) (map aggregate_of aggregates.old) [] (plan_left table.old)) found stack.new.values.items left) }
     ensures costs { (due : ℕ) → Spends (plan_due table.old + aggregated_cost (line_of line.entry) (table_of table.old.table.now) (map aggregate_of aggregates.old) [] (plan_left table.old)) (due_behind result due) steps.old steps.new }
     ensures calls { map aggregate_of aggregates.new ≡ map aggregate_of aggregates.old }
     ensures ready { All IsReady aggregates.new }
-    ensures printable { All IsPrintable pile.new.values.items }
+    ensures printable { All IsPrintable stack.new.values.items }
     ensures table { table.new.table ≡ table.old.table }
     ensures placed { IsPlaced table.new }
 {
     begin_all(alloc, aggregates);
-    if let Some(state) = take_rows(alloc, table, aggregates, line, pile, steps)? {
+    if let Some(state) = take_rows(alloc, table, aggregates, line, stack, steps)? {
         return Ok(Found::Raised(state));
     }
-    finish_all(alloc, aggregates, &mut pile.values)?;
+    finish_all(alloc, aggregates, &mut stack.values)?;
     Ok(Found::LastRow)
 }
 
@@ -237,7 +237,7 @@ fn take_rows<'d, L: Ledger>(
     table: &mut TableRows<'d>,
     aggregates: &mut [Aggregate<'d>],
     line: LineDoc<'d>,
-    pile: &mut Pile,
+    stack: &mut Stack,
     steps: &mut Steps<L>,
 ) -> Result<Option<State>, Memory>
     requires placed { IsPlaced table.old }
@@ -247,18 +247,18 @@ fn take_rows<'d, L: Ledger>(
     ensures costs { steps.new ≤ raised steps.old (plan_due table.old + aggregated_cost (line_of line.entry) (table_of table.old.table.now) (map aggregate_of aggregates.old) [] (plan_left table.old)) }
     ensures calls { map aggregate_of aggregates.new ≡ map aggregate_of aggregates.old }
     ensures ready { All IsReady aggregates.new }
-    ensures printable { All IsPrintable pile.new.values.items }
+    ensures printable { All IsPrintable stack.new.values.items }
     ensures table { table.new.table ≡ table.old.table }
     ensures placed { IsPlaced table.new }
 {
-    pile.clear();
+    stack.clear();
     'rows: loop {
         match table.next_row(steps) {
             RowPull::Row => {}
             RowPull::End => return Ok(None),
             RowPull::Raised(state) => return Ok(Some(state)),
         }
-        if let Some(state) = take_row(alloc, table, aggregates, line, pile, steps)? {
+        if let Some(state) = take_row(alloc, table, aggregates, line, stack, steps)? {
             return Ok(Some(state));
         }
     }
@@ -270,19 +270,19 @@ fn take_row<'d, L: Ledger>(
     table: &mut TableRows<'d>,
     aggregates: &mut [Aggregate<'d>],
     line: LineDoc<'d>,
-    pile: &mut Pile,
+    stack: &mut Stack,
     steps: &mut Steps<L>,
 ) -> Result<Option<State>, Memory>
     requires placed { IsPlaced table.old }
     requires ready { All IsReady aggregates.old }
-    requires printable { All IsPrintable pile.old.values.items }
+    requires printable { All IsPrintable stack.old.values.items }
     ensures takes { (before : List (List Value)) → All (HasTaken (line_of line.entry) before) aggregates.old →
         IfOk result (λ raised. TakesRow (line_of line.entry) (table_of table.old.table.now) table.old.cursor.given before aggregates.old aggregates.new raised) }
     ensures costs { (before : List (List Value)) → All (HasTaken (line_of line.entry) before) aggregates.old →
         steps.new ≤ raised steps.old (taken_cost (line_of line.entry) (table_of table.old.table.now) (map aggregate_of aggregates.old) before table.old.cursor.given) }
     ensures calls { map aggregate_of aggregates.new ≡ map aggregate_of aggregates.old }
     ensures ready { All IsReady aggregates.new }
-    ensures printable { All IsPrintable pile.new.values.items }
+    ensures printable { All IsPrintable stack.new.values.items }
     ensures left { plan_left table.new ≡ plan_left table.old }
     ensures due { plan_due table.new ≡ plan_due table.old }
     ensures table { table.new.table ≡ table.old.table }
@@ -291,5 +291,5 @@ fn take_row<'d, L: Ledger>(
     if let Some(state) = table.fill(alloc, steps)? {
         return Ok(Some(state));
     }
-    take_all(alloc, aggregates, line, table.values(), pile, steps)
+    take_all(alloc, aggregates, line, table.values(), stack, steps)
 }

@@ -7,7 +7,7 @@ use Rattle.sj_statement.specs.Tree.{Value, MoreValues, NoValues, MoreMembers, No
 use Rattle.sj_statement.specs.Faults.{Faults, parsing}
 use Rattle.sj_statement.specs.Phrases.{Tokens, if_some, comma_at, passed_at}
 use Rattle.sj_statement.specs.Reading.{list_from, values_from, member_at, members_from, column_at, columns_from, items_from}
-use Rattle.sj_statement.proofs.Words.{bind_is, bind_none, some_on, none_on}
+use Rattle.sj_statement.proofs.ReadTokens.{bind_is, bind_none, some_on, none_on}
 use Rattle.sj_sql.specs.declared.refusal.Refusal.{Refusal}
 use Rattle.sj_sql.specs.declared.refusal.Refusal.TheVariants as refusal
 use Rattle.sj_sql.specs.declared.tree.SValue.{SValue}

@@ -13,7 +13,7 @@ use Rattle.sj_sql.specs.declared.refusal.Refusal.{Refusal}
 use Rattle.sj_sql.specs.Gives.{Fails}
 
 abbrev pub faults_of : Faults → f.Faults
-faults_of x = record { path = x.path; lack = x.lack }
+faults_of x = record { path = x.path; unsupported = x.unsupported }
 
 -- this is the path of a path as it is written, and what is noted behind it
 pub record IsNoted (text : PathText) (before : f.Faults) (path : g.Path) (after : f.Faults) : Type 0 where

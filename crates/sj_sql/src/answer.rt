@@ -30,7 +30,7 @@ pub fn answer(alloc: Global, tokens: Tokens<'_>) -> Result<Statement, Refused>
     match select(alloc, tokens) {
         Ok((statement, faults)) => match faults.path {
             Some(fault) => Err(Refused::For(fault)),
-            None => match faults.lack {
+            None => match faults.unsupported {
                 Some(name) => Err(Refused::For(FileKind::Unsupported(name))),
                 None => Ok(statement),
             },

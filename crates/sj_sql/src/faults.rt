@@ -16,7 +16,7 @@ pub struct Faults {
     /// Why a path text is refused, unless this implementation lacks a part of it.
     pub path: Option<FileKind>,
     /// What this implementation lacks.
-    pub lack: Option<Name>,
+    pub unsupported: Option<Name>,
 }
 
 impl Faults {
@@ -26,7 +26,7 @@ impl Faults {
     {
         Faults {
             path: None,
-            lack: None,
+            unsupported: None,
         }
     }
 
@@ -37,19 +37,19 @@ impl Faults {
             Some(_) => self,
             None => Faults {
                 path: Some(fault),
-                lack: self.lack,
+                unsupported: self.unsupported,
             },
         }
     }
 
-    fn with_lack(self, name: Name) -> Faults
-        ensures { faults_of result ≡ spec.noting_lack name (faults_of self) }
+    fn with_unsupported(self, name: Name) -> Faults
+        ensures { faults_of result ≡ spec.noting_unsupported name (faults_of self) }
     {
-        match self.lack {
+        match self.unsupported {
             Some(_) => self,
             None => Faults {
                 path: self.path,
-                lack: Some(name),
+                unsupported: Some(name),
             },
         }
     }
@@ -60,7 +60,7 @@ impl Faults {
     {
         match encoding {
             Encoding::Read => self,
-            Encoding::Refused => self.with_lack(Name::Encoding),
+            Encoding::Refused => self.with_unsupported(Name::Encoding),
         }
     }
 
@@ -70,8 +70,8 @@ impl Faults {
     {
         match ty {
             TypeName::Known(_) => self,
-            TypeName::Approximate => self.with_lack(Name::ApproximateType),
-            TypeName::Datetime => self.with_lack(Name::DatetimeType),
+            TypeName::Approximate => self.with_unsupported(Name::ApproximateType),
+            TypeName::Datetime => self.with_unsupported(Name::DatetimeType),
         }
     }
 
@@ -85,7 +85,7 @@ impl Faults {
             PathRefusal::TooDeep => Ok(self.with_fault(FileKind::PathTooDeep)),
             PathRefusal::Syntax => Ok(self.with_fault(FileKind::PathSyntax)),
             PathRefusal::Misplaced => Ok(self.with_fault(FileKind::PathMisplaced)),
-            PathRefusal::Unsupported(name) => Ok(self.with_lack(name)),
+            PathRefusal::Unsupported(name) => Ok(self.with_unsupported(name)),
             PathRefusal::Memory => Err(Memory),
         }
     }

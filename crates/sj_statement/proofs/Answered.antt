@@ -62,15 +62,15 @@ abbrev HasAnswer : Tokens → Type 0
 HasAnswer ts = (a : Result (Statement Path) FileKind) × IsAnswer ts a
 
 -- where the tokens are not too deep, what is noted of their tree decides
-by_notes : (ts : Tokens) (s : Statement Path) (f : Faults) (fault : Option FileKind) (lack : Option Name) → (IsTooDeep ts → ⊥) → select_at parsing nothing_noted ts ≡ Some (s, f)
-    → f.path ≡ fault → f.lack ≡ lack → HasAnswer ts
-by_notes ts s f (Some k) lack shallow h e l = (Err k, path_fault ts s f k shallow h e)
+by_notes : (ts : Tokens) (s : Statement Path) (f : Faults) (fault : Option FileKind) (unsupported : Option Name) → (IsTooDeep ts → ⊥) → select_at parsing nothing_noted ts ≡ Some (s, f)
+    → f.path ≡ fault → f.unsupported ≡ unsupported → HasAnswer ts
+by_notes ts s f (Some k) unsupported shallow h e l = (Err k, path_fault ts s f k shallow h e)
 by_notes ts s f None (Some name) shallow h e l = (Err (kind.Unsupported name), lacking ts s f name shallow h e l)
 by_notes ts s f None None shallow h e l = (Ok s, clean ts s f shallow h e l)
 
 by_reading : (ts : Tokens) (o : Option (Statement Path × Faults)) → (IsTooDeep ts → ⊥) → select_at parsing nothing_noted ts ≡ o → HasAnswer ts
 by_reading ts None shallow h = (Err kind.Syntax, no_tree ts h)
-by_reading ts (Some x) shallow h = by_notes ts x.0 x.1 (x.1).path (x.1).lack shallow h refl refl
+by_reading ts (Some x) shallow h = by_notes ts x.0 x.1 (x.1).path (x.1).unsupported shallow h refl refl
 
 pub some_answer : (ts : Tokens) → (a : Result (Statement Path) FileKind) × IsAnswer ts a
 some_answer ts = elim (deep_within ts (length ts)) [

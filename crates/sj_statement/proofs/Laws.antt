@@ -4,9 +4,9 @@ use Rattle.sj_statement.specs.Tree.{PathText, Value, Lit, Column, Exists, ValueO
 use Rattle.sj_statement.specs.Phrases.{Tokens}
 use Rattle.sj_statement.specs.Grammar.{IsSelect, IsStatement}
 use Rattle.sj_statement.specs.Notes.{written, value_with, values_with, members_with, item_with, column_with, columns_with, table_with, plain_with, items_with, statement_with}
-use Rattle.sj_statement.proofs.Words.{some_is}
-use Rattle.sj_statement.proofs.FullTables.{select_full}
-use Rattle.sj_statement.proofs.Found.{read}
+use Rattle.sj_statement.proofs.ReadTokens.{some_is}
+use Rattle.sj_statement.proofs.TableCompleteness.{select_full}
+use Rattle.sj_statement.proofs.ReadingFinds.{read}
 use Rattle.sj_statement.specs.Reading.{select_at}
 
 mutual

@@ -7,12 +7,12 @@ use Rattle.sj_statement.specs.declared.clauses.TypeName.TheVariants.{Known, Appr
 use Rattle.sj_grammar.specs.declared.refusal.Name.TheVariants as name
 use Rattle.sj_statement.specs.Tree.{PathText, Common, Value, Lit, Column, Exists, ValueOf, Query, IsJson, Object, Array, Values, NoValues, MoreValues, Members, NoMembers, MoreMembers, Item, Single, ArrayAgg, ObjectAgg, ColumnOf, Ordinality, Regular, Formatted, Existence, Nested, Columns, Last, More, Table, Statement, Plain, All, Listed}
 use Rattle.sj_statement.specs.Notes.{Notes, note_encoding, note_type, note_common, note_value, note_values, note_members, note_item, note_column, note_columns, note_table, note_plain, note_items, note_statement}
-use Rattle.sj_statement.specs.Answers.{Mark, path, lack, listing, marks}
+use Rattle.sj_statement.specs.Answers.{Mark, path, unsupported, listing, marks}
 
 module _ {P F : Type 0} (n : Notes P F) where
   abbrev pub see : Mark → F → F
   see (path p) f = n.see_path p f
-  see (lack x) f = n.see_lack x f
+  see (unsupported x) f = n.see_unsupported x f
 
   abbrev pub seen : List Mark → F → F
   seen [] f = f
@@ -24,12 +24,12 @@ module _ {P F : Type 0} (n : Notes P F) where
 
   encoding_seen : (x : Encoding) (ms : List Mark) (f : F) → note_encoding n x (seen ms f) ≡ seen (note_encoding listing x ms) f
   encoding_seen Read ms f = refl
-  encoding_seen Refused ms f = seen_last ms (lack name.Encoding) f
+  encoding_seen Refused ms f = seen_last ms (unsupported name.Encoding) f
 
   type_seen : (x : TypeName) (ms : List Mark) (f : F) → note_type n x (seen ms f) ≡ seen (note_type listing x ms) f
   type_seen (Known ty) ms f = refl
-  type_seen Approximate ms f = seen_last ms (lack name.ApproximateType) f
-  type_seen Datetime ms f = seen_last ms (lack name.DatetimeType) f
+  type_seen Approximate ms f = seen_last ms (unsupported name.ApproximateType) f
+  type_seen Datetime ms f = seen_last ms (unsupported name.DatetimeType) f
 
   common_seen : (x : Common PathText) (ms : List Mark) (f : F) → note_common n x (seen ms f) ≡ seen (note_common listing x ms) f
   common_seen x ms f = ap (n.see_path x.path) (encoding_seen x.encoding ms f) ∙ seen_last (note_encoding listing x.encoding ms) (path x.path) f

@@ -18,7 +18,7 @@ use Rattle.sj_grammar.proofs.Paths.{path_full, path_sound}
 use Rattle.sj_grammar.proofs.Acceptance.{too_deep_found, too_deep_missed, accepted_is}
 use Rattle.sj_grammar.proofs.Laws as laws
 use Rattle.sj_statement.specs.PathAnswers.{if_supported, if_spelled, of_tokens, path_answer}
-use Rattle.sj_statement.proofs.Words.{some_is}
+use Rattle.sj_statement.proofs.ReadTokens.{some_is}
 
 -- ---- what is answered holds
 

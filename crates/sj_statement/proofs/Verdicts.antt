@@ -11,14 +11,14 @@ use Rattle.sj_statement.specs.Phrases.{Tokens}
 use Rattle.sj_statement.specs.Grammar.{IsTooDeep, IsStatement}
 use Rattle.sj_statement.specs.Notes.{Notes, written, value_with, values_with, members_with, item_with, column_with, columns_with, table_with, plain_with, items_with, statement_with, note_statement}
 use Rattle.sj_statement.specs.Reading.{select_at}
-use Rattle.sj_statement.specs.Answers.{Mark, path, lack, marks, path_kind, IsFault, Lacks, First, here, later, finishing, Clean, Accepted, Forbids, IsAnswer}
+use Rattle.sj_statement.specs.Answers.{Mark, path, unsupported, marks, path_kind, IsFault, IsUnsupported, First, here, later, finishing, Clean, Accepted, Forbids, IsAnswer}
 use Rattle.sj_statement.specs.Faults.{Faults, nothing_noted, parsing}
-use Rattle.sj_statement.proofs.Words.{some_is}
-use Rattle.sj_statement.proofs.FullTables.{select_full}
-use Rattle.sj_statement.proofs.Found.{read, unread}
+use Rattle.sj_statement.proofs.ReadTokens.{some_is}
+use Rattle.sj_statement.proofs.TableCompleteness.{select_full}
+use Rattle.sj_statement.proofs.ReadingFinds.{read, unread}
 use Rattle.sj_statement.proofs.Laws.{one_tree, found}
 use Rattle.sj_statement.proofs.Firsts.{none_some, first, free_first, is_first}
-use Rattle.sj_statement.proofs.Faults.{fault_of, lack_of, tells_fault, told_fault, tells_lack, told_lack, noted_of, first_fault, no_fault, first_lack, no_lack}
+use Rattle.sj_statement.proofs.Faults.{fault_of, unsupported_of, tells_fault, told_fault, tells_unsupported, told_unsupported, noted_of, first_fault, no_fault, first_unsupported, no_unsupported}
 
 -- ---- reading with notes
 
@@ -112,7 +112,7 @@ refusal_kind r.Memory k h = absurd (none_some h)
 mark_kind : (m : Mark) (k : FileKind) → IsFault m k → IsPathKind k
 mark_kind (path (Written text)) k i = refusal_kind i.0 k i.2
 mark_kind (path (OfName name)) k i = absurd i
-mark_kind (lack name) k i = absurd i
+mark_kind (unsupported name) k i = absurd i
 
 first_kind : {ms : List Mark} {k : FileKind} → First IsFault ms k → IsPathKind k
 first_kind (here {m = m} {x = k} i) = mark_kind m k i
@@ -155,8 +155,8 @@ read_so ts s f shallow h =
 path_noted : (x : Statement PathText) (f : Faults) (o : Option FileKind) → noted_of x ≡ f → f.path ≡ o → (noted_of x).path ≡ o
 path_noted x f o e h = ap (λ (g : Faults). g.path) e ∙ h
 
-lack_noted : (x : Statement PathText) (f : Faults) (o : Option Name) → noted_of x ≡ f → f.lack ≡ o → (noted_of x).lack ≡ o
-lack_noted x f o e h = ap (λ (g : Faults). g.lack) e ∙ h
+unsupported_noted : (x : Statement PathText) (f : Faults) (o : Option Name) → noted_of x ≡ f → f.unsupported ≡ o → (noted_of x).unsupported ≡ o
+unsupported_noted x f o e h = ap (λ (g : Faults). g.unsupported) e ∙ h
 
 pub path_fault : (ts : Tokens) (s : Statement Path) (f : Faults) (k : FileKind) → (IsTooDeep ts → ⊥) → select_at parsing nothing_noted ts ≡ Some (s, f) → f.path ≡ Some k → Forbids ts k
 path_fault ts s f k shallow h e =
@@ -164,18 +164,18 @@ path_fault ts s f k shallow h e =
     let i = (first_fault t.tree k).0 (path_noted t.tree f (Some k) t.faults e) in
     by_path ts t.tree k t.spelled i (first_kind i)
 
-pub lacking : (ts : Tokens) (s : Statement Path) (f : Faults) (name : Name) → (IsTooDeep ts → ⊥) → select_at parsing nothing_noted ts ≡ Some (s, f) → f.path ≡ None → f.lack ≡ Some name → Forbids ts (kind.Unsupported name)
+pub lacking : (ts : Tokens) (s : Statement Path) (f : Faults) (name : Name) → (IsTooDeep ts → ⊥) → select_at parsing nothing_noted ts ≡ Some (s, f) → f.path ≡ None → f.unsupported ≡ Some name → Forbids ts (kind.Unsupported name)
 lacking ts s f name shallow h e l =
     let t = read_so ts s f shallow h in
-    (t.tree, t.spelled, (no_fault t.tree).0 (path_noted t.tree f None t.faults e), (first_lack t.tree name).0 (lack_noted t.tree f (Some name) t.faults l))
+    (t.tree, t.spelled, (no_fault t.tree).0 (path_noted t.tree f None t.faults e), (first_unsupported t.tree name).0 (unsupported_noted t.tree f (Some name) t.faults l))
 
-pub clean : (ts : Tokens) (s : Statement Path) (f : Faults) → (IsTooDeep ts → ⊥) → select_at parsing nothing_noted ts ≡ Some (s, f) → f.path ≡ None → f.lack ≡ None → Accepted ts s
+pub clean : (ts : Tokens) (s : Statement Path) (f : Faults) → (IsTooDeep ts → ⊥) → select_at parsing nothing_noted ts ≡ Some (s, f) → f.path ≡ None → f.unsupported ≡ None → Accepted ts s
 clean ts s f shallow h e l =
     let t = read_so ts s f shallow h in
     let is : Clean ts t.tree = record {
       tree = t.spelled;
       faultless = (no_fault t.tree).0 (path_noted t.tree f None t.faults e);
-      supported = (no_lack t.tree).0 (lack_noted t.tree f None t.faults l);
+      supported = (no_unsupported t.tree).0 (unsupported_noted t.tree f None t.faults l);
     } in
     (t.tree, is, t.statement)
 
@@ -187,20 +187,20 @@ decide None (Some name) s = Err (kind.Unsupported name)
 decide None None s = Ok s
 
 abbrev verdict : Statement PathText → Result (Statement Path) FileKind
-verdict x = decide (first fault_of (marks x)) (first lack_of (marks x)) (statement_with finishing x)
+verdict x = decide (first fault_of (marks x)) (first unsupported_of (marks x)) (statement_with finishing x)
 
 -- there is no tree, or the answer is that of the tree
 abbrev Shape : Tokens → Result (Statement Path) FileKind → Type 0
 Shape ts a = ((a ≡ Err kind.Syntax) × ((x : Statement PathText) → IsStatement ts x → ⊥)) ⊎ ((x : Statement PathText) × IsStatement ts x × (a ≡ verdict x))
 
 fault_shape : (ts : Tokens) (k : FileKind) (x : Statement PathText) → IsStatement ts x → First IsFault (marks x) k → Shape ts (Err k)
-fault_shape ts k x d i = inr (x, d, ap (λ (o : Option FileKind). decide o (first lack_of (marks x)) (statement_with finishing x)) (sym (is_first fault_of IsFault tells_fault told_fault i)))
+fault_shape ts k x d i = inr (x, d, ap (λ (o : Option FileKind). decide o (first unsupported_of (marks x)) (statement_with finishing x)) (sym (is_first fault_of IsFault tells_fault told_fault i)))
 
 shape : (ts : Tokens) (a : Result (Statement Path) FileKind) → IsAnswer ts a → Shape ts a
 shape ts (Ok s) h =
     let x = h.0 in
     let f : first fault_of (marks x) ≡ None = free_first fault_of IsFault tells_fault told_fault h.1.faultless in
-    let l : first lack_of (marks x) ≡ None = free_first lack_of Lacks tells_lack told_lack h.1.supported in
+    let l : first unsupported_of (marks x) ≡ None = free_first unsupported_of IsUnsupported tells_unsupported told_unsupported h.1.supported in
     inr (x, h.1.tree, ap Ok h.2 ∙ ap₂ (λ (o : Option FileKind) (p : Option Name). decide o p (statement_with finishing x)) (sym f) (sym l))
 shape ts (Err kind.Lex) h = absurd h
 shape ts (Err kind.Syntax) h = inl (refl, h)
@@ -211,7 +211,7 @@ shape ts (Err kind.PathMisplaced) h = fault_shape ts kind.PathMisplaced h.0 h.1 
 shape ts (Err (kind.Unsupported name)) h =
     let x = h.0 in
     let f : first fault_of (marks x) ≡ None = free_first fault_of IsFault tells_fault told_fault h.2 in
-    let l : first lack_of (marks x) ≡ Some name = is_first lack_of Lacks tells_lack told_lack h.3 in
+    let l : first unsupported_of (marks x) ≡ Some name = is_first unsupported_of IsUnsupported tells_unsupported told_unsupported h.3 in
     inr (x, h.1, ap₂ (λ (o : Option FileKind) (p : Option Name). decide o p (statement_with finishing x)) (sym f) (sym l))
 shape ts (Err (kind.Bind why)) h = absurd h
 

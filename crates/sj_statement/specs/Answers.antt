@@ -53,10 +53,10 @@ pieces (next t more) = before t (pieces more).statements (pieces more).ending
 -- a path, or a type or an encoding that this implementation lacks
 pub data Mark : Type 0 where
   path : PathText → Mark
-  lack : Name → Mark
+  unsupported : Name → Mark
 
 abbrev pub listing : Notes PathText (List Mark)
-listing = record { path_of = λ p. p; see_path = λ p f. f ++ path p ∷ []; see_lack = λ name f. f ++ lack name ∷ [] }
+listing = record { path_of = λ p. p; see_path = λ p f. f ++ path p ∷ []; see_unsupported = λ name f. f ++ unsupported name ∷ [] }
 
 -- the marks of a tree, in the order of the text
 abbrev pub marks : Statement PathText → List Mark
@@ -73,13 +73,13 @@ path_kind _ = None
 abbrev pub IsFault : Mark → FileKind → Type 0
 IsFault (path (Written text)) x = (refusal : PathRefusal) × Refuses text refusal × (path_kind refusal ≡ Some x)
 IsFault (path (OfName name)) x = ⊥
-IsFault (lack name) x = ⊥
+IsFault (unsupported name) x = ⊥
 
 -- this implementation lacks a part of it
-abbrev pub Lacks : Mark → Name → Type 0
-Lacks (path (Written text)) x = Refuses text (r.Unsupported x)
-Lacks (path (OfName name)) x = ⊥
-Lacks (lack name) x = name ≡ x
+abbrev pub IsUnsupported : Mark → Name → Type 0
+IsUnsupported (path (Written text)) x = Refuses text (r.Unsupported x)
+IsUnsupported (path (OfName name)) x = ⊥
+IsUnsupported (unsupported name) x = name ≡ x
 
 -- no mark is of this kind
 pub data Free {A : Type 0} (Is : Mark → A → Type 0) : List Mark → Type 0 where
@@ -104,13 +104,13 @@ path_of (OfName name) = record { mode = mode.Lax; expr = Access Root (Member nam
 
 -- nothing is noted
 abbrev pub finishing : Notes Path (Unit {0})
-finishing = record { path_of = path_of; see_path = λ p f. f; see_lack = λ name f. f }
+finishing = record { path_of = path_of; see_path = λ p f. f; see_unsupported = λ name f. f }
 
 -- the tokens spell this tree, and nothing in it is refused
 pub record Clean (ts : Tokens) (x : Statement PathText) : Type 0 where
   pub tree : IsStatement ts x
   pub faultless : Free IsFault (marks x)
-  pub supported : Free Lacks (marks x)
+  pub supported : Free IsUnsupported (marks x)
 
 -- the tokens are accepted as this statement, in which each path stands as its own tree
 abbrev pub Accepted : Tokens → Statement Path → Type 0
@@ -120,7 +120,7 @@ Accepted ts s = (x : Statement PathText) × Clean ts x × (s ≡ statement_with 
 abbrev pub Forbids : Tokens → FileKind → Type 0
 Forbids ts kind.Lex = ⊥
 Forbids ts kind.Syntax = (x : Statement PathText) → IsStatement ts x → ⊥
-Forbids ts (kind.Unsupported name) = (x : Statement PathText) × IsStatement ts x × Free IsFault (marks x) × First Lacks (marks x) name
+Forbids ts (kind.Unsupported name) = (x : Statement PathText) × IsStatement ts x × Free IsFault (marks x) × First IsUnsupported (marks x) name
 Forbids ts (kind.Bind why) = ⊥
 Forbids ts of_path = (x : Statement PathText) × IsStatement ts x × First IsFault (marks x) of_path
 

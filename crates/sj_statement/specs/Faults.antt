@@ -13,21 +13,21 @@ use Rattle.sj_statement.specs.PathAnswers.{path_answer}
 
 pub record Faults : Type 0 where
   pub path : Option FileKind
-  pub lack : Option Name
+  pub unsupported : Option Name
 
 abbrev pub nothing_noted : Faults
-nothing_noted = record { path = None; lack = None }
+nothing_noted = record { path = None; unsupported = None }
 
 -- what was noted first stays
 abbrev pub or_first : {A : Type 0} → Option A → A → Option A
 or_first None x = Some x
 or_first (Some y) x = Some y
 
-abbrev pub noting_lack : Name → Faults → Faults
-noting_lack name f = record { path = f.path; lack = or_first f.lack name }
+abbrev pub noting_unsupported : Name → Faults → Faults
+noting_unsupported name f = record { path = f.path; unsupported = or_first f.unsupported name }
 
 abbrev pub noting_fault : FileKind → Faults → Faults
-noting_fault fault f = record { path = or_first f.path fault; lack = f.lack }
+noting_fault fault f = record { path = or_first f.path fault; unsupported = f.unsupported }
 
 -- A refusal for a part that is lacking is no fault of the text; want of memory says nothing of it.
 abbrev pub noting_refusal : PathRefusal → Faults → Faults
@@ -35,7 +35,7 @@ noting_refusal r.Lex f = noting_fault kind.PathLex f
 noting_refusal r.TooDeep f = noting_fault kind.PathTooDeep f
 noting_refusal r.Syntax f = noting_fault kind.PathSyntax f
 noting_refusal r.Misplaced f = noting_fault kind.PathMisplaced f
-noting_refusal (r.Unsupported name) f = noting_lack name f
+noting_refusal (r.Unsupported name) f = noting_unsupported name f
 noting_refusal r.Memory f = f
 
 abbrev pub noting_answer : Result Path PathRefusal → Faults → Faults
@@ -49,4 +49,4 @@ noting_path (OfName name) f = f
 
 -- each path stands as its own tree, and what is noted is what may refuse the statement
 abbrev pub parsing : Notes Path Faults
-parsing = record { path_of = path_of; see_path = noting_path; see_lack = noting_lack }
+parsing = record { path_of = path_of; see_path = noting_path; see_unsupported = noting_unsupported }

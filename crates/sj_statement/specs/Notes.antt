@@ -1,7 +1,7 @@
 -- A tree with something else in the place of its written paths, and what is noted of a tree in the order of the text.
 use Rattle.std.specs.Prelude.{List, [], ◌∷◌}
 use Rattle.sj_grammar.specs.declared.refusal.Name.{Name}
-use Rattle.sj_grammar.specs.declared.refusal.Name.TheVariants as lack
+use Rattle.sj_grammar.specs.declared.refusal.Name.TheVariants as unsupported
 use Rattle.sj_statement.specs.declared.clauses.Encoding.{Encoding}
 use Rattle.sj_statement.specs.declared.clauses.Encoding.TheVariants.{Read, Refused}
 use Rattle.sj_statement.specs.declared.clauses.TypeName.{TypeName}
@@ -13,11 +13,11 @@ use Rattle.sj_statement.specs.Tree.{PathText, Common, ExistsCall, ValueCall, Que
 pub record Notes (P F : Type 0) : Type 0 where
   pub path_of : PathText → P
   pub see_path : PathText → F → F
-  pub see_lack : Name → F → F
+  pub see_unsupported : Name → F → F
 
 -- paths as they are written, and nothing noted
 abbrev pub written : Notes PathText (Unit {0})
-written = record { path_of = λ p. p; see_path = λ p f. f; see_lack = λ name f. f }
+written = record { path_of = λ p. p; see_path = λ p f. f; see_unsupported = λ name f. f }
 
 -- ---- trees with their paths
 
@@ -96,12 +96,12 @@ module _ {P F : Type 0} (n : Notes P F) where
 
   abbrev pub note_encoding : Encoding → F → F
   note_encoding Read f = f
-  note_encoding Refused f = n.see_lack lack.Encoding f
+  note_encoding Refused f = n.see_unsupported unsupported.Encoding f
 
   abbrev pub note_type : TypeName → F → F
   note_type (Known ty) f = f
-  note_type Approximate f = n.see_lack lack.ApproximateType f
-  note_type Datetime f = n.see_lack lack.DatetimeType f
+  note_type Approximate f = n.see_unsupported unsupported.ApproximateType f
+  note_type Datetime f = n.see_unsupported unsupported.DatetimeType f
 
   abbrev pub note_common : Common PathText → F → F
   note_common c f = n.see_path c.path (note_encoding c.encoding f)

@@ -14,7 +14,7 @@ ghost use Rattle.sj_statement.specs.Phrases.{Tokens};
 ghost use Rattle.sj_statement.specs.Grammar.{IsTooDeep, IsSelect, IsStatement};
 ghost use Rattle.sj_statement.specs.Notes.{Notes, written, statement_with, note_statement};
 ghost use Rattle.sj_statement.specs.Reading.{select_at};
-ghost use Rattle.sj_statement.specs.Answers.{marks, IsFault, Lacks, Free, First, Accepted, Forbids, IsAnswer, IsFile};
+ghost use Rattle.sj_statement.specs.Answers.{marks, IsFault, IsUnsupported, Free, First, Accepted, Forbids, IsAnswer, IsFile};
 ghost use Rattle.sj_statement.specs.PathAnswers.{path_answer};
 ghost use Rattle.sj_statement.specs.Faults.{Faults, nothing_noted, parsing};
 
@@ -44,8 +44,8 @@ pub fn noted_reading()
 pub fn noted_faults()
     ensures fault { (x : Statement PathText) (k : FileKind) → ((note_statement parsing x nothing_noted).path ≡ Some k) ↔ First IsFault (marks x) k }
     ensures faultless { (x : Statement PathText) → ((note_statement parsing x nothing_noted).path ≡ None) ↔ Free IsFault (marks x) }
-    ensures lack { (x : Statement PathText) (name : Name) → ((note_statement parsing x nothing_noted).lack ≡ Some name) ↔ First Lacks (marks x) name }
-    ensures supported { (x : Statement PathText) → ((note_statement parsing x nothing_noted).lack ≡ None) ↔ Free Lacks (marks x) }
+    ensures unsupported { (x : Statement PathText) (name : Name) → ((note_statement parsing x nothing_noted).unsupported ≡ Some name) ↔ First IsUnsupported (marks x) name }
+    ensures supported { (x : Statement PathText) → ((note_statement parsing x nothing_noted).unsupported ≡ None) ↔ Free IsUnsupported (marks x) }
 {}
 
 /// What the parser reads and notes decides the answer of a statement: a fault of a path text comes before a part that is lacking.
@@ -54,10 +54,10 @@ pub fn noted_answer()
     ensures no_tree { (ts : Tokens) → select_at parsing nothing_noted ts ≡ None → Forbids ts Syntax }
     ensures fault { (ts : Tokens) (s : Statement Path) (f : Faults) (k : FileKind) → (IsTooDeep ts → ⊥)
         → select_at parsing nothing_noted ts ≡ Some (s, f) → f.path ≡ Some k → Forbids ts k }
-    ensures lack { (ts : Tokens) (s : Statement Path) (f : Faults) (name : Name) → (IsTooDeep ts → ⊥)
-        → select_at parsing nothing_noted ts ≡ Some (s, f) → f.path ≡ None → f.lack ≡ Some name → Forbids ts (Unsupported name) }
+    ensures unsupported { (ts : Tokens) (s : Statement Path) (f : Faults) (name : Name) → (IsTooDeep ts → ⊥)
+        → select_at parsing nothing_noted ts ≡ Some (s, f) → f.path ≡ None → f.unsupported ≡ Some name → Forbids ts (Unsupported name) }
     ensures accepted { (ts : Tokens) (s : Statement Path) (f : Faults) → (IsTooDeep ts → ⊥)
-        → select_at parsing nothing_noted ts ≡ Some (s, f) → f.path ≡ None → f.lack ≡ None → Accepted ts s }
+        → select_at parsing nothing_noted ts ≡ Some (s, f) → f.path ≡ None → f.unsupported ≡ None → Accepted ts s }
 {}
 
 /// A statement has at most one answer.

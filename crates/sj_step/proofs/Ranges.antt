@@ -5,10 +5,10 @@ use Rattle.std.specs.Prelude.{int_lt, ◌<ℤ◌, ◌≤ℤ◌}
 use Rattle.std.proofs.lemmas.Int.{ints}
 use Rattle.std.proofs.lemmas.List.{length-map}
 use Rattle.sj_base.specs.declared.state.State.TheVariants.{S22033}
-use Rattle.sj_json.specs.Tree.{Child as JsonChild, numbered}
+use Rattle.sj_json.specs.Tree.{Child as JsonChild, numbered, NumberedChild}
 use Rattle.sj_step.specs.Trace.{Trace, stop, fail}
 use Rattle.sj_step.specs.Reach.{Child, child_item, between, lax_range, strict_range}
-use Rattle.sj_step.proofs.Runs.{Named, run, run_between}
+use Rattle.sj_step.proofs.Runs.{run, run_between}
 use Rattle.sj_step.proofs.Lasts.{length-numbered}
 
 pub length_children : (i : ℕ) (ks : List JsonChild) → length (map child_item (numbered i ks)) ≡ length ks
@@ -56,7 +56,7 @@ lax_range_goes a b start end i ks s e ordered =
     let cs : List Child = map child_item (numbered i ks) in
     lax_range_is a b start end i ks s e ∙ ap (λ t. cond t stop (between (unsigned_abs start) (unsigned_abs end + 1) cs)) (lt_false end start ordered)
 
-pub elements_between : (start end : ℤ) (skip count i : ℕ) (ks : List JsonChild) (left : List Named) → left ≡ numbered i ks → skip ≡ unsigned_abs start → skip + count ≡ unsigned_abs end + 1 → unsigned_abs start ≤ length ks → run skip count left ≡ between (unsigned_abs start) (unsigned_abs end + 1) (map child_item (numbered i ks))
+pub elements_between : (start end : ℤ) (skip count i : ℕ) (ks : List JsonChild) (left : List NumberedChild) → left ≡ numbered i ks → skip ≡ unsigned_abs start → skip + count ≡ unsigned_abs end + 1 → unsigned_abs start ≤ length ks → run skip count left ≡ between (unsigned_abs start) (unsigned_abs end + 1) (map child_item (numbered i ks))
 elements_between start end skip count i ks left l s e within =
     let rest : count ≡ (unsigned_abs end + 1) - unsigned_abs start = omega (arith, s, e) in
     let inside : unsigned_abs start ≤ length (numbered i ks) = rw length-numbered within in

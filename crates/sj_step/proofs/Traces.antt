@@ -2,23 +2,23 @@
 use Rattle.std.proofs.Common.{◌≡◌, ℕ, zero, suc, ◌+◌, ◌∷◌, ◌++◌, length, ap, sym, ◌∙◌, refl, arith, None}
 use Rattle.sj_base.specs.declared.state.State.{State}
 use Rattle.sj_item.specs.Items.{ItemValue, gives, ends, faults}
-use Rattle.sj_step.specs.Trace.{Trace, stop, fail, visit, give, only, pay, join, each, items, count, visits, fault_of, visits_before, first, rest, fore}
+use Rattle.sj_step.specs.Trace.{Trace, stop, fail, visit, give, only, after_visits, join, each, items, count, visits, fault_of, visits_before, first, rest, visits_to_first}
 
 -- ---- shapes: a trace is its visits, and then its first item or its end
 
-pub shape_item : (t : Trace) (x : ItemValue) → first t ≡ gives x → t ≡ pay (fore t) (give x (rest t))
+pub shape_item : (t : Trace) (x : ItemValue) → first t ≡ gives x → t ≡ after_visits (visits_to_first t) (give x (rest t))
 shape_item stop x e = cc
 shape_item (fail s) x e = cc
 shape_item (visit t) x e = ap visit (shape_item t x e)
 shape_item (give y t) x e = let same : y ≡ x = cc in ap (λ z. give z t) same
 
-pub shape_end : (t : Trace) → first t ≡ ends → t ≡ pay (fore t) stop
+pub shape_end : (t : Trace) → first t ≡ ends → t ≡ after_visits (visits_to_first t) stop
 shape_end stop e = refl
 shape_end (fail s) e = cc
 shape_end (visit t) e = ap visit (shape_end t e)
 shape_end (give x t) e = cc
 
-pub shape_fault : (t : Trace) (s : State) → first t ≡ faults s → t ≡ pay (fore t) (fail s)
+pub shape_fault : (t : Trace) (s : State) → first t ≡ faults s → t ≡ after_visits (visits_to_first t) (fail s)
 shape_fault stop s e = cc
 shape_fault (fail r) s e = let same : r ≡ s = cc in ap fail same
 shape_fault (visit t) s e = ap visit (shape_fault t s e)
@@ -26,45 +26,45 @@ shape_fault (give x t) s e = cc
 
 -- ---- what visits before a trace change
 
-pub first-pay : (n : ℕ) (t : Trace) → first (pay n t) ≡ first t
-first-pay zero t = refl
-first-pay (suc n) t = first-pay n t
+pub first-after_visits : (n : ℕ) (t : Trace) → first (after_visits n t) ≡ first t
+first-after_visits zero t = refl
+first-after_visits (suc n) t = first-after_visits n t
 
-pub rest-pay : (n : ℕ) (t : Trace) → rest (pay n t) ≡ rest t
-rest-pay zero t = refl
-rest-pay (suc n) t = rest-pay n t
+pub rest-after_visits : (n : ℕ) (t : Trace) → rest (after_visits n t) ≡ rest t
+rest-after_visits zero t = refl
+rest-after_visits (suc n) t = rest-after_visits n t
 
-pub fore-pay : (n : ℕ) (t : Trace) → fore (pay n t) ≡ n + fore t
-fore-pay zero t = omega arith
-fore-pay (suc n) t = omega (arith, fore-pay n t)
+pub visits_to_first-after_visits : (n : ℕ) (t : Trace) → visits_to_first (after_visits n t) ≡ n + visits_to_first t
+visits_to_first-after_visits zero t = omega arith
+visits_to_first-after_visits (suc n) t = omega (arith, visits_to_first-after_visits n t)
 
-pub items-pay : (n : ℕ) (t : Trace) → items (pay n t) ≡ items t
-items-pay zero t = refl
-items-pay (suc n) t = items-pay n t
+pub items-after_visits : (n : ℕ) (t : Trace) → items (after_visits n t) ≡ items t
+items-after_visits zero t = refl
+items-after_visits (suc n) t = items-after_visits n t
 
-pub count-pay : (n : ℕ) (t : Trace) → count (pay n t) ≡ count t
-count-pay zero t = refl
-count-pay (suc n) t = count-pay n t
+pub count-after_visits : (n : ℕ) (t : Trace) → count (after_visits n t) ≡ count t
+count-after_visits zero t = refl
+count-after_visits (suc n) t = count-after_visits n t
 
-pub visits-pay : (n : ℕ) (t : Trace) → visits (pay n t) ≡ n + visits t
-visits-pay zero t = omega arith
-visits-pay (suc n) t = omega (arith, visits-pay n t)
+pub visits-after_visits : (n : ℕ) (t : Trace) → visits (after_visits n t) ≡ n + visits t
+visits-after_visits zero t = omega arith
+visits-after_visits (suc n) t = omega (arith, visits-after_visits n t)
 
-pub fault-pay : (n : ℕ) (t : Trace) → fault_of (pay n t) ≡ fault_of t
-fault-pay zero t = refl
-fault-pay (suc n) t = fault-pay n t
+pub fault-after_visits : (n : ℕ) (t : Trace) → fault_of (after_visits n t) ≡ fault_of t
+fault-after_visits zero t = refl
+fault-after_visits (suc n) t = fault-after_visits n t
 
-pub visits_before-pay : (k n : ℕ) (t : Trace) → visits_before (suc k) (pay n t) ≡ n + visits_before (suc k) t
-visits_before-pay k zero t = omega arith
-visits_before-pay k (suc n) t = omega (arith, visits_before-pay k n t)
+pub visits_before-after_visits : (k n : ℕ) (t : Trace) → visits_before (suc k) (after_visits n t) ≡ n + visits_before (suc k) t
+visits_before-after_visits k zero t = omega arith
+visits_before-after_visits k (suc n) t = omega (arith, visits_before-after_visits k n t)
 
-pub join-pay : (n : ℕ) (t u : Trace) → join (pay n t) u ≡ pay n (join t u)
-join-pay zero t u = refl
-join-pay (suc n) t u = ap visit (join-pay n t u)
+pub join-after_visits : (n : ℕ) (t u : Trace) → join (after_visits n t) u ≡ after_visits n (join t u)
+join-after_visits zero t u = refl
+join-after_visits (suc n) t u = ap visit (join-after_visits n t u)
 
-pub each-pay : (n : ℕ) (t : Trace) (g : ItemValue → Trace) → each (pay n t) g ≡ pay n (each t g)
-each-pay zero t g = refl
-each-pay (suc n) t g = ap visit (each-pay n t g)
+pub each-after_visits : (n : ℕ) (t : Trace) (g : ItemValue → Trace) → each (after_visits n t) g ≡ after_visits n (each t g)
+each-after_visits zero t g = refl
+each-after_visits (suc n) t g = ap visit (each-after_visits n t g)
 
 -- ---- join and each
 
@@ -125,11 +125,11 @@ count_is_length (fail s) = refl
 count_is_length (visit t) = count_is_length t
 count_is_length (give x t) = omega (arith, count_is_length t)
 
-pub fore_is_before : (t : Trace) → fore t ≡ visits_before 1 t
-fore_is_before stop = refl
-fore_is_before (fail s) = refl
-fore_is_before (visit t) = ap suc (fore_is_before t)
-fore_is_before (give x t) = refl
+pub visits_to_first_is_before : (t : Trace) → visits_to_first t ≡ visits_before 1 t
+visits_to_first_is_before stop = refl
+visits_to_first_is_before (fail s) = refl
+visits_to_first_is_before (visit t) = ap suc (visits_to_first_is_before t)
+visits_to_first_is_before (give x t) = refl
 
 -- an item that is taken is one fewer
 pub count-rest_item : (t : Trace) (x : ItemValue) → first t ≡ gives x → suc (count (rest t)) ≡ count t
@@ -138,7 +138,7 @@ count-rest_item (fail s) x e = cc
 count-rest_item (visit t) x e = count-rest_item t x e
 count-rest_item (give y t) x e = refl
 
-pub visits-rest_item : (t : Trace) (x : ItemValue) → first t ≡ gives x → fore t + visits (rest t) ≡ visits t
+pub visits-rest_item : (t : Trace) (x : ItemValue) → first t ≡ gives x → visits_to_first t + visits (rest t) ≡ visits t
 visits-rest_item stop x e = cc
 visits-rest_item (fail s) x e = cc
 visits-rest_item (visit t) x e = omega (arith, visits-rest_item t x e)

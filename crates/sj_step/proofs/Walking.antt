@@ -2,7 +2,7 @@
 use Rattle.std.proofs.Common.{◌≡◌, ℕ, suc, ap, sym, ◌∙◌, arith}
 use Rattle.sj_base.specs.Outside.{raised}
 use Rattle.sj_item.specs.Items.{ItemValue, gives}
-use Rattle.sj_step.specs.Trace.{Trace, visit, give, first, rest, fore}
+use Rattle.sj_step.specs.Trace.{Trace, visit, give, first, rest, visits_to_first}
 use Rattle.sj_step.specs.Takes.{Takes, Onward}
 
 pub raised_more : (a n : ℕ) → raised (raised a 1) n ≡ raised a (suc n)
@@ -17,7 +17,7 @@ onward_visit t u w a b d o e s =
     record {
       same_answer = sym (ap first e) ∙ o.same_answer;
       same_rest = sym (ap rest e) ∙ o.same_rest;
-      cost_so_far = ap (λ n. raised n (fore w)) s ∙ raised_more b (fore w) ∙ sym (ap (λ v. raised b (fore v)) e) ∙ o.cost_so_far;
+      cost_so_far = ap (λ n. raised n (visits_to_first w)) s ∙ raised_more b (visits_to_first w) ∙ sym (ap (λ v. raised b (visits_to_first v)) e) ∙ o.cost_so_far;
     }
 
 -- one visit and then an item, which was given
@@ -26,5 +26,5 @@ takes_give t u w x a b d o e s =
     record {
       answers = sym (ap first e) ∙ o.same_answer;
       leaves = sym (ap rest e) ∙ o.same_rest;
-      costs = s ∙ sym (ap (λ v. raised b (fore v)) e) ∙ o.cost_so_far;
+      costs = s ∙ sym (ap (λ v. raised b (visits_to_first v)) e) ∙ o.cost_so_far;
     }

@@ -3,7 +3,7 @@ use Rattle.std.specs.Prelude.{ℕ, ◌+◌, List, [], ◌∷◌, map, length, co
 use Rattle.std.specs.Int.{int_min, int_max}
 use Rattle.sj_base.specs.declared.state.State.{State}
 use Rattle.sj_base.specs.declared.state.State.TheVariants.{S22033, S22039, S2203A, S2203C}
-use Rattle.sj_json.specs.Tree.{Tree, children, numbered}
+use Rattle.sj_json.specs.Tree.{Tree, children, numbered, NumberedChild}
 use Rattle.sj_doc.specs.Keyed.{is_key}
 use Rattle.sj_doc.specs.Kinds.{kind_of}
 use Rattle.sj_doc.specs.declared.node.Kind.{Kind}
@@ -13,7 +13,7 @@ use Rattle.sj_grammar.specs.declared.tree.Mode.{Mode}
 use Rattle.sj_grammar.specs.declared.tree.Mode.TheVariants.{Lax, Strict}
 use Rattle.sj_step.specs.declared.reach.Reach.{Reach}
 use Rattle.sj_step.specs.declared.reach.Reach.TheVariants as reaches
-use Rattle.sj_step.specs.Trace.{Trace, stop, fail, give, only, pay, each}
+use Rattle.sj_step.specs.Trace.{Trace, stop, fail, give, only, after_visits, each}
 
 -- what is reached of an item, without pointers
 pub data ReachValue : Type 0 where
@@ -39,7 +39,7 @@ reach_value reaches.Unwrap = unwrapped
 abbrev pub Child : Type 0
 Child = Option (List ℕ) × ItemValue
 
-abbrev pub child_item : Option (List ℕ) × ℕ × Tree → Child
+abbrev pub child_item : NumberedChild → Child
 child_item c = (c.0, node c.1 c.2)
 
 -- the id of a made pair, a number
@@ -69,7 +69,7 @@ child_visits (made_pair name value id) = 0
 -- each child is given
 abbrev pub every : ℕ → List Child → Trace
 every n [] = stop
-every n (c ∷ cs) = pay n (give c.1 (every n cs))
+every n (c ∷ cs) = after_visits n (give c.1 (every n cs))
 
 -- the end of a walk over members: in strict mode one under the key is to be found
 abbrev pub members_end : Mode → Bool → Trace
@@ -80,11 +80,11 @@ members_end Strict false = fail S2203A
 -- each child under the key is given; `found` says whether there was one before these
 abbrev pub under_key : ℕ → Mode → List ℕ → Bool → List Child → Trace
 under_key n mode key found [] = members_end mode found
-under_key n mode key found (c ∷ cs) = pay n (if is_key key c.0 then give c.1 (under_key n mode key true cs) else under_key n mode key found cs)
+under_key n mode key found (c ∷ cs) = after_visits n (if is_key key c.0 then give c.1 (under_key n mode key true cs) else under_key n mode key found cs)
 
 -- the children from the index i on and before the index j are given, behind visits for all that stand before
 abbrev pub between : ℕ → ℕ → List Child → Trace
-between i j cs = pay i (every 1 (slice_range cs i j))
+between i j cs = after_visits i (every 1 (slice_range cs i j))
 
 -- all children of an item, and those of its members that are under a key
 abbrev pub every_of : ItemValue → Trace

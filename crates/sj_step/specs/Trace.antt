@@ -18,9 +18,9 @@ abbrev pub only : ItemValue → Trace
 only x = give x stop
 
 -- n visits, and then t
-abbrev pub pay : ℕ → Trace → Trace
-pay zero t = t
-pay (suc n) t = visit (pay n t)
+abbrev pub after_visits : ℕ → Trace → Trace
+after_visits zero t = t
+after_visits (suc n) t = visit (after_visits n t)
 
 -- t, and then u where t ends well
 abbrev pub join : Trace → Trace → Trace
@@ -91,8 +91,8 @@ rest (visit t) = rest t
 rest (give x t) = t
 
 -- the visits before the first item or the end
-abbrev pub fore : Trace → ℕ
-fore stop = 0
-fore (fail s) = 0
-fore (visit t) = suc (fore t)
-fore (give x t) = 0
+abbrev pub visits_to_first : Trace → ℕ
+visits_to_first stop = 0
+visits_to_first (fail s) = 0
+visits_to_first (visit t) = suc (visits_to_first t)
+visits_to_first (give x t) = 0

@@ -1,7 +1,7 @@
 -- The trace that a walk has left.
 use Rattle.std.specs.Prelude.{List, [], map, take, drop, length}
 use Rattle.sj_item.specs.Items.{item_value, pair_value, made_pair}
-use Rattle.sj_step.specs.Trace.{Trace, stop, fail, only, pay}
+use Rattle.sj_step.specs.Trace.{Trace, stop, fail, only, after_visits}
 use Rattle.sj_step.specs.Reach.{Child, child_item, children_of, every, under_key}
 use Rattle.sj_step.specs.declared.walk.Walk.{Walk}
 use Rattle.sj_step.specs.declared.walk.Left.{Left}
@@ -16,7 +16,7 @@ abbrev pub members_left : Members → Trace
 members_left m = under_key 1 m.mode m.key.now m.found (map child_item m.left)
 
 abbrev pub elements_left : Elements → Trace
-elements_left e = pay (length (take e.skip e.left)) (every 1 (map child_item (take e.count (drop e.skip e.left))))
+elements_left e = after_visits (length (take e.skip e.left)) (every 1 (map child_item (take e.count (drop e.skip e.left))))
 
 -- the children of a pair from a part on
 abbrev pub from_part : PairPart → List Child → List Child

@@ -2,7 +2,7 @@
 //!
 //! A trace is what evaluating a path hands out and gives, in order, and how that ends. `specs/Trace.antt` has the
 //! traces, with their items, visits and ends, and the combinations of which the meaning of a path is made: `join`,
-//! `each` and `pay`. `specs/Reach.antt` says which trace each accessor has on one item (ISO/IEC 9075-2, SQL/JSON path
+//! `each` and `after_visits`. `specs/Reach.antt` says which trace each accessor has on one item (ISO/IEC 9075-2, SQL/JSON path
 //! language, accessors), with the unwrapping of lax mode, and the last index of an array. `specs/Takes.antt` says what
 //! one call takes from a trace.
 //!

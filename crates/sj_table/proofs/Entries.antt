@@ -3,8 +3,8 @@ use Rattle.std.proofs.Common.{◌≡◌, ◌≤◌, ◌<◌, ℕ, zero, suc, ◌
 use Rattle.sj_base.specs.Outside.{raised}
 use Rattle.sj_base.specs.declared.state.State.{State}
 use Rattle.sj_item.specs.Items.{ItemValue, gives, ends, faults}
-use Rattle.sj_step.specs.Trace.{Trace, stop, fail, visit, give, pay, items, count, visits, fault_of, fore}
-use Rattle.sj_step.proofs.Traces.{shape_item, shape_end, shape_fault, visits-pay, fault-pay, count-rest_item}
+use Rattle.sj_step.specs.Trace.{Trace, stop, fail, visit, give, after_visits, items, count, visits, fault_of, visits_to_first}
+use Rattle.sj_step.proofs.Traces.{shape_item, shape_end, shape_fault, visits-after_visits, fault-after_visits, count-rest_item}
 use Rattle.sj_cursor.specs.Draws.{Draws}
 use Rattle.sj_value.specs.declared.clauses.TableAction.{TableAction}
 use Rattle.sj_table.specs.declared.pull.RowPull.{RowPull}
@@ -16,13 +16,13 @@ use Rattle.sj_table.specs.Takes.{Takes, Answers}
 
 -- ---- what a trace is that is drawn from
 
-draw_item : (t t' : Trace) (x : ItemValue) (a b : ℕ) → Draws t (gives x) t' a b → t ≡ pay (fore t) (give x t')
+draw_item : (t t' : Trace) (x : ItemValue) (a b : ℕ) → Draws t (gives x) t' a b → t ≡ after_visits (visits_to_first t) (give x t')
 draw_item t t' x a b d = rw d.leaves (shape_item t x (sym d.answers))
 
-draw_end : (t t' : Trace) (a b : ℕ) → Draws t ends t' a b → t ≡ pay (fore t) stop
+draw_end : (t t' : Trace) (a b : ℕ) → Draws t ends t' a b → t ≡ after_visits (visits_to_first t) stop
 draw_end t t' a b d = shape_end t (sym d.answers)
 
-draw_fault : (t t' : Trace) (s : State) (a b : ℕ) → Draws t (faults s) t' a b → t ≡ pay (fore t) (fail s)
+draw_fault : (t t' : Trace) (s : State) (a b : ℕ) → Draws t (faults s) t' a b → t ≡ after_visits (visits_to_first t) (fail s)
 draw_fault t t' s a b d = shape_fault t s (sym d.answers)
 
 -- an item that is drawn is one fewer
@@ -31,9 +31,9 @@ drawn_fewer t t' x a b d = rw d.leaves (omega (arith, count-rest_item t x (sym d
 
 -- ---- the entries up to the end of a trace
 
-entries-pay : (p n k : ℕ) (t : Trace) → entries_to_end p n (pay k t) ≡ entries_to_end p n t
-entries-pay p n zero t = refl
-entries-pay p n (suc k) t = entries-pay p n k t
+entries-after_visits : (p n k : ℕ) (t : Trace) → entries_to_end p n (after_visits k t) ≡ entries_to_end p n t
+entries-after_visits p n zero t = refl
+entries-after_visits p n (suc k) t = entries-after_visits p n k t
 
 -- ordinals that are given alike go on alike
 entries_alike : (p m n : ℕ) (t : Trace) → ordinal_of m ≡ ordinal_of n → entries_to_end p m t ≡ entries_to_end p n t
@@ -57,10 +57,10 @@ pub advance_item : (p o o' : ℕ) (t t' : Trace) (x : ItemValue) (a b : ℕ)
     → Draws t (gives x) t' a b → o' ≡ ordinal_of (o + 1)
     → Takes (entries_to_end p (o + 1) t) (visits t) pulls.Row (record { path = p; item = x; ordinal = o' }) (entries_to_end p (o' + 1) t') (visits t') a b
 advance_item p o o' t t' x a b d e =
-    let shape : t ≡ pay (fore t) (give x t') = draw_item t t' x a b d in
-    let paid : visits t ≡ fore t + visits t' = ap visits shape ∙ visits-pay (fore t) (give x t') in
+    let shape : t ≡ after_visits (visits_to_first t) (give x t') = draw_item t t' x a b d in
+    let paid : visits t ≡ visits_to_first t + visits t' = ap visits shape ∙ visits-after_visits (visits_to_first t) (give x t') in
     record {
-      answers = ap (entries_to_end p (o + 1)) shape ∙ entries-pay p (o + 1) (fore t) (give x t')
+      answers = ap (entries_to_end p (o + 1)) shape ∙ entries-after_visits p (o + 1) (visits_to_first t) (give x t')
           ∙ ap (λ n. more (record { path = p; item = x; ordinal = n }) (entries_to_end p (o + 1 + 1) t')) (sym e)
           ∙ ap (more (record { path = p; item = x; ordinal = o' })) (entries_alike p (o + 1 + 1) (o' + 1) t' (omega (arith, e)));
       spends = record { falls = omega (arith, paid); costs = omega (arith, paid, d.costs) };
@@ -69,20 +69,20 @@ advance_item p o o' t t' x a b d e =
 pub advance_end : (p o d' : ℕ) (t t' : Trace) (x : Entry) (left : Series Entry) (a b : ℕ)
     → Draws t ends t' a b → Takes (entries_to_end p (o + 1) t) (visits t) pulls.End x left d' a b
 advance_end p o d' t t' x left a b d =
-    let shape : t ≡ pay (fore t) stop = draw_end t t' a b d in
-    let paid : visits t ≡ fore t + 0 = ap visits shape ∙ visits-pay (fore t) stop in
+    let shape : t ≡ after_visits (visits_to_first t) stop = draw_end t t' a b d in
+    let paid : visits t ≡ visits_to_first t + 0 = ap visits shape ∙ visits-after_visits (visits_to_first t) stop in
     record {
-      answers = ap (entries_to_end p (o + 1)) shape ∙ entries-pay p (o + 1) (fore t) stop;
+      answers = ap (entries_to_end p (o + 1)) shape ∙ entries-after_visits p (o + 1) (visits_to_first t) stop;
       spends = record { falls = omega arith; costs = omega (arith, paid, d.costs) };
     }
 
 pub advance_fault : (p o d' : ℕ) (t t' : Trace) (s : State) (x : Entry) (left : Series Entry) (a b : ℕ)
     → Draws t (faults s) t' a b → Takes (entries_to_end p (o + 1) t) (visits t) (pulls.Raised s) x left d' a b
 advance_fault p o d' t t' s x left a b d =
-    let shape : t ≡ pay (fore t) (fail s) = draw_fault t t' s a b d in
-    let paid : visits t ≡ fore t + 0 = ap visits shape ∙ visits-pay (fore t) (fail s) in
+    let shape : t ≡ after_visits (visits_to_first t) (fail s) = draw_fault t t' s a b d in
+    let paid : visits t ≡ visits_to_first t + 0 = ap visits shape ∙ visits-after_visits (visits_to_first t) (fail s) in
     record {
-      answers = ap (entries_to_end p (o + 1)) shape ∙ entries-pay p (o + 1) (fore t) (fail s);
+      answers = ap (entries_to_end p (o + 1)) shape ∙ entries-after_visits p (o + 1) (visits_to_first t) (fail s);
       spends = record { falls = omega arith; costs = omega (arith, paid, d.costs) };
     }
 
@@ -98,27 +98,27 @@ running_from t a = record { fault = refl; costs = omega arith }
 
 pub running_on : (whole t t' : Trace) (x : ItemValue) (a b c : ℕ) → Running whole a t b → Draws t (gives x) t' b c → Running whole a t' c
 running_on whole t t' x a b c r d =
-    let shape : t ≡ pay (fore t) (give x t') = draw_item t t' x b c d in
-    let paid : visits t ≡ fore t + visits t' = ap visits shape ∙ visits-pay (fore t) (give x t') in
-    let same : fault_of t ≡ fault_of t' = ap fault_of shape ∙ fault-pay (fore t) (give x t') in
+    let shape : t ≡ after_visits (visits_to_first t) (give x t') = draw_item t t' x b c d in
+    let paid : visits t ≡ visits_to_first t + visits t' = ap visits shape ∙ visits-after_visits (visits_to_first t) (give x t') in
+    let same : fault_of t ≡ fault_of t' = ap fault_of shape ∙ fault-after_visits (visits_to_first t) (give x t') in
     record { fault = sym same ∙ r.fault; costs = omega (arith, paid, r.costs, d.costs) }
 
 pub running_end : (whole t t' : Trace) (a b c : ℕ) → Running whole a t b → Draws t ends t' b c → None ≡ fault_of whole
-running_end whole t t' a b c r d = sym (ap fault_of (draw_end t t' b c d) ∙ fault-pay (fore t) stop) ∙ r.fault
+running_end whole t t' a b c r d = sym (ap fault_of (draw_end t t' b c d) ∙ fault-after_visits (visits_to_first t) stop) ∙ r.fault
 
 pub running_fault : (whole t t' : Trace) (s : State) (a b c : ℕ) → Running whole a t b → Draws t (faults s) t' b c → Some s ≡ fault_of whole
-running_fault whole t t' s a b c r d = sym (ap fault_of (draw_fault t t' s b c d) ∙ fault-pay (fore t) (fail s)) ∙ r.fault
+running_fault whole t t' s a b c r d = sym (ap fault_of (draw_fault t t' s b c d) ∙ fault-after_visits (visits_to_first t) (fail s)) ∙ r.fault
 
 pub running_end_costs : (whole t t' : Trace) (a b c : ℕ) → Running whole a t b → Draws t ends t' b c → c ≤ raised a (visits whole)
 running_end_costs whole t t' a b c r d =
-    let shape : t ≡ pay (fore t) stop = draw_end t t' b c d in
-    let paid : visits t ≡ fore t + 0 = ap visits shape ∙ visits-pay (fore t) stop in
+    let shape : t ≡ after_visits (visits_to_first t) stop = draw_end t t' b c d in
+    let paid : visits t ≡ visits_to_first t + 0 = ap visits shape ∙ visits-after_visits (visits_to_first t) stop in
     omega (arith, paid, r.costs, d.costs)
 
 pub running_fault_costs : (whole t t' : Trace) (s : State) (a b c : ℕ) → Running whole a t b → Draws t (faults s) t' b c → c ≤ raised a (visits whole)
 running_fault_costs whole t t' s a b c r d =
-    let shape : t ≡ pay (fore t) (fail s) = draw_fault t t' s b c d in
-    let paid : visits t ≡ fore t + 0 = ap visits shape ∙ visits-pay (fore t) (fail s) in
+    let shape : t ≡ after_visits (visits_to_first t) (fail s) = draw_fault t t' s b c d in
+    let paid : visits t ≡ visits_to_first t + 0 = ap visits shape ∙ visits-after_visits (visits_to_first t) (fail s) in
     omega (arith, paid, r.costs, d.costs)
 
 -- ---- a path that is entered

@@ -3,7 +3,7 @@ use Rattle.std.proofs.Common.{◌≡◌, ℕ, List, map, Some, option_map, slice
 use Rattle.std.proofs.lemmas.Option.{slice_get-map}
 use Rattle.sj_path.specs.Tree.{path_of}
 use Rattle.sj_path.specs.declared.tree.Path.{Path}
-use Rattle.sj_cursor.specs.Meaning.{Variables}
+use Rattle.sj_path.specs.Vars.{Variables}
 use Rattle.sj_table.specs.Rows.{source, source_of}
 
 pub source_named : (paths : List Path) (vars : Variables) (n : ℕ) (path : Path)

@@ -2,13 +2,13 @@
 -- take what f says.
 use Rattle.std.proofs.Common.{◌≡◌, ℕ, ◌+◌, ◌<◌, ap, sym, subst, ◌∙◌, refl, arith}
 use Rattle.sj_table.specs.Series.{Series, chain, each, sum_over, size}
-use Rattle.sj_table.specs.Takes.{Takes, Nears, Spends}
+use Rattle.sj_table.specs.Takes.{Takes, Approaches, Spends}
 use Rattle.sj_table.specs.declared.pull.RowPull.{RowPull}
 use Rattle.sj_table.specs.declared.pull.RowPull.TheVariants as pulls
 
 -- the element at hand answers
 pub answer_at_hand : {A : Type 0} (t0 w w' t : Series A) (r : RowPull) (x : A) (d0 wd wd' td a b c : ℕ)
-    → Nears t0 d0 a (chain w t) (wd + td) b → (r ≡ pulls.End → ⊥) → Takes w wd r x w' wd' b c → Takes t0 d0 r x (chain w' t) (wd' + td) a c
+    → Approaches t0 d0 a (chain w t) (wd + td) b → (r ≡ pulls.End → ⊥) → Takes w wd r x w' wd' b c → Takes t0 d0 r x (chain w' t) (wd' + td) a c
 answer_at_hand t0 w w' t pulls.Row x d0 wd wd' td a b c n other k = record {
   answers = sym n.same ∙ ap (λ v. chain v t) k.answers;
   spends = record { falls = omega (arith, n.spends.falls, k.spends.falls); costs = omega (arith, n.spends.falls, n.spends.costs, k.spends.falls, k.spends.costs) };
@@ -36,13 +36,13 @@ spends_over d r a b p = record { falls = omega arith; costs = omega (arith, p.fa
 -- ---- the element at hand is at its end
 
 module _ {A B : Type 0} (t0 w w' : Series B) (t t' : Series A) (g : A → Series B) (f : A → ℕ) (y : B) (d0 wd wd' td td' a b c e : ℕ)
-    (n : Nears t0 d0 a (chain w (each t g)) (wd + (td + sum_over t f)) b) (k : Takes w wd pulls.End y w' wd' b c) where
+    (n : Approaches t0 d0 a (chain w (each t g)) (wd + (td + sum_over t f)) b) (k : Takes w wd pulls.End y w' wd' b c) where
   to_input : Spends d0 (td + sum_over t f) a c
   to_input = spends_then _ _ _ _ _ _ n.spends (spends_all _ _ _ _ k.spends)
 
   -- the input gives the next one, which is taken in hand
   pub next_at_hand : (v : Series B) (x : A) (vd : ℕ) → Takes t td pulls.Row x t' td' c e → v ≡ g x → vd ≡ f x
-      → Nears t0 d0 a (chain v (each t' g)) (vd + (td' + sum_over t' f)) e
+      → Approaches t0 d0 a (chain v (each t' g)) (vd + (td' + sum_over t' f)) e
   next_at_hand v x vd p is due =
       let sum : sum_over t f ≡ f x + sum_over t' f = ap (λ u. sum_over u f) p.answers in
       let left : td' + sum_over t f ≡ vd + (td' + sum_over t' f) = omega (arith, sum, due) in

@@ -46,6 +46,6 @@ pub record Takes {A : Type 0} (left : Series A) (due : ℕ) (answer : RowPull) (
   pub spends : Spends due (due_behind answer due') steps later
 
 -- nothing was taken so far, and no more was spent than fell due
-pub record Nears {A : Type 0} (left : Series A) (due steps : ℕ) (left' : Series A) (due' later : ℕ) : Type 0 where
+pub record Approaches {A : Type 0} (left : Series A) (due steps : ℕ) (left' : Series A) (due' later : ℕ) : Type 0 where
   pub same : left' ≡ left
   pub spends : Spends due due' steps later

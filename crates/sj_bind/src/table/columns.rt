@@ -96,7 +96,7 @@ fn bound_formatted(column: FormattedColumn, path: u32) -> BoundColumn
     BoundColumn::Formatted(path, column.path, clauses)
 }
 
-#[tactic(auto, using(crate::proofs::Takes::columns_of_both))]
+#[tactic(auto, using(crate::proofs::TakenColumns::columns_of_both))]
 fn put_column(column: BoundColumn, taken: &mut Taken) -> Result<(), Memory>
     requires { length taken.old.columns < 1000 }
     ensures paths { OnOk result (taken.new.paths ≡ taken.old.paths) }
@@ -106,7 +106,7 @@ fn put_column(column: BoundColumn, taken: &mut Taken) -> Result<(), Memory>
     taken.columns.push(column)
 }
 
-#[tactic(auto, using(crate::proofs::Takes::paths_of_both))]
+#[tactic(auto, using(crate::proofs::TakenColumns::paths_of_both))]
 pub fn put_path(path: Path, taken: &mut Taken) -> Result<(), Memory>
     requires { length taken.old.paths < 64 }
     ensures columns { OnOk result (taken.new.columns ≡ taken.old.columns) }

@@ -58,7 +58,7 @@ pub fn bind_table(alloc: Global, table: Table) -> Result<Box<BoundTable>, Memory
 }
 
 /// The row path, and what stands in the columns under it.
-#[tactic(auto, using(crate::proofs::Takes::paths_are, crate::proofs::Takes::count_are, crate::proofs::Takes::columns_are))]
+#[tactic(auto, using(crate::proofs::TakenColumns::paths_are, crate::proofs::TakenColumns::count_are, crate::proofs::TakenColumns::columns_are))]
 fn take_all(alloc: Global, path: Path, columns: Columns) -> Result<Taken, Memory>
     requires bindable { CanTake (columns_of columns) }
     requires few_paths { length (paths_below (columns_of columns)) < 64 }

@@ -1,6 +1,6 @@
 use Rattle.std.proofs.Common.{sym, ◌∙◌}
 use Rattle.sj_sql.specs.View.{table_of}
-use Rattle.sj_bind.proofs.Clean.{clean_all}
+use Rattle.sj_bind.proofs.UnbrokenRules.{clean_all}
 use Rattle.sj_bind.proofs.binding.bind_all.Goals as goal
 
 pub bind_table-requires-clause-casts : goal.bind_table-requires-clause-casts

@@ -2,7 +2,7 @@ use Rattle.std.proofs.Common.{subst, sym}
 use Rattle.sj_bind.specs.declared.parts.Call.{Call}
 use Rattle.sj_bind.specs.PartsView.{call_of}
 use Rattle.sj_bind.specs.Sound.{IsBindableCall}
-use Rattle.sj_bind.proofs.Picked.{call_at}
+use Rattle.sj_bind.proofs.IndexedParts.{call_at}
 use Rattle.sj_bind.proofs.calls.some_default_fails.Goals as goal
 
 pub call_default_fails-requires : goal.call_default_fails-requires

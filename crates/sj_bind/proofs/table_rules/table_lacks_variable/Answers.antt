@@ -5,7 +5,7 @@ use Rattle.sj_statement.specs.declared.clauses.Passed.{Passed}
 use Rattle.sj_bind.specs.Names.{names_of}
 use Rattle.sj_bind.specs.Rules.{all_paths, all_columns}
 use Rattle.sj_bind.specs.Variables.{AreNamesOf}
-use Rattle.sj_bind.proofs.Missed.{paths_missed, columns_missed}
+use Rattle.sj_bind.proofs.MissingVariables.{paths_missed, columns_missed}
 use Rattle.sj_bind.proofs.table_rules.table_lacks_variable.Goals as goal
 
 pub returns-then-some_path_misses : goal.returns-then-some_path_misses

@@ -1,7 +1,7 @@
 use Rattle.std.proofs.Common.{ap, arith}
 use Rattle.sj_path.specs.Nodes.{subs_nodes}
 use Rattle.sj_path.specs.Tree.{sub_of, subs_of}
-use Rattle.sj_cursor.proofs.Doings.{sub_some}
+use Rattle.sj_cursor.proofs.Operators.{sub_some}
 use Rattle.sj_cursor.proofs.build.+build.Goals as goal
 
 pub parts_cell-parts_cell-requires : goal.parts_cell-parts_cell-requires

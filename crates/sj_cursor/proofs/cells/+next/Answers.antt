@@ -2,12 +2,12 @@ use Rattle.std.specs.Int.{w128}
 use Rattle.std.proofs.Common.{rules, to_z-of_z, SFits, ◌≡◌, ap, ◌∙◌, sym, refl, arith}
 use Rattle.sj_cursor.specs.Left.{core, left, doing, doing_on, doing_nodes, operand_core, operand_left, each_core, binary_core, comparison_core, parts_core, bounds_core, doing_opening, done}
 use Rattle.sj_cursor.specs.declared.cells.Opening.TheVariants.{Unwrapped}
-use Rattle.sj_cursor.proofs.Draws.{draws_after, draws_takes, join_answer, join_over, nears_none, loop_answer, turn_near, turn_item, turn_begun, turn_over, turn_answer, count_draws}
-use Rattle.sj_cursor.proofs.Pulls.{no_end, no_item}
+use Rattle.sj_cursor.proofs.Draws.{draws_after, draws_takes, join_answer, join_over, approaches_none, loop_answer, turn_near, turn_item, turn_begun, turn_over, turn_answer, count_draws}
+use Rattle.sj_cursor.proofs.ItemAnswers.{no_end, no_item}
 use Rattle.sj_cursor.proofs.Looks.{looking_from, looking_on, looking_enough, looking_end, looking_fault, exists_decides, single_answer, single_price, end_answer, end_price}
 use Rattle.sj_cursor.proofs.Pairs.{row_from, row_item, row_stop, row_end, row_fault, rows_from, rows_item, rows_stop, rows_end, rows_fault}
-use Rattle.sj_cursor.proofs.Decided.{compare_early, compare_all, one_early, one_all}
-use Rattle.sj_cursor.proofs.Doings.{as_it_is, sub_some, subs_some}
+use Rattle.sj_cursor.proofs.ComparisonVerdicts.{compare_early, compare_all, one_early, one_all}
+use Rattle.sj_cursor.proofs.Operators.{as_it_is, sub_some, subs_some}
 use Rattle.sj_cursor.proofs.Parts.{element_goes, range_bad, range_goes, binary_bad, binary_goes}
 use Rattle.sj_cursor.proofs.Connectives.{and_false, and_other, or_true, or_other, not_decides, unknown_decides, filter_draws}
 use Rattle.sj_cursor.proofs.cells.+next.Goals as goal
@@ -30,7 +30,7 @@ Operand::next-items-smaller g t c = rw c.reopen.ensures.same (count_draws _ _ _ 
 pub Operand::next-items-preserved : goal.Operand::next-items-preserved
 Operand::next-items-preserved g t c = rw c.reopen.ensures.same (record {
   same = c.in-Item.ensures.same ∙ ap core c.deref_mut.ensures.value ∙ c.items.invariant.same;
-  near = rw c.reopen.ensures.opened (turn_near _ _ _ _ _ _ _ _ _ _ _ _ _ c.items.invariant.near (draws_takes _ _ _ _ _ c.in-End.ensures) (rw c.deref_mut.ensures.value at c.in-Item.ensures.answers) (nears_none _ _));
+  near = rw c.reopen.ensures.opened (turn_near _ _ _ _ _ _ _ _ _ _ _ _ _ c.items.invariant.near (draws_takes _ _ _ _ _ c.in-End.ensures) (rw c.deref_mut.ensures.value at c.in-Item.ensures.answers) (approaches_none _ _));
 })
 
 pub Operand::next-returns-in_default-next : goal.Operand::next-returns-in_default-next
@@ -207,7 +207,7 @@ pub Each::next-returns-in_default-begin : goal.Each::next-returns-in_default-beg
 Each::next-returns-in_default-begin g t c = rw (c.begin.ensures.same, c.in-End.ensures.same) (record {
   answers = turn_begun _ _ _ _ _ _ _ _ _ _ _ _ _ _ c.items.invariant.near c.in-End.ensures.answers (rw (c.opening.ensures, c.in-End.ensures.same) at c.in-Item.ensures.answers)
       (no_end _ _ c.in_default-begin.not-End) (rw c.in-End.ensures.same at c.begin.ensures.answers);
-  same = ap (doing_on (doing c.items.self.deed)) c.in-Item.ensures.same ∙ c.items.invariant.same;
+  same = ap (doing_on (doing c.items.self.operator)) c.in-Item.ensures.same ∙ c.items.invariant.same;
 })
 
 pub Each::next-items-smaller : goal.Each::next-items-smaller
@@ -215,14 +215,14 @@ Each::next-items-smaller g t c = rw (c.in-End-begin.ensures.same, c.in-End.ensur
 
 pub Each::next-items-preserved : goal.Each::next-items-preserved
 Each::next-items-preserved g t c = rw (c.in-End-begin.ensures.same, c.in-End.ensures.same) (record {
-  same = ap (doing_on (doing c.items.self.deed)) c.in-Item.ensures.same ∙ c.items.invariant.same;
+  same = ap (doing_on (doing c.items.self.operator)) c.in-Item.ensures.same ∙ c.items.invariant.same;
   near = turn_over _ _ _ _ _ _ _ _ _ _ _ _ _ c.items.invariant.near c.in-End.ensures.answers (rw (c.opening.ensures, c.in-End.ensures.same) at c.in-Item.ensures.answers) (rw c.in-End.ensures.same at c.in-End-begin.ensures.answers);
 })
 
 pub Each::next-returns-in_default-next : goal.Each::next-returns-in_default-next
 Each::next-returns-in_default-next g t c = rw c.in-End.ensures.same (record {
   answers = turn_answer _ _ _ _ _ _ _ _ _ _ _ c.items.invariant.near c.in-End.ensures.answers (no_item _ _ c.in_default-next.not-Item) (rw (c.opening.ensures, c.in-End.ensures.same) at c.next-in-items.ensures.answers);
-  same = ap (doing_on (doing c.items.self.deed)) c.next-in-items.ensures.same ∙ c.items.invariant.same;
+  same = ap (doing_on (doing c.items.self.operator)) c.next-in-items.ensures.same ∙ c.items.invariant.same;
 })
 
 -- ---- subscripts

@@ -3,7 +3,7 @@ use Rattle.sj_item.specs.Pairs.{items_compare}
 use Rattle.sj_path.specs.Nodes.{expr_nodes, sub_nodes, subs_nodes, pred_nodes}
 use Rattle.sj_step.specs.Trace.{count}
 use Rattle.sj_cursor.specs.Cells.{env_value, beside_truth}
-use Rattle.sj_cursor.specs.Draws.{Nears}
+use Rattle.sj_cursor.specs.Draws.{Approaches}
 use Rattle.sj_cursor.specs.Looks.{found_value}
 use Rattle.sj_cursor.specs.Left.{core, left, doing, doing_nodes, operand_core, operand_left, operand_whole, each_core, each_left, doing_opening, binary_core, filter_core, elements_core, parts_core, more_core, part_core, bounds_core, range_core, test_core, comparison_core, start_core, both_and, both_or}
 use Rattle.sj_cursor.specs.declared.cells.Opening.TheVariants.{Unwrapped}
@@ -40,11 +40,11 @@ decreases-Operand::exists g l = 16 * expr_nodes (operand_core l.self.now) + 6
 abbrev pub decreases-Each::next : goal.decreases-Each::next
 decreases-Each::next g l = 16 * expr_nodes (each_core l.self.now) + 1
 
-abbrev pub decreases-Deed::next : goal.decreases-Deed::next
-decreases-Deed::next g l = 16 * doing_nodes (doing l.self.now) + 14
+abbrev pub decreases-Operator::next : goal.decreases-Operator::next
+decreases-Operator::next g l = 16 * doing_nodes (doing l.self.now) + 14
 
-abbrev pub decreases-Deed::begin : goal.decreases-Deed::begin
-decreases-Deed::begin g l = 16 * doing_nodes (doing l.self.now) + 14
+abbrev pub decreases-Operator::begin : goal.decreases-Operator::begin
+decreases-Operator::begin g l = 16 * doing_nodes (doing l.self.now) + 14
 
 abbrev pub decreases-Filter::begin : goal.decreases-Filter::begin
 decreases-Filter::begin g l = 16 * pred_nodes (filter_core l.self.now) + 11
@@ -102,7 +102,7 @@ decreases-Comparison::asks_right g l = 16 * pred_nodes (comparison_core l.self.n
 abbrev pub invariant-Operand::next-items : goal.invariant-Operand::next-items
 invariant-Operand::next-items g l = record {
   same : operand_core l.self ≡ operand_core l.initial.self;
-  near : Nears (operand_left l.how l.initial.self (env_value l.env)) l.initial.steps (operand_left l.how l.self (env_value l.env)) l.steps;
+  near : Approaches (operand_left l.how l.initial.self (env_value l.env)) l.initial.steps (operand_left l.how l.self (env_value l.env)) l.steps;
 }
 
 abbrev pub decreases-Operand::next-items : goal.decreases-Operand::next-items
@@ -113,11 +113,11 @@ decreases-Operand::next-items g l = count (left l.self.cell.value (env_value l.e
 abbrev pub invariant-Each::next-items : goal.invariant-Each::next-items
 invariant-Each::next-items g l = record {
   same : each_core l.self ≡ each_core l.initial.self;
-  near : Nears (each_left l.initial.self (env_value l.env)) l.initial.steps (each_left l.self (env_value l.env)) l.steps;
+  near : Approaches (each_left l.initial.self (env_value l.env)) l.initial.steps (each_left l.self (env_value l.env)) l.steps;
 }
 
 abbrev pub decreases-Each::next-items : goal.decreases-Each::next-items
-decreases-Each::next-items g l = count (operand_left (doing_opening (doing l.self.deed)) l.self.input (env_value l.env))
+decreases-Each::next-items g l = count (operand_left (doing_opening (doing l.self.operator)) l.self.input (env_value l.env))
 
 -- ---- going through all items
 

@@ -6,7 +6,7 @@ use Rattle.sj_value.specs.Values.{IsPrintable}
 use Rattle.sj_select.specs.Aggregates.{aggregate, aggregates}
 use Rattle.sj_select.specs.Taking.{aggregate_of, IsReady, HasTaken}
 use Rattle.sj_select.specs.Values.{each_value}
-use Rattle.sj_select.proofs.Gathering.{behind, place, gather_step, gather_end, left_at, left_step, none_left}
+use Rattle.sj_select.proofs.GatheredOutcomes.{behind, place, gather_step, gather_end, left_at, left_step, none_left}
 use Rattle.sj_select.proofs.aggregate.finish_all.Goals as goal
 
 pub returns-in_err-push-clause-calls : goal.returns-in_err-push-clause-calls

@@ -6,7 +6,7 @@ use Rattle.sj_select.specs.Aggregates.{aggregate, aggregates}
 use Rattle.sj_select.specs.Line.{Line}
 use Rattle.sj_select.specs.Taking.{aggregate_of, IsReady, HasTaken}
 use Rattle.sj_select.specs.Values.{each_value}
-use Rattle.sj_select.proofs.Gathering.{behind}
+use Rattle.sj_select.proofs.GatheredOutcomes.{behind}
 use Rattle.sj_select.proofs.aggregate.finish_all.Given as goal
 
 -- the values so far and those of the aggregates that are left are all

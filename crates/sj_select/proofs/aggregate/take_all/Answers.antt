@@ -6,7 +6,7 @@ use Rattle.sj_select.specs.Aggregates.{aggregate, input_cost}
 use Rattle.sj_select.specs.Line.{line_of}
 use Rattle.sj_select.specs.Taking.{aggregate_of, IsReady, HasTaken}
 use Rattle.sj_select.proofs.Aggregating.{taken_value}
-use Rattle.sj_select.proofs.Gathering.{place, state_step, state_here, cost_step, cost_stop, left_at, left_step}
+use Rattle.sj_select.proofs.GatheredOutcomes.{place, state_step, state_here, cost_step, cost_stop, left_at, left_step}
 use Rattle.sj_select.proofs.aggregate.take_all.Goals as goal
 
 pub take-requires-clause-ready : goal.take-requires-clause-ready

@@ -16,7 +16,7 @@ invariant-loop-aggregate g l = record {
   calls : map aggregate_of l.all ≡ map aggregate_of l.fn.all;
   ready : All IsReady l.all;
   left : drop l.aggregate-index l.all ≡ drop l.aggregate-index l.fn.all;
-  printable : All IsPrintable l.pile.values.items;
+  printable : All IsPrintable l.stack.values.items;
   taken : (rows : List (List SqlValue)) → All (HasTaken (line_of l.line) rows) l.fn.all → AllWithin (HasTaken (line_of l.line) (rows ++ l.columns ∷ [])) l.all 0 l.aggregate-index;
   raises : (rows : List (List SqlValue)) → All (HasTaken (line_of l.line) rows) l.fn.all → (s : State)
       → each_value (aggregate (line_of l.line) (rows ++ l.columns ∷ [])) (drop l.aggregate-index (map aggregate_of l.fn.all)) ≡ Err s

@@ -1,5 +1,5 @@
 use Rattle.std.proofs.Common.{◌<◌, ◌∙◌, arith, length}
-use Rattle.sj_select.proofs.Finding.{first_step, step_kept, given_at, end_step, end_stop, cost_step, cost_stop}
+use Rattle.sj_select.proofs.FoundValues.{first_step, step_kept, given_at, end_step, end_stop, cost_step, cost_stop}
 use Rattle.sj_select.proofs.find.find.Goals as goal
 
 pub perform-requires-clause-given : goal.perform-requires-clause-given

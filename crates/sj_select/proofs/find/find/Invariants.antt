@@ -11,7 +11,7 @@ use Rattle.sj_select.proofs.find.find.Given as goal
 abbrev pub invariant-loop-operation : goal.invariant-loop-operation
 invariant-loop-operation g l = record {
   steps : steps_of l.operations ≡ steps_of l.fn.operations;
-  printable : All IsPrintable l.pile.values.items;
-  ends : (performed (line_of l.line) l.columns (drop l.operation-index (steps_of l.fn.operations)) (held l.pile)).end ≡ (performed (line_of l.line) l.columns (steps_of l.fn.operations) (held l.fn.pile)).end;
-  costs : raised l.steps (performed (line_of l.line) l.columns (drop l.operation-index (steps_of l.fn.operations)) (held l.pile)).cost ≤ raised l.fn.steps (performed (line_of l.line) l.columns (steps_of l.fn.operations) (held l.fn.pile)).cost;
+  printable : All IsPrintable l.stack.values.items;
+  ends : (performed (line_of l.line) l.columns (drop l.operation-index (steps_of l.fn.operations)) (held l.stack)).end ≡ (performed (line_of l.line) l.columns (steps_of l.fn.operations) (held l.fn.stack)).end;
+  costs : raised l.steps (performed (line_of l.line) l.columns (drop l.operation-index (steps_of l.fn.operations)) (held l.stack)).cost ≤ raised l.fn.steps (performed (line_of l.line) l.columns (steps_of l.fn.operations) (held l.fn.stack)).cost;
 }

@@ -76,7 +76,7 @@ returns-in-None-clause-finds g c list finds =
     let cs = c.values.result.now in
     let is : columns_given (columns_of table) row ≡ Ok cs =
     ap (λ (t : Bor BoundTable). columns_given (columns_of (table_of t.now)) row) (sym c.next_row.ensures.table) ∙ rw c.in_default.is at c.in_ok-state.ensures.fills ∙ ap Ok (sym c.values.ensures.is) in
-    listed_row line table list left row (plan_left c.fill.new.self) cs c.find_list.new.pile.values.items (is_more ∙ ap (more row) (sym c.fill.ensures.left)) is
+    listed_row line table list left row (plan_left c.fill.new.self) cs c.find_list.new.stack.values.items (is_more ∙ ap (more row) (sym c.fill.ensures.left)) is
     (rw c.in-None.is at (c.in_ok-find_list.ensures.finds list finds))
 
 pub returns-in-None-clause-costs : goal.returns-in-None-clause-costs
@@ -97,7 +97,7 @@ returns-in-None-clause-costs g c list finds =
     ap (λ (d : ℕ). d + listed_cost line table list others) (sym c.fill.ensures.due)
     ∙ ap (λ (t : Bor BoundTable). plan_due c.fill.new.self + listed_cost line (table_of t.now) list others) (sym (c.fill.ensures.table ∙ c.next_row.ensures.table)) in
     subst (λ (n : ℕ). Spends (listed_due line list c.args.table.now) n c.args.steps.now c.find_list.new.steps) due
-    (row_spends line table list left row others cs c.find_list.new.pile.values.items (plan_due c.args.table.now) (plan_due c.next_row.new.self) c.args.steps.now c.next_row.new.steps c.fill.new.steps c.find_list.new.steps
+    (row_spends line table list left row others cs c.find_list.new.stack.values.items (plan_due c.args.table.now) (plan_due c.next_row.new.self) c.args.steps.now c.next_row.new.steps c.fill.new.steps c.find_list.new.steps
     (is_more ∙ ap (more row) (sym c.fill.ensures.left)) is (rw c.in-None.is at (c.in_ok-find_list.ensures.finds list finds)) spends spent (c.find_list.ensures.costs list finds))
 
 pub returns-in-Some-2-clause-finds : goal.returns-in-Some-2-clause-finds

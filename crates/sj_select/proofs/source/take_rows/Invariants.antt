@@ -16,7 +16,7 @@ abbrev pub invariant-rows : goal.invariant-rows
 invariant-rows g l = record {
   calls : map aggregate_of l.aggregates ≡ map aggregate_of l.fn.aggregates;
   ready : All IsReady l.aggregates;
-  printable : All IsPrintable l.pile.values.items;
+  printable : All IsPrintable l.stack.values.items;
   table : l.table.table ≡ l.fn.table.table;
   placed : IsPlaced l.table;
   come : HasCome (line_of l.line) (table_of l.fn.table.table.now) (map aggregate_of l.fn.aggregates) (aggregated (line_of l.line) (table_of l.fn.table.table.now) (map aggregate_of l.fn.aggregates) [] (plan_left l.fn.table))

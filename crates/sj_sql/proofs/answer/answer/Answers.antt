@@ -10,12 +10,12 @@ use Rattle.sj_sql.proofs.answer.answer.Goals as goal
 pub returns-in-Some : goal.returns-in-Some
 returns-in-Some c = path_fault c.args.tokens.now (statement_of c.in-Ok.statement) (faults_of c.in-Ok.faults) c.in-Some.fault (c.too_deep.ensures.no c.if-too_deep.false) c.in-Ok.ensures c.in-Some.is
 
-pub returns-in-Some-lack : goal.returns-in-Some-lack
-returns-in-Some-lack c =
-    lacking c.args.tokens.now (statement_of c.in-Ok.statement) (faults_of c.in-Ok.faults) c.in-Some-lack.name (c.too_deep.ensures.no c.if-too_deep.false) c.in-Ok.ensures c.in-None.is c.in-Some-lack.is
+pub returns-in-Some-unsupported : goal.returns-in-Some-unsupported
+returns-in-Some-unsupported c =
+    lacking c.args.tokens.now (statement_of c.in-Ok.statement) (faults_of c.in-Ok.faults) c.in-Some-unsupported.name (c.too_deep.ensures.no c.if-too_deep.false) c.in-Ok.ensures c.in-None.is c.in-Some-unsupported.is
 
-pub returns-in-None-lack : goal.returns-in-None-lack
-returns-in-None-lack c = clean c.args.tokens.now (statement_of c.in-Ok.statement) (faults_of c.in-Ok.faults) (c.too_deep.ensures.no c.if-too_deep.false) c.in-Ok.ensures c.in-None.is c.in-None-lack.is
+pub returns-in-None-unsupported : goal.returns-in-None-unsupported
+returns-in-None-unsupported c = clean c.args.tokens.now (statement_of c.in-Ok.statement) (faults_of c.in-Ok.faults) (c.too_deep.ensures.no c.if-too_deep.false) c.in-Ok.ensures c.in-None.is c.in-None-unsupported.is
 
 pub returns-in-Err-Syntax : goal.returns-in-Err-Syntax
 returns-in-Err-Syntax c = no_tree c.args.tokens.now (subst (λ e. Fails e (select_at parsing nothing_noted c.args.tokens.now)) c.in-Err-Syntax.field-0-is c.in-Err-Syntax.ensures)

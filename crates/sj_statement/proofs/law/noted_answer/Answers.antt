@@ -10,8 +10,8 @@ returns-clause-no_tree c = verdicts.no_tree
 pub returns-clause-fault : goal.returns-clause-fault
 returns-clause-fault c = verdicts.path_fault
 
-pub returns-clause-lack : goal.returns-clause-lack
-returns-clause-lack c = verdicts.lacking
+pub returns-clause-unsupported : goal.returns-clause-unsupported
+returns-clause-unsupported c = verdicts.lacking
 
 pub returns-clause-accepted : goal.returns-clause-accepted
 returns-clause-accepted c = verdicts.clean

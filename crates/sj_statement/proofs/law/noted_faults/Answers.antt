@@ -7,8 +7,8 @@ returns-clause-fault c = faults.first_fault
 pub returns-clause-faultless : goal.returns-clause-faultless
 returns-clause-faultless c = faults.no_fault
 
-pub returns-clause-lack : goal.returns-clause-lack
-returns-clause-lack c = faults.first_lack
+pub returns-clause-unsupported : goal.returns-clause-unsupported
+returns-clause-unsupported c = faults.first_unsupported
 
 pub returns-clause-supported : goal.returns-clause-supported
-returns-clause-supported c = faults.no_lack
+returns-clause-supported c = faults.no_unsupported

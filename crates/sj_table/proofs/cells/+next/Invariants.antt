@@ -2,7 +2,7 @@ use Rattle.std.proofs.Common.{◌≡◌, ◌+◌, ◌*◌}
 use Rattle.sj_item.specs.Items.{item_value}
 use Rattle.sj_table.specs.Series.{size}
 use Rattle.sj_table.specs.Cells.{core, nested_core, union_core, cross_core, plan_size, entries_left, rows_left, nested_left, nested_due, cross_left, cross_due}
-use Rattle.sj_table.specs.Takes.{Nears}
+use Rattle.sj_table.specs.Takes.{Approaches}
 use Rattle.sj_table.proofs.cells.+next.Given as goal
 
 -- ---- the plan of what is asked falls, and where it stays, the rank does
@@ -30,7 +30,7 @@ decreases-Cross::next_right g l = 4 * plan_size (cross_core l.self.now)
 abbrev pub invariant-Nested::next-entries : goal.invariant-Nested::next-entries
 invariant-Nested::next-entries g l = record {
   same : nested_core l.self ≡ nested_core l.initial.self;
-  near : Nears (nested_left l.on_error l.initial.self (item_value l.parent)) (nested_due l.on_error l.initial.self (item_value l.parent)) l.initial.steps (nested_left l.on_error l.self (item_value l.parent)) (nested_due l.on_error l.self (item_value l.parent)) l.steps;
+  near : Approaches (nested_left l.on_error l.initial.self (item_value l.parent)) (nested_due l.on_error l.initial.self (item_value l.parent)) l.initial.steps (nested_left l.on_error l.self (item_value l.parent)) (nested_due l.on_error l.self (item_value l.parent)) l.steps;
 }
 
 abbrev pub decreases-Nested::next-entries : goal.decreases-Nested::next-entries
@@ -41,7 +41,7 @@ decreases-Nested::next-entries g l = size (entries_left l.on_error l.self.parent
 abbrev pub invariant-Cross::next-rows : goal.invariant-Cross::next-rows
 invariant-Cross::next-rows g l = record {
   same : cross_core l.self ≡ cross_core l.initial.self;
-  near : Nears (cross_left l.on_error l.initial.self (item_value l.parent)) (cross_due l.on_error l.initial.self (item_value l.parent)) l.initial.steps (cross_left l.on_error l.self (item_value l.parent)) (cross_due l.on_error l.self (item_value l.parent)) l.steps;
+  near : Approaches (cross_left l.on_error l.initial.self (item_value l.parent)) (cross_due l.on_error l.initial.self (item_value l.parent)) l.initial.steps (cross_left l.on_error l.self (item_value l.parent)) (cross_due l.on_error l.self (item_value l.parent)) l.steps;
 }
 
 abbrev pub decreases-Cross::next-rows : goal.decreases-Cross::next-rows

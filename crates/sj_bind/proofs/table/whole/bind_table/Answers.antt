@@ -1,5 +1,5 @@
 use Rattle.sj_sql.specs.View.{columns_of}
-use Rattle.sj_bind.proofs.Takes.{can_take}
+use Rattle.sj_bind.proofs.TakenColumns.{can_take}
 use Rattle.sj_bind.proofs.table.whole.bind_table.Goals as goal
 
 pub take_all-requires-clause-bindable : goal.take_all-requires-clause-bindable

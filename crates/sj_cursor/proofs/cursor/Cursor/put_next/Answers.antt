@@ -1,7 +1,7 @@
 use Rattle.sj_item.specs.Items.{item_value}
 use Rattle.sj_path.specs.Tree.{path_of}
 use Rattle.sj_cursor.specs.Meaning.{start_env}
-use Rattle.sj_cursor.proofs.Begins.{begins}
+use Rattle.sj_cursor.proofs.CellsAtTheBeginning.{begins}
 use Rattle.sj_cursor.proofs.cursor.Cursor.put_next.Goals as goal
 
 pub returns-clause-answers : goal.returns-clause-answers

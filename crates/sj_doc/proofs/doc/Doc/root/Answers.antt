@@ -1,5 +1,5 @@
 use Rattle.sj_doc.proofs.Docs.{whole}
-use Rattle.sj_doc.proofs.Made.{doc_made}
+use Rattle.sj_doc.proofs.NumbersOfNodes.{doc_made}
 use Rattle.sj_doc.proofs.doc.Doc.root.Goals as goal
 
 pub returns-clause-tree : goal.returns-clause-tree

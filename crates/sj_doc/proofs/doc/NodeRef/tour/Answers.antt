@@ -1,6 +1,6 @@
 use Rattle.std.proofs.Common.{◌-◌, ℕ, arith, sym, subst}
 use Rattle.sj_doc.specs.Stops.{IsTour}
-use Rattle.sj_doc.proofs.Ups.{link_le}
+use Rattle.sj_doc.proofs.ParentLinks.{link_le}
 use Rattle.sj_doc.proofs.Touring.{sets_out}
 use Rattle.sj_doc.proofs.doc.NodeRef.tour.Goals as goal
 

@@ -1,10 +1,10 @@
 use Rattle.std.proofs.Common.{◌≡◌, ◌+◌, ◌-◌, ℕ, List, ◌∷◌, Option, option_map, arith, refl, sym, ap, ◌∙◌, subst}
 use borrow.Author.Tests.{lt-ltb}
-use Rattle.sj_json.specs.Tree.{Tree, subtree}
+use Rattle.sj_json.specs.Tree.{Tree, subtree, NumberedChild}
 use Rattle.sj_doc.specs.Kinds.{kind_of}
 use Rattle.sj_doc.specs.Tours.{Visited, enter, leave, leaf}
 use Rattle.sj_doc.specs.Stops.{TourPosition, IsTour, arrival, visits_from, stops_of}
-use Rattle.sj_doc.proofs.Ups.{link_le}
+use Rattle.sj_doc.proofs.ParentLinks.{link_le}
 use Rattle.sj_doc.proofs.Touring.{Leaving, Arriving, shown_key, over, is_open, leaves, arrives, container_arrival, scalar_arrival, container_beyond, scalar_beyond}
 use Rattle.sj_doc.proofs.tour.Tour.advance.Goals as goal
 use Rattle.sj_doc.proofs.tour.Tour.advance.Goals.{then-self-eq0+else-self, else-self-eq0+else-self-end_of, After-end_of, After-up_at, After-shown_key-key, After-kind}
@@ -87,7 +87,7 @@ invariant_of-self-in_default c =
     subst (λ (p : TourPosition). IsTour f.doc.now f.first p.0 p.2 p.1) e (arriving (goal.at.invariant_of-self-in_default c).After-shown_key-key).after
 
 -- the node that is handed out
-named : (c : After-kind) → ◌≡◌ {A = Option (List ℕ) × ℕ × Tree} (shown_key c.self.inside.doc.now c.self.inside.at c.self.inside.depth, c.self.inside.at, subtree c.self.inside.doc.now c.self.inside.at)
+named : (c : After-kind) → ◌≡◌ {A = NumberedChild} (shown_key c.self.inside.doc.now c.self.inside.at c.self.inside.depth, c.self.inside.at, subtree c.self.inside.doc.now c.self.inside.at)
     (option_map (λ s. s.now) c.shown_key-key.result, c.node_at-node.result.at, subtree c.node_at-node.result.doc.now c.node_at-node.result.at)
 named c =
     let f = c.self.inside in
@@ -104,7 +104,7 @@ returns-in-Array c =
       ap (λ x. x.1) (sym c.self.view_is) ∙ a.left
           ∙ ap (λ (p : TourPosition). arrival (shown_key f.doc.now f.at f.depth) f.at (subtree f.doc.now f.at) ∷ visits_from p.0 p.1 (stops_of f.doc.now f.first)) e
           ∙ ap (λ (v : Visited). v ∷ visits_from (f.at + 1) (f.depth + 1) (stops_of f.doc.now f.first)) (container_arrival (shown_key f.doc.now f.at f.depth) f.at (subtree f.doc.now f.at) c.kind.result k c.in-Array.is)
-          ∙ ap (λ (n : Option (List ℕ) × ℕ × Tree). enter n ∷ visits_from (f.at + 1) (f.depth + 1) (stops_of f.doc.now f.first)) (named (goal.at.returns-in-Array c).After-kind),
+          ∙ ap (λ (n : NumberedChild). enter n ∷ visits_from (f.at + 1) (f.depth + 1) (stops_of f.doc.now f.first)) (named (goal.at.returns-in-Array c).After-kind),
       lt-ltb f.first (f.at + 1) (omega (arith, a.begun)),
     )
 
@@ -117,6 +117,6 @@ returns-in_default c =
       ap (λ x. x.1) (sym c.self.view_is) ∙ a.left
           ∙ ap (λ (p : TourPosition). arrival (shown_key f.doc.now f.at f.depth) f.at (subtree f.doc.now f.at) ∷ visits_from p.0 p.1 (stops_of f.doc.now f.first)) e
           ∙ ap (λ (v : Visited). v ∷ visits_from (f.at + 1) f.depth (stops_of f.doc.now f.first)) (scalar_arrival (shown_key f.doc.now f.at f.depth) f.at (subtree f.doc.now f.at) c.kind.result k c.in_default.not-Array c.in_default.not-Object)
-          ∙ ap (λ (n : Option (List ℕ) × ℕ × Tree). leaf n ∷ visits_from (f.at + 1) f.depth (stops_of f.doc.now f.first)) (named (goal.at.returns-in_default c).After-kind),
+          ∙ ap (λ (n : NumberedChild). leaf n ∷ visits_from (f.at + 1) f.depth (stops_of f.doc.now f.first)) (named (goal.at.returns-in_default c).After-kind),
       lt-ltb f.first (f.at + 1) (omega (arith, a.begun)),
     )

@@ -8,7 +8,7 @@ use Rattle.sj_select.specs.Sources.{source_left, source_due, found_due}
 use Rattle.sj_select.specs.Stages.{left_at, due_at, stage_behind}
 use Rattle.sj_select.specs.declared.rows.Stage.{Stage}
 use Rattle.sj_select.specs.declared.rows.Turn.{Turn}
-use Rattle.sj_select.proofs.Turning.{turn_is, row_is, rest_is, due_is, due_found}
+use Rattle.sj_select.proofs.AnsweredRows.{turn_is, row_is, rest_is, due_is, due_found}
 use Rattle.sj_select.proofs.rows.RowsOf.next.Goals as goal
 
 pub invariant_of-self : goal.invariant_of-self
@@ -38,7 +38,7 @@ returns-clause-gives g c =
     let left = left_at c.replace-stage.result (source_left s line c.self.inside.source) in
     let later = source_left s line c.find.new.source in
     let due = source_due s line c.find.new.source in
-    let row = c.find.new.source.pile.values.items in
+    let row = c.find.new.source.stack.values.items in
     let finds = c.in_ok-found.ensures.finds s c.self.invariant.1 in
     let was : left ≡ c.args.self.now.left = ap (λ (t : Stage). left_at t (source_left s line c.self.inside.source)) c.replace-stage.ensures.value ∙ ap (λ (v : Seen). v.left) c.self.view_is in
     record {

@@ -17,7 +17,7 @@ returns-in_default-clause-finds g c s is =
     let line = line_of c.args.line in
     let left = left_beside c.args.self.now.table s.items line in
     let finds = ap steps_of c.as_mut_slice-operations.ensures.value ∙ is.finds in
-    subst (λ (t : Option TableRows). IfOk c.find_alone.result (λ found. Finds (left_beside t s.items line) found c.find_alone.new.pile.values.items left)) (sym c.in_default.is)
+    subst (λ (t : Option TableRows). IfOk c.find_alone.result (λ found. Finds (left_beside t s.items line) found c.find_alone.new.stack.values.items left)) (sym c.in_default.is)
     (c.find_alone.ensures.finds (values_in s.items) left finds)
 
 pub returns-in_default-clause-costs : goal.returns-in_default-clause-costs
@@ -39,7 +39,7 @@ returns-else-is_empty-clause-finds g c s is =
     let whole : aggregated line table (map aggregate_of c.as_mut_slice-aggregates.result.now) [] left ≡ left_beside c.args.self.now.table s.items line =
     ap (λ l. aggregated line table l [] left) held ∙ sym (over_aggregates line table (values_in s.items) left c.as_mut_slice-aggregates.result.now all held (ap (λ (n : ℕ). nat_eq n 0) c.as_mut_slice-aggregates.ensures.len ∙ sym c.is_empty.ensures ∙ c.if-is_empty.false))
     ∙ ap (λ (t : Option TableRows). left_beside t s.items line) (sym c.in-Some.is) in
-    subst (λ (l : StatementRows). IfOk c.find_aggregated.result (λ found. Finds l found c.find_aggregated.new.pile.values.items later)) whole (c.find_aggregated.ensures.finds later)
+    subst (λ (l : StatementRows). IfOk c.find_aggregated.result (λ found. Finds l found c.find_aggregated.new.stack.values.items later)) whole (c.find_aggregated.ensures.finds later)
 
 pub returns-else-is_empty-clause-costs : goal.returns-else-is_empty-clause-costs
 returns-else-is_empty-clause-costs g c s is =

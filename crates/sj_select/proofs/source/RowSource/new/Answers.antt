@@ -8,7 +8,7 @@ use Rattle.sj_select.specs.Performing.{CanBeGiven}
 use Rattle.sj_select.specs.Sources.{IsPlacedIfAny}
 use Rattle.sj_select.specs.Taking.{CanTake}
 use Rattle.sj_select.specs.declared.table.TableRows.{TableRows}
-use Rattle.sj_select.proofs.Sounds.{sound_steps, sound_items}
+use Rattle.sj_select.proofs.SoundOperations.{sound_steps, sound_items}
 use Rattle.sj_select.proofs.source.RowSource.new.Goals.{in-Some+in_ok-new-in-Some, in-None}
 use Rattle.sj_select.proofs.source.RowSource.new.Goals as goal
 

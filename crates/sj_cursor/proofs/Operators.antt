@@ -10,7 +10,7 @@ use Rattle.sj_step.proofs.Traces.{each-only}
 use Rattle.sj_method.specs.Methods.{method_of}
 use Rattle.sj_cursor.specs.Meaning.{Env, takes_arrays, meaning}
 use Rattle.sj_cursor.specs.Left.{Doing, Acts, Keeps, Picks, doing_on, doing_opening, doing_nodes, done, operand_whole}
-use Rattle.sj_cursor.specs.declared.cells.Act.TheVariants as acts
+use Rattle.sj_cursor.specs.declared.cells.Simple.TheVariants as simples
 use Rattle.sj_cursor.specs.declared.cells.Opening.TheVariants.{AsItIs, Unwrapped}
 
 pub as_it_is : (e : t.Expr) (env : Env) → operand_whole AsItIs e env ≡ meaning e env
@@ -20,28 +20,28 @@ input_is : (as_it_stands : Bool) (e : t.Expr) (env : Env) → operand_whole (if 
 input_is true e env = as_it_is e env
 input_is false e env = refl
 
-method_is : (m : Method) (e : t.Expr) (env : Env) → each (operand_whole (doing_opening (Acts (acts.Method m))) e env) (done (Acts (acts.Method m)) env) ≡ meaning (t.Access e (t.Call m)) env
+method_is : (m : Method) (e : t.Expr) (env : Env) → each (operand_whole (doing_opening (Acts (simples.Method m))) e env) (done (Acts (simples.Method m)) env) ≡ meaning (t.Access e (t.Call m)) env
 method_is m e env = ap (λ u. each u (method_of m)) (input_is (takes_arrays m) e env)
 
 pub doing_is : (d : Doing) (e : t.Expr) (env : Env) → each (operand_whole (doing_opening d) e env) (done d env) ≡ meaning (doing_on d e) env
-doing_is (Acts (acts.Member key)) e env = refl
-doing_is (Acts acts.AllMembers) e env = refl
-doing_is (Acts acts.AllElements) e env = ap (λ u. each u (done (Acts acts.AllElements) env)) (as_it_is e env)
-doing_is (Acts acts.Plus) e env = refl
-doing_is (Acts acts.Minus) e env = refl
-doing_is (Acts (acts.Method m)) e env = method_is m e env
+doing_is (Acts (simples.Member key)) e env = refl
+doing_is (Acts simples.AllMembers) e env = refl
+doing_is (Acts simples.AllElements) e env = ap (λ u. each u (done (Acts simples.AllElements) env)) (as_it_is e env)
+doing_is (Acts simples.Plus) e env = refl
+doing_is (Acts simples.Minus) e env = refl
+doing_is (Acts (simples.Method m)) e env = method_is m e env
 doing_is (Keeps p) e env = refl
 doing_is (Picks s) e env = ap (λ u. each u (done (Picks s) env)) (as_it_is e env)
 
 -- ---- nodes
 
 pub doing_below : (d : Doing) (e : t.Expr) → expr_nodes e + doing_nodes d + 1 ≤ expr_nodes (doing_on d e)
-doing_below (Acts (acts.Member key)) e = omega arith
-doing_below (Acts acts.AllMembers) e = omega arith
-doing_below (Acts acts.AllElements) e = omega arith
-doing_below (Acts acts.Plus) e = omega arith
-doing_below (Acts acts.Minus) e = omega arith
-doing_below (Acts (acts.Method m)) e = omega arith
+doing_below (Acts (simples.Member key)) e = omega arith
+doing_below (Acts simples.AllMembers) e = omega arith
+doing_below (Acts simples.AllElements) e = omega arith
+doing_below (Acts simples.Plus) e = omega arith
+doing_below (Acts simples.Minus) e = omega arith
+doing_below (Acts (simples.Method m)) e = omega arith
 doing_below (Keeps p) e = omega arith
 doing_below (Picks s) e = omega arith
 

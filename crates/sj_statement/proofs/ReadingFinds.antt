@@ -5,9 +5,9 @@ use Rattle.sj_statement.specs.Phrases.{Tokens}
 use Rattle.sj_statement.specs.Grammar.{IsSelect}
 use Rattle.sj_statement.specs.Notes.{Notes, statement_with, note_statement}
 use Rattle.sj_statement.specs.Reading.{select_at}
-use Rattle.sj_statement.proofs.Words.{some_is}
-use Rattle.sj_statement.proofs.FullTables.{select_full}
-use Rattle.sj_statement.proofs.Sound.{select_reads}
+use Rattle.sj_statement.proofs.ReadTokens.{some_is}
+use Rattle.sj_statement.proofs.TableCompleteness.{select_full}
+use Rattle.sj_statement.proofs.Soundness.{select_reads}
 
 module _ {P F : Type 0} (n : Notes P F) where
   -- what was read is the tree of the tokens, with its paths and what is noted of it

@@ -17,13 +17,13 @@ use Rattle.sj_statement.specs.Grammar as g
 use Rattle.sj_statement.specs.Grammar.{IsOptional, IsPassedOver, IsList, IsDocument, IsPassing, Source, document, row, IsValue, IsColumnPath, IsColumn, IsColumns, IsColumnList, IsPlanExpr, IsUnion, IsCross, IsPlanPrim, operators, IsPlan, IsTable, IsPlainItem, IsRowItem, IsListedItem, IsSelect}
 use Rattle.sj_statement.specs.Notes.{Notes, value_with, item_with, column_with, columns_with, table_with, plain_with, items_with, statement_with, note_encoding, note_value, note_item, note_column, note_columns, note_table, note_plain, note_items, note_statement}
 use Rattle.sj_statement.specs.Reading.{plan_parens_at, plan_prim_at, union_from, cross_from, joined_at, named_plan_at, plan_over, plan_expr_at, plan_at, has_from, value_at, regular_at, formatted_from, existence_from, named_column_at, nested_from, column_at, columns_from, columns_over, columns_at, row_path_at, table_at, plain_item_at, array_agg_from, object_agg_from, row_item_at, listed_item_at, items_from, all_at, listed_at, plain_at, select_at}
-use Rattle.sj_statement.proofs.Words.{bind_is, bind_none, some_on, none_on, cond_on, cond_off, said}
+use Rattle.sj_statement.proofs.ReadTokens.{bind_is, bind_none, some_on, none_on, cond_on, cond_off, said}
 use Rattle.sj_sql_token.specs.Keywords.{is_reserved}
 use Rattle.sj_sql_token.specs.Same.{same}
-use Rattle.sj_statement.proofs.Eats.{path_name_eats, word_eats, open_eats, close_eats, comma_eats, name_eats, nested_path_eats}
-use Rattle.sj_statement.proofs.Eaten.{optional_passes, list_eats, column_eats, plan_expr_eats, plan_prim_eats, plain_item_eats, listed_item_eats}
-use Rattle.sj_statement.proofs.Leads.{bound, through, close_leads, open_leads, comma_leads, path_leads, alias_leads, quotes_leads, wrapper_leads, exists_leads, table_clause_leads, value_clause_leads, query_clause_leads, value_error_alone, query_error_alone, name_not_open, name_not_word, type_not_for, type_not_formatted, type_not_existence, other_word, word_not_literal, value_heads, value_not_star, EndsDocument, ends_comma, ends_here, ends_as}
-use Rattle.sj_statement.proofs.Full.{optional_full, over_full, document_full, NoPassing, passing_full, comma_no_format, NoWords, no_wrapper, wrapper_stops, no_quotes, quotes_stop, close_no_unique, close_no_nulls, object_nulls, value_full, member_full}
+use Rattle.sj_statement.proofs.SpellingsTakeTokens.{path_name_eats, word_eats, open_eats, close_eats, comma_eats, name_eats, nested_path_eats}
+use Rattle.sj_statement.proofs.PartsTakeTokens.{optional_passes, list_eats, column_eats, plan_expr_eats, plan_prim_eats, plain_item_eats, listed_item_eats}
+use Rattle.sj_statement.proofs.FirstTokens.{bound, through, close_leads, open_leads, comma_leads, path_leads, alias_leads, quotes_leads, wrapper_leads, exists_leads, table_clause_leads, value_clause_leads, query_clause_leads, value_error_alone, query_error_alone, name_not_open, name_not_word, type_not_for, type_not_formatted, type_not_existence, other_word, word_not_literal, value_heads, value_not_star, EndsDocument, ends_comma, ends_here, ends_as}
+use Rattle.sj_statement.proofs.Completeness.{optional_full, over_full, document_full, NoPassing, passing_full, comma_no_format, NoWords, no_wrapper, wrapper_stops, no_quotes, quotes_stop, close_no_unique, close_no_nulls, object_nulls, value_full, member_full}
 
 -- ---- plans
 

@@ -20,11 +20,11 @@ use Rattle.sj_statement.specs.Grammar as g
 use Rattle.sj_statement.specs.Grammar.{IsOptional, IsPassedOver, IsList, IsDocument, IsPassed, IsPassing, IsCommon, IsExistsCall, IsValueCall, IsQueryCall, IsKind, IsOwnUnique, IsIsJson, Source, document, row, IsValue, IsValues, IsMember, IsMembers, IsColumnPath, IsColumn, IsColumns, IsColumnList, IsPlanExpr, IsUnion, IsCross, IsPlanPrim, operators, IsPlan, IsTable, IsPlainItem, IsRowItem, IsListedItem, IsSelect}
 use Rattle.sj_statement.specs.Notes.{Notes, common_with, value_with, values_with, members_with, note_type, note_common, note_value, note_values, note_members, exists_with, value_call_with, query_with}
 use Rattle.sj_statement.specs.Reading.{optional, passed_over, list_from, document_at, passing_at, begins_value, kind_at, is_json_at, common_at, exists_from, value_from, query_from, values_from, member_value_at, keyed_at, valued_at, member_at, members_from, members_to_end, object_from, values_to_end, array_from, asking_at, value_over, value_at}
-use Rattle.sj_statement.proofs.Words.{bind_is, bind_none, some_on, none_on, said}
+use Rattle.sj_statement.proofs.ReadTokens.{bind_is, bind_none, some_on, none_on, said}
 use Rattle.sj_sql_token.specs.Same.{same}
-use Rattle.sj_statement.proofs.Eats.{word_eats, open_eats, comma_eats, colon_eats}
-use Rattle.sj_statement.proofs.Eaten.{value_eats, member_eats, passed_is}
-use Rattle.sj_statement.proofs.Leads.{through, close_leads, comma_leads, colon_leads, returning_leads, quotes_leads, unique_leads, wrapper_leads, exists_leads, nulls_leads, value_clause_leads, query_clause_leads, value_error_alone, query_error_alone, meant_leads, name_not_word, name_not_literal, IsDoc, doc_is, other_word, word_not_literal, value_not_close, value_not_key, ends_value, EndsDocument, Ends, ends, ends_close, ends_comma, ends_colon, ends_with, ends_without, ends_nulls}
+use Rattle.sj_statement.proofs.SpellingsTakeTokens.{word_eats, open_eats, comma_eats, colon_eats}
+use Rattle.sj_statement.proofs.PartsTakeTokens.{value_eats, member_eats, passed_is}
+use Rattle.sj_statement.proofs.FirstTokens.{through, close_leads, comma_leads, colon_leads, returning_leads, quotes_leads, unique_leads, wrapper_leads, exists_leads, nulls_leads, value_clause_leads, query_clause_leads, value_error_alone, query_error_alone, meant_leads, name_not_word, name_not_literal, IsDoc, doc_is, other_word, word_not_literal, value_not_close, value_not_key, ends_value, EndsDocument, Ends, ends, ends_close, ends_comma, ends_colon, ends_with, ends_without, ends_nulls}
 
 -- ---- what may stand, and what is repeated
 

@@ -9,8 +9,8 @@ use Rattle.sj_statement.specs.Tree.{PathText, Common, ExistsCall, ValueCall, Que
 use Rattle.sj_statement.specs.Phrases.{Tokens, Phrase, kind_of}
 use Rattle.sj_statement.specs.Grammar as g
 use Rattle.sj_statement.specs.Grammar.{IsOptional, IsPassedOver, IsList, IsDocument, IsPassed, IsPassing, IsCommon, IsExistsCall, IsValueCall, IsQueryCall, IsKind, IsOwnUnique, IsIsJson, Source, IsValue, IsValues, IsMember, IsMembers, IsColumnPath, IsColumn, IsColumns, IsColumnList, IsPlanExpr, IsUnion, IsCross, IsPlanPrim, IsPlan, IsTable, IsPlainItem, IsRowItem, IsListedItem}
-use Rattle.sj_statement.proofs.Words.{If}
-use Rattle.sj_statement.proofs.Eats.{Eats, Passes, Takes, stays, passes, eats, and_eats, both, joined, word_eats, open_eats, close_eats, comma_eats, colon_eats, string_eats, name_eats, doc_eats, meant_eats, literal_eats, type_eats, encoding_eats, format_eats, passed_eats, exists_clause_eats, returning_eats, value_clause_eats, query_clause_eats, wrapper_eats, quotes_eats, not_eats, unique_eats, nulls_eats, alias_eats, path_name_eats, path_eats, nested_path_eats, formatted_eats, existence_eats}
+use Rattle.sj_statement.proofs.ReadTokens.{If}
+use Rattle.sj_statement.proofs.SpellingsTakeTokens.{Eats, Passes, Takes, stays, passes, eats, and_eats, both, joined, word_eats, open_eats, close_eats, comma_eats, colon_eats, string_eats, name_eats, doc_eats, meant_eats, literal_eats, type_eats, encoding_eats, format_eats, passed_eats, exists_clause_eats, returning_eats, value_clause_eats, query_clause_eats, wrapper_eats, quotes_eats, not_eats, unique_eats, nulls_eats, alias_eats, path_name_eats, path_eats, nested_path_eats, formatted_eats, existence_eats}
 
 -- ---- what may stand, and what is repeated
 

@@ -32,8 +32,8 @@ use Rattle.sj_bind.specs.Sound as sound
 use Rattle.sj_bind.specs.Sound.{IsBindable, IsTextColumn, IsSoundItem, IsSound, AreAllAlike}
 use Rattle.sj_bind.specs.Tables.{column_names, table_columns}
 use Rattle.sj_bind.specs.View.{bound_of}
-use Rattle.sj_bind.proofs.Clean.{clean_plain, clean_all, clean_list, few_columns}
-use Rattle.sj_bind.proofs.Fitted.{neither}
+use Rattle.sj_bind.proofs.UnbrokenRules.{clean_plain, clean_all, clean_list, few_columns}
+use Rattle.sj_bind.proofs.BindableValues.{neither}
 use Rattle.sj_bind.proofs.SoundTables.{placed, are_texts, sound_table, length-bound_columns}
 use Rattle.sj_bind.proofs.SoundValues.{AreKept, kept_calls, kept_parts, apart, holds, sound_key, sound_value}
 use Rattle.sj_bind.proofs.TableSizes.{length-table_columns}

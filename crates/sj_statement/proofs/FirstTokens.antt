@@ -13,7 +13,7 @@ use Rattle.sj_statement.specs.Phrases.{Tokens, Phrase, if_some, word, open_at, c
 use Rattle.sj_statement.specs.Grammar as g
 use Rattle.sj_statement.specs.Grammar.{IsOptional, IsPassedOver, Source, document, row, IsValue, IsIsJson, IsExistsCall, IsValueCall, IsQueryCall}
 use Rattle.sj_statement.specs.Reading.{begins_value}
-use Rattle.sj_statement.proofs.Words.{some_is, said}
+use Rattle.sj_statement.proofs.ReadTokens.{some_is, said}
 
 -- what was bound was there
 pub record Bound {A B : Type 0} (o : Option A) (f : A → Option B) (b : B) : Type 0 where

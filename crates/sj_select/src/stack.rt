@@ -16,17 +16,17 @@ use std::alloc::Global;
 
 /// Values, and members of objects, the last one at the end.
 #[derive(Drop)]
-pub(crate) struct Pile {
+pub(crate) struct Stack {
     pub(crate) values: Vec<SqlValue>,
     pub(crate) members: Vec<Field>,
 }
 
-impl Pile {
-    pub(crate) fn new(alloc: Global) -> Pile
+impl Stack {
+    pub(crate) fn new(alloc: Global) -> Stack
         ensures values { result.values.items ≡ [] }
         ensures members { result.members.items ≡ [] }
     {
-        Pile {
+        Stack {
             values: Vec::new(alloc),
             members: Vec::new(alloc),
         }

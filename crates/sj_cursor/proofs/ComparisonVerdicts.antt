@@ -16,7 +16,7 @@ use Rattle.sj_cursor.specs.RowsSeen.{RowSeen, RowsSeen}
 use Rattle.sj_cursor.specs.Asked.{Asked}
 use Rattle.sj_cursor.specs.Decides.{Decides}
 use Rattle.sj_cursor.specs.Cells.{is_lax, decided_truth}
-use Rattle.sj_cursor.proofs.Compared.{rows_true_is, row_doubt_is, rows_doubt_is, lax_allow_some, lax_allow_none, strict_allow_some, strict_allow_none}
+use Rattle.sj_cursor.proofs.ComparisonPairs.{rows_true_is, row_doubt_is, rows_doubt_is, lax_allow_some, lax_allow_none, strict_allow_some, strict_allow_none}
 
 -- ---- whether there is a left item
 

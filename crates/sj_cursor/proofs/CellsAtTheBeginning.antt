@@ -7,7 +7,8 @@ use Rattle.sj_path.specs.declared.tree.Path.{Path}
 use Rattle.sj_step.specs.Trace.{Trace}
 use Rattle.sj_cursor.specs.Standing.{standing_left}
 use Rattle.sj_cursor.specs.declared.cursor.Stands.{Stands}
-use Rattle.sj_cursor.specs.Meaning.{Variables, meaning, start_env, path_trace}
+use Rattle.sj_path.specs.Vars.{Variables}
+use Rattle.sj_cursor.specs.Meaning.{meaning, start_env, path_trace}
 
 pub begins : (path : Path) (vars : Variables) (x : ItemValue) (s : Stands) (v u : Trace) (k : t.Expr)
     → k ≡ expr_of path.expr → u ≡ standing_left s (meaning k (start_env (path_of path) vars x)) v → u ≡ standing_left s (path_trace (path_of path) vars x) v

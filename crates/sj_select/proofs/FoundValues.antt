@@ -15,7 +15,7 @@ use Rattle.sj_select.specs.Performing.{CanBeGiven, Held, EndsIn, held, done, ste
 use Rattle.sj_select.specs.Values.{given, cost, given_list, list_cost}
 use Rattle.sj_select.specs.declared.operation.Operation.{Operation}
 use Rattle.sj_select.specs.Filling.{Gathers}
-use Rattle.sj_select.specs.declared.pile.Pile.{Pile}
+use Rattle.sj_select.specs.declared.stack.Stack.{Stack}
 use Rattle.sj_func.specs.declared.context.Outcome.{Outcome}
 use Rattle.sj_func.specs.declared.context.Outcome.TheVariants.{Value, Raised}
 use Rattle.sj_select.proofs.Performed.{list_then, with_values, found_all, value_end, one_end, one_cost}
@@ -93,7 +93,7 @@ module _ (line : Line) (columns : List SqlValue) where
 
 -- ---- steps that were performed from nothing
 
-pub empty_held : (p : Pile) → p.values.items ≡ [] → p.members.items ≡ [] → held p ≡ nothing
+pub empty_held : (p : Stack) → p.values.items ≡ [] → p.members.items ≡ [] → held p ≡ nothing
 empty_held p values members = cc
 
 module _ (line : Line) (columns : List SqlValue) (steps : List Step) (h : Held) (empty : h ≡ nothing) where
@@ -123,7 +123,7 @@ module _ (line : Line) (columns : List SqlValue) (steps : List Step) (h : Held) 
     list_gathers (Some s) k e = list_err (given_list line columns xs) s (sym list_whole ∙ e)
 
     -- what finding answers, where memory suffices
-    pub gathers_ok : (r : Result (Option State) Memory) (p : Pile) → IfOk r (λ raised. EndsIn (performed line columns steps h).end raised (held p)) → IfOk r (λ raised. Gathers (given_list line columns xs) raised p.values.items)
+    pub gathers_ok : (r : Result (Option State) Memory) (p : Stack) → IfOk r (λ raised. EndsIn (performed line columns steps h).end raised (held p)) → IfOk r (λ raised. Gathers (given_list line columns xs) raised p.values.items)
     gathers_ok (Ok raised) p e = list_gathers raised (held p) e
     gathers_ok (Err m) p e = tt
 

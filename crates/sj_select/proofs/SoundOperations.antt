@@ -2,7 +2,7 @@
 use Rattle.std.proofs.Common.{ℕ, ◌<◌, suc, List, [], ◌∷◌, length, map, get_or, arith}
 use Rattle.std.specs.List.{All}
 use Rattle.std.proofs.lemmas.List.Elements.{All-nil, All-cons, All-append}
-use Rattle.sj_path.specs.Vars.{Named}
+use Rattle.sj_path.specs.Vars.{Variables}
 use Rattle.sj_bind.specs.Bound as b
 use Rattle.sj_bind.specs.Sound.{IsSoundValue, AreSoundValues, AreSoundMembers, IsSoundItem, IsSoundColumn, IsSoundTable, IsSound, columns_of}
 use Rattle.sj_select.specs.Columns.{with_variables, columns_of as table_columns}
@@ -50,7 +50,7 @@ module _ (columns : List b.ColumnOf) where
   given_items (b.ObjectAgg key x on_null unique ∷ xs) h = given_items xs (tail_sound (b.ObjectAgg key x on_null unique) xs h)
 
 -- the clauses of the columns of a sound table can be given
-module _ (vars : Named) (n : ℕ) where
+module _ (vars : Variables) (n : ℕ) where
   filled : (c : b.ColumnOf) → IsSoundColumn vars n c → CanFill (with_variables vars c)
   filled (b.Ordinality k) h = tt
   filled (b.Regular k path clauses) h = h.2.can_be_given
