@@ -2,8 +2,8 @@
 
 The page is made of the sources. It begins with the definitions that the contract of `run` names, and goes on with those
 that they name. Where a function has a law, it goes on with what the law says, and not with the way in which the function
-finds its value. This check says where the page differs, where there is more to believe than MOST_LINES, and where one of
-the modules is a view.
+finds its value. This check says where the page differs, where there is more to believe than MOST_LINES, where one of the
+modules is a view, and which definition stands in two crates.
 
 usage, at the top of the repository: python3 -m checks.definitions > docs/DEFINITIONS.md
 """
@@ -34,6 +34,12 @@ LAWS = {
     ("sj_json/specs/Numbers.antt", "number_of"): ("sj_value/src/law.rt", "one_number"),
     ("sj_json/specs/UniqueKeys.antt", "has_unique_keys"): ("sj_json/src/lib.rt", "unique_keys"),
 }
+# Definitions that stand in two crates, each with its reason.
+KNOWN_TWINS = {
+    ("sj_bind/specs/Clauses literal_item", "sj_cursor/specs/Meaning literal_value"),  # no crate below both knows items and literals
+    ("sj_build/specs/Constructors truth_text", "sj_item/specs/Scalars word"),  # what is printed, and what a path gives
+}
+NUMBER = re.compile(r"(?:pub )?@0 : \S*ℕ\n@0 = \d+")  # a limit: that two have one value is chance
 INTRODUCTION = """# The definitions behind the contract of `run`
 
 A proof shows that the code does what its contract says. Whether the contract says what it should, a reader has to judge,
@@ -202,11 +208,55 @@ def table(top, found):
     return "\n".join(rows)
 
 
+def twins(top):
+    """The definitions that stand in two crates under whatever names, each as the places where it stands."""
+    places = {}
+    for file in sorted((top / "crates").glob("*/specs/**/*.antt")):
+        crate = file.relative_to(top / "crates").parts[0]
+        text = file.read_text(encoding="utf-8")
+        imported = imported_paths(text)
+        for _, lines in blocks(text):
+            meaning, name = meant(lines, imported)
+            if meaning and not NUMBER.fullmatch(meaning):
+                places.setdefault(meaning, []).append((crate, f"{crate}/specs/{file.stem} {name}"))
+    several = (found for found in places.values() if len({crate for crate, _ in found}) > 1)
+    return [tuple(place for _, place in found) for found in several]
+
+
+def imported_paths(text):
+    """Each name that a file imports, with the whole path of what it means."""
+    paths = {}
+    for crate, path, some, alias in IMPORT.findall(text):
+        for it in some.split(",") if some else []:
+            there, _, here = it.strip().partition(" as ")
+            paths[(here or there).strip("◌")] = f"{crate}.{path}.{there}"
+        if not some:
+            paths[alias or path.split(".")[-1]] = f"{crate}.{path}"
+    return paths
+
+
+def meant(lines, imported):
+    """What a definition of two lines and more says, whatever it and its names are called, and what it is called here."""
+    code = [line.strip() for line in lines if not line.strip().startswith("--")]
+    names = sorted(defined(lines))
+    if len(code) < 2 or not names:
+        return None, None
+    own = {name: f"@{number}" for number, name in enumerate(names)}
+
+    def whole(token):
+        head, dot, rest = token[0].partition(".")
+        return own.get(token[0]) or imported.get(token[0]) or (imported[head] + dot + rest if head in imported else token[0])
+
+    return re.sub(r"^(?:abbrev|unfoldable) ", "", TOKEN.sub(whole, "\n".join(code))), names[0]
+
+
 def check_definitions(tally, top):
     it = rests(top)
     lines, views = sum(it.found.values()), sorted({file for file, _ in it.found if Path(file).stem in VIEWS})
     tally.check("views among the definitions to believe", ", ".join(views))
     tally.check("the definitions to believe", None if lines <= MOST_LINES else f"they have {lines} lines, and {MOST_LINES} are the most")
+    new = [places for places in twins(top) if places not in KNOWN_TWINS]
+    tally.check("definitions that stand in two crates", "; ".join(" and ".join(places) for places in new))
     differs = (top / PAGE).read_text(encoding="utf-8") != page(top)
     tally.check(PAGE, f"it is not what the sources say: make it anew by `python3 -m checks.definitions > {PAGE}`" if differs else None)
 
