@@ -30,7 +30,7 @@ TOKEN = re.compile(r"[^\s(){},;]+")
 # The functions that have a law: where each is defined, and the call whose contract is the law.
 LAWS = {
     ("sj_json/specs/Document.antt", "document"): ("sj_json/src/lib.rt", "one_document"),
-    ("sj_grammar/specs/Accepted.antt", "accepted_path"): ("sj_grammar/src/law.rt", "one_path"),
+    ("sj_path_grammar/specs/Accepted.antt", "accepted_path"): ("sj_path_grammar/src/law.rt", "one_path"),
     ("sj_json/specs/Numbers.antt", "number_of"): ("sj_value/src/law.rt", "one_number"),
     ("sj_json/specs/UniqueKeys.antt", "has_unique_keys"): ("sj_json/src/lib.rt", "unique_keys"),
 }

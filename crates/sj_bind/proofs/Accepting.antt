@@ -4,27 +4,27 @@ use Rattle.std.proofs.Common.{◌≡◌, ℕ, true, ◌&&◌, nat_le, List, [], 
 use Rattle.std.specs.List.{All as Each}
 use Rattle.std.proofs.lemmas.Bool.Decides.{nat_tests}
 use Rattle.std.proofs.lemmas.List.Elements.{All-nil, All-cons, All-append}
-use Rattle.sj_grammar.specs.declared.refusal.Name.{Name}
-use Rattle.sj_grammar.specs.declared.refusal.Name.TheVariants as lacks
-use Rattle.sj_grammar.specs.Tree.{Path}
+use Rattle.sj_path_grammar.specs.declared.refusal.Name.{Name}
+use Rattle.sj_path_grammar.specs.declared.refusal.Name.TheVariants as lacks
+use Rattle.sj_path_grammar.specs.Tree.{Path}
 use Rattle.sj_value.specs.declared.types.SqlType.TheVariants as types
 use Rattle.sj_value.specs.Types.{AreDigits, IsCastType}
 use Rattle.sj_sql_token.specs.declared.token.Token.TheVariants as k
 use Rattle.sj_sql_token.specs.declared.keyword.Keyword.{Keyword}
 use Rattle.sj_sql_token.specs.declared.keyword.Keyword.TheVariants as w
 use Rattle.sj_sql_token.specs.Tokens.{Lexed}
-use Rattle.sj_statement.specs.declared.clauses.Encoding.{Encoding}
-use Rattle.sj_statement.specs.declared.clauses.Encoding.TheVariants.{Read, Refused}
-use Rattle.sj_statement.specs.declared.clauses.TypeName.{TypeName}
-use Rattle.sj_statement.specs.declared.clauses.TypeName.TheVariants.{Known, Approximate, Datetime}
-use Rattle.sj_statement.specs.declared.refusal.FileKind.{FileKind}
-use Rattle.sj_statement.specs.Tree.{PathText, Common, ExistsCall, ValueCall, QueryCall, Value, Values, Members, ColumnOf, Ordinality, Regular, Formatted, Existence, Columns, Table, Statement}
-use Rattle.sj_statement.specs.Phrases.{Tokens, word, open_at, close_at, comma_at, count_at, sized, varchar_at, fixed_at, numeric_at, type_from, type_at, returning_at}
-use Rattle.sj_statement.specs.Grammar as g
-use Rattle.sj_statement.specs.Grammar.{IsOptional, IsList, IsValueCall, Source, IsValue, IsValues, IsMember, IsMembers, IsColumn, IsColumns, IsColumnList, IsTable, IsPlainItem, IsSelect}
-use Rattle.sj_statement.specs.Notes.{exists_with, value_call_with, query_with, value_with, values_with, members_with, regular_with, formatted_with, column_with, columns_with, table_with, plain_with, statement_with, note_encoding, note_type, note_common, note_value, note_values, note_members, note_column, note_columns, note_table, note_plain, note_items}
-use Rattle.sj_statement.specs.Answers.{Mark, path, unsupported, listing, marks, IsUnsupported, Free, none, more, finishing, Accepted, Ending, IsScript, done, unended, faulty, refused, accepted, IsFile}
-use Rattle.sj_statement.proofs.ReadTokens.{If, nothing, here, given, either, chosen}
+use Rattle.sj_sql_grammar.specs.declared.clauses.Encoding.{Encoding}
+use Rattle.sj_sql_grammar.specs.declared.clauses.Encoding.TheVariants.{Read, Refused}
+use Rattle.sj_sql_grammar.specs.declared.clauses.TypeName.{TypeName}
+use Rattle.sj_sql_grammar.specs.declared.clauses.TypeName.TheVariants.{Known, Approximate, Datetime}
+use Rattle.sj_sql_grammar.specs.declared.refusal.FileKind.{FileKind}
+use Rattle.sj_sql_grammar.specs.Tree.{PathText, Common, ExistsCall, ValueCall, QueryCall, Value, Values, Members, ColumnOf, Ordinality, Regular, Formatted, Existence, Columns, Table, Statement}
+use Rattle.sj_sql_grammar.specs.Phrases.{Tokens, word, open_at, close_at, comma_at, count_at, sized, varchar_at, fixed_at, numeric_at, type_from, type_at, returning_at}
+use Rattle.sj_sql_grammar.specs.Grammar as g
+use Rattle.sj_sql_grammar.specs.Grammar.{IsOptional, IsList, IsValueCall, Source, IsValue, IsValues, IsMember, IsMembers, IsColumn, IsColumns, IsColumnList, IsTable, IsPlainItem, IsSelect}
+use Rattle.sj_sql_grammar.specs.Notes.{exists_with, value_call_with, query_with, value_with, values_with, members_with, regular_with, formatted_with, column_with, columns_with, table_with, plain_with, statement_with, note_encoding, note_type, note_common, note_value, note_values, note_members, note_column, note_columns, note_table, note_plain, note_items}
+use Rattle.sj_sql_grammar.specs.Answers.{Mark, path, unsupported, listing, marks, IsUnsupported, Free, none, more, finishing, Accepted, Ending, IsScript, done, unended, faulty, refused, accepted, IsFile}
+use Rattle.sj_sql_grammar.proofs.ReadTokens.{If, nothing, here, given, either, chosen}
 use Rattle.sj_bind.specs.Clauses.{IsBindableType}
 use Rattle.sj_bind.specs.Leaves.{leaves_in, leaves}
 use Rattle.sj_bind.specs.Parts.{Call, exists_call, value_call, query_call, calls_in, calls_in_values, calls_in_members, calls_in_list}

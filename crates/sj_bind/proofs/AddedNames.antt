@@ -6,7 +6,7 @@ use Rattle.std.specs.Str.{bytes_eq}
 use Rattle.std.proofs.lemmas.Slice.Eq.{bytes_eq-Decides}
 use Rattle.sj_base.specs.Names.{is_among}
 use Rattle.sj_path.specs.Vars.{has_name}
-use Rattle.sj_statement.specs.declared.clauses.Passed.{Passed}
+use Rattle.sj_sql_grammar.specs.declared.clauses.Passed.{Passed}
 use Rattle.sj_bind.specs.Clauses.{passed}
 use Rattle.sj_bind.specs.Variables.{AddsNames}
 use Rattle.sj_bind.proofs.Lists.{any_mapped}

@@ -1,7 +1,7 @@
 -- The first statement of a file can be bound.
 use Rattle.std.proofs.Common.{ℕ, List, Result, Ok}
-use Rattle.sj_grammar.specs.Tree.{Path}
-use Rattle.sj_statement.specs.Tree.{Statement}
+use Rattle.sj_path_grammar.specs.Tree.{Path}
+use Rattle.sj_sql_grammar.specs.Tree.{Statement}
 use Rattle.sj_sql.specs.File.{IsFirst, IsNext}
 use Rattle.sj_sql.specs.View.{statement_of}
 use Rattle.sj_sql.specs.declared.file.NextStatement.{NextStatement}

@@ -3,8 +3,8 @@ use Rattle.std.proofs.Common.{◌≡◌, ℕ, Bool, true, false, not, ◌||◌, 
 use Rattle.std.specs.List.{All, list_any}
 use Rattle.std.proofs.lemmas.List.Elements.{All-head, All-tail}
 use Rattle.sj_base.specs.Names.{is_among}
-use Rattle.sj_grammar.specs.Tree.{Path}
-use Rattle.sj_statement.specs.Tree.{Value, Lit, Column, Exists, ValueOf, Query, IsJson, Object, Array, Values, NoValues, MoreValues, Members, NoMembers, MoreMembers, Item, Single, ArrayAgg, ObjectAgg}
+use Rattle.sj_path_grammar.specs.Tree.{Path}
+use Rattle.sj_sql_grammar.specs.Tree.{Value, Lit, Column, Exists, ValueOf, Query, IsJson, Object, Array, Values, NoValues, MoreValues, Members, NoMembers, MoreMembers, Item, Single, ArrayAgg, ObjectAgg}
 use Rattle.sj_bind.specs.Clauses.{sql_type, default_fails}
 use Rattle.sj_bind.specs.Fits.{IsFit, AreFit, AreFitMembers, AreListFit, AreNamed, AreAllNamed, AreMembersNamed, IsItemNamed, AreItemsNamed}
 use Rattle.sj_bind.specs.Parts.{Call, calls_in, calls_in_values, calls_in_members, calls_in_list, names_in, names_in_values, names_in_members, names_in_item, names_in_items}

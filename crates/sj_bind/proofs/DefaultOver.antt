@@ -1,10 +1,10 @@
 -- PLAN DEFAULT joins each path once.
 use Rattle.std.proofs.Common.{◌≡◌, ℕ, suc, ◌+◌, List, [], ◌∷◌, ◌++◌, Some, length, refl, sym, ap, ◌∙◌, arith, length-append}
-use Rattle.sj_statement.specs.declared.clauses.InOut.{InOut}
-use Rattle.sj_statement.specs.declared.clauses.InOut.TheVariants as i
-use Rattle.sj_statement.specs.declared.clauses.Siblings.{Siblings}
-use Rattle.sj_statement.specs.declared.clauses.Siblings.TheVariants as s
-use Rattle.sj_statement.specs.Tree.{Columns, Last, More, ColumnOf, Ordinality, Regular, Formatted, Existence, Nested}
+use Rattle.sj_sql_grammar.specs.declared.clauses.InOut.{InOut}
+use Rattle.sj_sql_grammar.specs.declared.clauses.InOut.TheVariants as i
+use Rattle.sj_sql_grammar.specs.declared.clauses.Siblings.{Siblings}
+use Rattle.sj_sql_grammar.specs.declared.clauses.Siblings.TheVariants as s
+use Rattle.sj_sql_grammar.specs.Tree.{Columns, Last, More, ColumnOf, Ordinality, Regular, Formatted, Existence, Nested}
 use Rattle.sj_value.specs.Plans.{PlanTree, one_at, times, root_of}
 use Rattle.sj_bind.specs.Paths.{paths_in, paths_below}
 use Rattle.sj_bind.specs.Plans.{joined, beside, grouped, over, default_in, default_below}

@@ -1,8 +1,8 @@
 -- The plans of PLAN DEFAULT, joined one after another, are those of the whole list.
 use Rattle.std.proofs.Common.{◌≡◌, ℕ, ◌+◌, List, [], ◌∷◌, ◌++◌, Option, Some, None, length, refl, sym, ap, ◌∙◌}
-use Rattle.sj_statement.specs.declared.clauses.InOut.{InOut}
-use Rattle.sj_statement.specs.declared.clauses.Siblings.{Siblings}
-use Rattle.sj_statement.specs.Tree.{Columns, Last, More, ColumnOf, Ordinality, Regular, Formatted, Existence, Nested}
+use Rattle.sj_sql_grammar.specs.declared.clauses.InOut.{InOut}
+use Rattle.sj_sql_grammar.specs.declared.clauses.Siblings.{Siblings}
+use Rattle.sj_sql_grammar.specs.Tree.{Columns, Last, More, ColumnOf, Ordinality, Regular, Formatted, Existence, Nested}
 use Rattle.sj_value.specs.Plans.{PlanTree}
 use Rattle.sj_bind.specs.Paths.{paths_in}
 use Rattle.sj_bind.specs.Plans.{beside, grouped, over, default_in, default_below}

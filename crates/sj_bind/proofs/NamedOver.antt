@@ -5,7 +5,7 @@ use Rattle.std.specs.List.{list_any}
 use Rattle.std.specs.Str.{bytes_eq}
 use Rattle.std.proofs.lemmas.Bool.Decides.{nat_tests}
 use Rattle.std.proofs.lemmas.Slice.Eq.{bytes_eq-Decides}
-use Rattle.sj_statement.specs.Tree.{Columns, Last, More, ColumnOf, Ordinality, Regular, Formatted, Existence, Nested, NamedPlan, PathOf, Outer, Inner, Union, Cross}
+use Rattle.sj_sql_grammar.specs.Tree.{Columns, Last, More, ColumnOf, Ordinality, Regular, Formatted, Existence, Nested, NamedPlan, PathOf, Outer, Inner, Union, Cross}
 use Rattle.sj_bind.specs.Paths.{Child, paths_in, paths_below, children_in, children, nested_in}
 use Rattle.sj_bind.specs.Tables.{has_twice, path_names_in, path_names_below}
 use Rattle.sj_value.specs.Plans.{one_at, times, root_of}

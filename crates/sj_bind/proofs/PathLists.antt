@@ -1,6 +1,6 @@
 -- Lists of paths, part by part.
 use Rattle.std.proofs.Common.{◌≡◌, ℕ, Bool, true, false, ◌&&◌, if◌then◌else◌, List, [], ◌∷◌, ◌++◌, Some, None, ◌+◌, length, refl, sym, ap, ◌∙◌, arith}
-use Rattle.sj_statement.specs.Tree.{Columns, Last, More, ColumnOf, Ordinality, Regular, Formatted, Existence, Nested}
+use Rattle.sj_sql_grammar.specs.Tree.{Columns, Last, More, ColumnOf, Ordinality, Regular, Formatted, Existence, Nested}
 use Rattle.sj_bind.specs.Paths.{Child, paths_in, children_in, children}
 use Rattle.sj_bind.specs.Plans.{is_nil, is_name, path_named, each_once, stands_once, name_count}
 

@@ -2,7 +2,7 @@
 use Rattle.std.proofs.Common.{◌≡◌, ℕ, suc, Bool, true, false, not, ◌&&◌, [], ◌∷◌, length, refl, sym, subst, ◌∙◌}
 use Rattle.std.specs.Prelude.{Result, Ok, Err, IfOk}
 use Rattle.std.specs.Option.{option_to_list}
-use Rattle.sj_statement.specs.Tree.{Table, PlanTree, Default, Named}
+use Rattle.sj_sql_grammar.specs.Tree.{Table, PlanTree, Default, Named}
 use Rattle.sj_value.specs.declared.plan.Plan.{Plan}
 use Rattle.sj_value.specs.Plans.{plan_tree, IsPlanOver}
 use Rattle.sj_value.specs.Plans as v

@@ -3,15 +3,15 @@ use Rattle.std.proofs.Common.{◌≡◌, ℕ, Bool, true, false, cond, is_err, u
 use Rattle.std.specs.Result.{result_ok}
 use Rattle.sj_decimal.specs.declared.arithmetic.NumFault.{NumFault}
 use Rattle.sj_decimal.specs.Rounding.{rounded_within}
-use Rattle.sj_grammar.specs.declared.tree.Literal.{Literal}
-use Rattle.sj_grammar.specs.declared.tree.Literal.TheVariants as literal
+use Rattle.sj_path_grammar.specs.declared.tree.Literal.{Literal}
+use Rattle.sj_path_grammar.specs.declared.tree.Literal.TheVariants as literal
 use Rattle.sj_json.specs.Tree.{exact, Tree, truth, string, number}
 use Rattle.sj_base.specs.declared.state.State.{State as SqlState}
 use Rattle.sj_item.specs.Scalars.{number_cast, whole_cast, truth_cast, text_cast}
-use Rattle.sj_statement.specs.declared.clauses.TypeName.{TypeName}
-use Rattle.sj_statement.specs.declared.clauses.TypeName.TheVariants.{Known, Approximate, Datetime}
-use Rattle.sj_statement.specs.declared.clauses.ValueDo.{ValueDo}
-use Rattle.sj_statement.specs.declared.clauses.ValueDo.TheVariants as do_
+use Rattle.sj_sql_grammar.specs.declared.clauses.TypeName.{TypeName}
+use Rattle.sj_sql_grammar.specs.declared.clauses.TypeName.TheVariants.{Known, Approximate, Datetime}
+use Rattle.sj_sql_grammar.specs.declared.clauses.ValueDo.{ValueDo}
+use Rattle.sj_sql_grammar.specs.declared.clauses.ValueDo.TheVariants as do_
 use Rattle.sj_value.specs.Casts.{Cast, given, text_within, fixed, scalar_cast, tree_cast}
 use Rattle.sj_value.specs.Clauses.{GivesPrintable}
 use Rattle.sj_value.specs.Types.{AreDigits, IsCastType}

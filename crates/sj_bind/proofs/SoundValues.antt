@@ -4,13 +4,13 @@ use Rattle.std.specs.Prelude.{IsSomeAnd}
 use Rattle.std.specs.List.{All, list_any}
 use Rattle.std.proofs.lemmas.List.Elements.{All-head, All-tail}
 use Rattle.sj_base.specs.Names.{is_among}
-use Rattle.sj_grammar.specs.declared.tree.Literal.{Literal}
-use Rattle.sj_grammar.specs.declared.tree.Literal.TheVariants as literal
-use Rattle.sj_grammar.specs.Tree.{Path}
+use Rattle.sj_path_grammar.specs.declared.tree.Literal.{Literal}
+use Rattle.sj_path_grammar.specs.declared.tree.Literal.TheVariants as literal
+use Rattle.sj_path_grammar.specs.Tree.{Path}
 use Rattle.sj_path.specs.Vars.{covers}
-use Rattle.sj_statement.specs.declared.clauses.TypeName.{TypeName}
-use Rattle.sj_statement.specs.declared.clauses.TypeName.TheVariants.{Known, Approximate, Datetime}
-use Rattle.sj_statement.specs.Tree.{Value, Lit, Column, Exists, ValueOf, Query, IsJson, Object, Array, Values, NoValues, MoreValues, Members, NoMembers, MoreMembers}
+use Rattle.sj_sql_grammar.specs.declared.clauses.TypeName.{TypeName}
+use Rattle.sj_sql_grammar.specs.declared.clauses.TypeName.TheVariants.{Known, Approximate, Datetime}
+use Rattle.sj_sql_grammar.specs.Tree.{Value, Lit, Column, Exists, ValueOf, Query, IsJson, Object, Array, Values, NoValues, MoreValues, Members, NoMembers, MoreMembers}
 use Rattle.sj_bind.specs.Bound as b
 use Rattle.sj_bind.specs.Clauses.{passed, sql_type, is_text_type, names_text, default_fails}
 use Rattle.sj_bind.specs.Meaning.{bound_value, bound_values, bound_members, column_number}

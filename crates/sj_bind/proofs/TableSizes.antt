@@ -2,7 +2,7 @@
 use Rattle.std.proofs.Common.{◌≡◌, ℕ, ◌+◌, ◌<◌, ◌≤◌, [], length, refl, sym, ap, ◌∙◌, arith, length-append}
 use Rattle.std.specs.List.{All}
 use Rattle.std.proofs.lemmas.List.Elements.{All-nil, All-cons, All-append}
-use Rattle.sj_statement.specs.Tree.{Table, Columns, Last, More, ColumnOf, Ordinality, Regular, Formatted, Existence, Nested}
+use Rattle.sj_sql_grammar.specs.Tree.{Table, Columns, Last, More, ColumnOf, Ordinality, Regular, Formatted, Existence, Nested}
 use Rattle.sj_bind.specs.Paths.{paths_in, paths_below, table_paths}
 use Rattle.sj_bind.specs.Tables.{TableColumn, columns_in, columns_below, table_columns, names_in, names_below, column_names}
 

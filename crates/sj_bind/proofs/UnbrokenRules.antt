@@ -2,9 +2,9 @@
 use Rattle.std.proofs.Common.{◌≡◌, ℕ, ◌≤◌, Bool, true, false, ◌||◌, nat_lt, if◌then◌else◌, List, length, Option, Some, None, refl, sym, ◌∙◌, arith}
 use Rattle.std.specs.List.{list_any}
 use Rattle.std.proofs.lemmas.Bool.Decides.{nat_tests}
-use Rattle.sj_grammar.specs.Tree.{Path}
-use Rattle.sj_statement.specs.declared.refusal.BindKind.{BindKind}
-use Rattle.sj_statement.specs.Tree.{Value, Item, Table, Plain, All, Listed}
+use Rattle.sj_path_grammar.specs.Tree.{Path}
+use Rattle.sj_sql_grammar.specs.declared.refusal.BindKind.{BindKind}
+use Rattle.sj_sql_grammar.specs.Tree.{Value, Item, Table, Plain, All, Listed}
 use Rattle.sj_bind.specs.Faults.{either, calls_fault, names_fault, columns_fault, items_fault}
 use Rattle.sj_bind.specs.Fits.{AreListFit, AreItemsNamed}
 use Rattle.sj_bind.specs.Parts.{calls_in_list}

@@ -2,19 +2,19 @@
 -- its variables.
 use Rattle.std.specs.Prelude.{ℕ, Bool, true, false, ◌&&◌, List, [], ◌∷◌, is_err, unwrap_or}
 use Rattle.std.specs.Result.{result_ok}
-use Rattle.sj_grammar.specs.declared.tree.Literal.{Literal}
-use Rattle.sj_grammar.specs.declared.tree.Literal.TheVariants as literal
-use Rattle.sj_grammar.specs.Tree.{Path}
+use Rattle.sj_path_grammar.specs.declared.tree.Literal.{Literal}
+use Rattle.sj_path_grammar.specs.declared.tree.Literal.TheVariants as literal
+use Rattle.sj_path_grammar.specs.Tree.{Path}
 use Rattle.sj_path.specs.Vars.{Variables}
 use Rattle.sj_item.specs.Items.{ItemValue, made_text, made_number, made_truth, made_null}
-use Rattle.sj_statement.specs.declared.clauses.Passed.{Passed}
-use Rattle.sj_statement.specs.declared.clauses.Quotes.{Quotes}
-use Rattle.sj_statement.specs.declared.clauses.Quotes.TheVariants as quotes
-use Rattle.sj_statement.specs.declared.clauses.TypeName.{TypeName}
-use Rattle.sj_statement.specs.declared.clauses.TypeName.TheVariants.{Known, Approximate, Datetime}
-use Rattle.sj_statement.specs.declared.clauses.ValueDo.{ValueDo}
-use Rattle.sj_statement.specs.declared.clauses.ValueDo.TheVariants as do_
-use Rattle.sj_statement.specs.Tree.{Common}
+use Rattle.sj_sql_grammar.specs.declared.clauses.Passed.{Passed}
+use Rattle.sj_sql_grammar.specs.declared.clauses.Quotes.{Quotes}
+use Rattle.sj_sql_grammar.specs.declared.clauses.Quotes.TheVariants as quotes
+use Rattle.sj_sql_grammar.specs.declared.clauses.TypeName.{TypeName}
+use Rattle.sj_sql_grammar.specs.declared.clauses.TypeName.TheVariants.{Known, Approximate, Datetime}
+use Rattle.sj_sql_grammar.specs.declared.clauses.ValueDo.{ValueDo}
+use Rattle.sj_sql_grammar.specs.declared.clauses.ValueDo.TheVariants as do_
+use Rattle.sj_sql_grammar.specs.Tree.{Common}
 use Rattle.sj_value.specs.Casts.{Cast, cast_of}
 use Rattle.sj_value.specs.Types.{IsCastType}
 use Rattle.sj_value.specs.declared.clauses.QueryAction.{QueryAction}

@@ -1,10 +1,10 @@
 -- The first rule that is broken, where the rules stand in groups.
 use Rattle.std.specs.Prelude.{List, Option, Some, None, if◌then◌else◌}
 use Rattle.std.specs.List.{list_any}
-use Rattle.sj_grammar.specs.Tree.{Path}
-use Rattle.sj_statement.specs.declared.refusal.BindKind.{BindKind}
-use Rattle.sj_statement.specs.declared.refusal.BindKind.TheVariants.{ColumnTwice, PathNameTwice, PathNameMissing, PlanMismatch, VariableTwice, UnknownVariable, QuotesWithWrapper, DefaultCast, UnknownColumn, AggregateMixed, KeyType}
-use Rattle.sj_statement.specs.Tree.{Item, Table, Listed}
+use Rattle.sj_path_grammar.specs.Tree.{Path}
+use Rattle.sj_sql_grammar.specs.declared.refusal.BindKind.{BindKind}
+use Rattle.sj_sql_grammar.specs.declared.refusal.BindKind.TheVariants.{ColumnTwice, PathNameTwice, PathNameMissing, PlanMismatch, VariableTwice, UnknownVariable, QuotesWithWrapper, DefaultCast, UnknownColumn, AggregateMixed, KeyType}
+use Rattle.sj_sql_grammar.specs.Tree.{Item, Table, Listed}
 use Rattle.sj_bind.specs.Parts.{Call}
 use Rattle.sj_bind.specs.Plans.{has_plan_mismatch}
 use Rattle.sj_bind.specs.Rules.{call_passes_twice, call_lacks_variable, call_quotes_clash, call_default_fails, passes_twice, table_lacks_variable, column_quotes_clash, column_default_fails, all_columns, unknown_column, aggregate_mixed, key_type}

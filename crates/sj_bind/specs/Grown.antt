@@ -1,8 +1,8 @@
 -- The plans of PLAN DEFAULT, joined one after another as their paths come in the text.
 use Rattle.std.specs.Prelude.{ℕ, ◌+◌, Option, Some, None, length}
-use Rattle.sj_statement.specs.declared.clauses.InOut.{InOut}
-use Rattle.sj_statement.specs.declared.clauses.Siblings.{Siblings}
-use Rattle.sj_statement.specs.Tree.{Columns, Last, More, ColumnOf, Ordinality, Regular, Formatted, Existence, Nested}
+use Rattle.sj_sql_grammar.specs.declared.clauses.InOut.{InOut}
+use Rattle.sj_sql_grammar.specs.declared.clauses.Siblings.{Siblings}
+use Rattle.sj_sql_grammar.specs.Tree.{Columns, Last, More, ColumnOf, Ordinality, Regular, Formatted, Existence, Nested}
 use Rattle.sj_value.specs.Plans.{PlanTree, path_rows}
 use Rattle.sj_bind.specs.Paths.{paths_in}
 use Rattle.sj_bind.specs.Plans.{joined, beside}

@@ -1,6 +1,6 @@
 -- The columns at any depth, in the order of the text, without the numbers of their paths.
 use Rattle.std.specs.Prelude.{List, [], ◌∷◌, ◌++◌}
-use Rattle.sj_statement.specs.Tree.{ColumnOf, Ordinality, Regular, Formatted, Existence, Nested, Columns, Last, More}
+use Rattle.sj_sql_grammar.specs.Tree.{ColumnOf, Ordinality, Regular, Formatted, Existence, Nested, Columns, Last, More}
 
 abbrev mutual
   pub leaves_in : {P : Type 0} → ColumnOf P → List (ColumnOf P)

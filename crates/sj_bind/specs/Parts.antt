@@ -1,7 +1,7 @@
 -- What stands in the values of a statement, at any depth and in the order of the text: the functions that have a path, the keys of
 -- objects, and the names of columns.
 use Rattle.std.specs.Prelude.{ℕ, List, [], ◌∷◌, ◌++◌}
-use Rattle.sj_statement.specs.Tree.{Common, ExistsCall, ValueCall, QueryCall, Value, Lit, Column, Exists, ValueOf, Query, IsJson, Object, Array, Values, NoValues, MoreValues, Members, NoMembers, MoreMembers, Item, Single, ArrayAgg, ObjectAgg, Statement, Plain, All, Listed}
+use Rattle.sj_sql_grammar.specs.Tree.{Common, ExistsCall, ValueCall, QueryCall, Value, Lit, Column, Exists, ValueOf, Query, IsJson, Object, Array, Values, NoValues, MoreValues, Members, NoMembers, MoreMembers, Item, Single, ArrayAgg, ObjectAgg, Statement, Plain, All, Listed}
 
 -- ---- functions
 

@@ -1,8 +1,8 @@
 -- The parts of a SELECT list, without where they lie in memory.
 use Rattle.std.specs.Prelude.{ℕ, List, [], ◌∷◌}
 use Rattle.std.specs.Borrow.{Bor}
-use Rattle.sj_grammar.specs.Tree.{Path}
-use Rattle.sj_statement.specs.Tree as t
+use Rattle.sj_path_grammar.specs.Tree.{Path}
+use Rattle.sj_sql_grammar.specs.Tree as t
 use Rattle.sj_sql.specs.declared.tree.SValue.{SValue}
 use Rattle.sj_sql.specs.declared.tree.TValue.{TValue}
 use Rattle.sj_sql.specs.declared.tree.Column.{Column}

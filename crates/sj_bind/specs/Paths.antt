@@ -1,7 +1,7 @@
 -- The paths of a table: the row path, and the nested paths at any depth. They are numbered in the order of the text from 0, and
 -- the row path stands first.
 use Rattle.std.specs.Prelude.{ℕ, ◌+◌, List, [], ◌∷◌, ◌++◌, Option, length}
-use Rattle.sj_statement.specs.Tree.{Table, Columns, Last, More, ColumnOf, Ordinality, Regular, Formatted, Existence, Nested}
+use Rattle.sj_sql_grammar.specs.Tree.{Table, Columns, Last, More, ColumnOf, Ordinality, Regular, Formatted, Existence, Nested}
 
 -- a path, with its name if it has one
 pub record TablePath (P : Type 0) : Type 0 where

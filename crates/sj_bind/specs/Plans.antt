@@ -1,12 +1,12 @@
 -- The plan of a table: whether a plan with names matches the paths, and the plan with numbers that a table has.
 use Rattle.std.specs.Prelude.{ℕ, ◌+◌, ◌==◌, Bool, true, false, not, ◌&&◌, List, [], ◌∷◌, ◌++◌, Option, Some, None, is_some, if◌then◌else◌, length}
 use Rattle.std.specs.Str.{bytes_eq}
-use Rattle.sj_statement.specs.declared.clauses.InOut.{InOut}
-use Rattle.sj_statement.specs.declared.clauses.InOut.TheVariants as i
-use Rattle.sj_statement.specs.declared.clauses.Siblings.{Siblings}
-use Rattle.sj_statement.specs.declared.clauses.Siblings.TheVariants as s
-use Rattle.sj_statement.specs.Tree.{Table, Columns, Last, More, ColumnOf, Ordinality, Regular, Formatted, Existence, Nested, NamedPlan, PathOf, Outer, Inner, Union, Cross, Default, Named}
-use Rattle.sj_statement.specs.Tree as t
+use Rattle.sj_sql_grammar.specs.declared.clauses.InOut.{InOut}
+use Rattle.sj_sql_grammar.specs.declared.clauses.InOut.TheVariants as i
+use Rattle.sj_sql_grammar.specs.declared.clauses.Siblings.{Siblings}
+use Rattle.sj_sql_grammar.specs.declared.clauses.Siblings.TheVariants as s
+use Rattle.sj_sql_grammar.specs.Tree.{Table, Columns, Last, More, ColumnOf, Ordinality, Regular, Formatted, Existence, Nested, NamedPlan, PathOf, Outer, Inner, Union, Cross, Default, Named}
+use Rattle.sj_sql_grammar.specs.Tree as t
 use Rattle.sj_value.specs.Plans.{PlanTree, path_rows, outer_join, inner_join, union_of, cross_of}
 use Rattle.sj_bind.specs.Paths.{paths_in, Child, row_path, nested_in}
 

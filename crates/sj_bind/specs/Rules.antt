@@ -2,16 +2,16 @@
 use Rattle.std.specs.Prelude.{ℕ, Bool, true, false, not, ◌&&◌, ◌||◌, List, [], ◌∷◌, ◌++◌, length, nat_lt, Option, Some, None, if◌then◌else◌}
 use Rattle.std.specs.List.{list_any}
 use Rattle.sj_base.specs.Names.{is_among}
-use Rattle.sj_grammar.specs.declared.tree.Literal.{Literal}
-use Rattle.sj_grammar.specs.declared.tree.Literal.TheVariants as literal
-use Rattle.sj_grammar.specs.Tree.{Path}
+use Rattle.sj_path_grammar.specs.declared.tree.Literal.{Literal}
+use Rattle.sj_path_grammar.specs.declared.tree.Literal.TheVariants as literal
+use Rattle.sj_path_grammar.specs.Tree.{Path}
 use Rattle.sj_path.specs.Vars.{covers}
-use Rattle.sj_statement.specs.declared.clauses.Passed.{Passed}
-use Rattle.sj_statement.specs.declared.clauses.TypeName.{TypeName}
-use Rattle.sj_statement.specs.declared.clauses.ValueDo.{ValueDo}
-use Rattle.sj_statement.specs.declared.refusal.BindKind.{BindKind}
-use Rattle.sj_statement.specs.declared.refusal.BindKind.TheVariants.{TooMany, ColumnTwice, PathNameTwice, PathNameMissing, PlanMismatch, VariableTwice, UnknownVariable, QuotesWithWrapper, DefaultCast, UnknownColumn, AggregateMixed, KeyType}
-use Rattle.sj_statement.specs.Tree.{Common, Value, Lit, Column, Exists, ValueOf, Query, IsJson, Object, Array, Item, Single, ArrayAgg, ObjectAgg, ColumnOf, Ordinality, Regular, Formatted, Existence, Nested, Table, Statement, Plain, All, Listed}
+use Rattle.sj_sql_grammar.specs.declared.clauses.Passed.{Passed}
+use Rattle.sj_sql_grammar.specs.declared.clauses.TypeName.{TypeName}
+use Rattle.sj_sql_grammar.specs.declared.clauses.ValueDo.{ValueDo}
+use Rattle.sj_sql_grammar.specs.declared.refusal.BindKind.{BindKind}
+use Rattle.sj_sql_grammar.specs.declared.refusal.BindKind.TheVariants.{TooMany, ColumnTwice, PathNameTwice, PathNameMissing, PlanMismatch, VariableTwice, UnknownVariable, QuotesWithWrapper, DefaultCast, UnknownColumn, AggregateMixed, KeyType}
+use Rattle.sj_sql_grammar.specs.Tree.{Common, Value, Lit, Column, Exists, ValueOf, Query, IsJson, Object, Array, Item, Single, ArrayAgg, ObjectAgg, ColumnOf, Ordinality, Regular, Formatted, Existence, Nested, Table, Statement, Plain, All, Listed}
 use Rattle.sj_bind.specs.Clauses.{passed, passed_names, sql_type, names_text, default_fails, quotes_clash}
 use Rattle.sj_bind.specs.Parts.{Call, exists_call, value_call, query_call, call_common, calls, keys_in_list, keys_in_items, names_in_items}
 use Rattle.sj_bind.specs.Paths.{TablePath, table_paths}

@@ -1,12 +1,12 @@
 -- Which statements can be bound, and WHAT A BOUND STATEMENT ALWAYS MEETS.
 use Rattle.std.specs.Prelude.{◌≡◌, ℕ, ◌<◌, ◌≤◌, Bool, true, false, List, [], length, Option, Some, None, All as Each, slice_get, IsSomeAnd, ◌⊎◌}
-use Rattle.sj_grammar.specs.declared.tree.Literal.TheVariants as literal
-use Rattle.sj_grammar.specs.Tree.{Path}
+use Rattle.sj_path_grammar.specs.declared.tree.Literal.TheVariants as literal
+use Rattle.sj_path_grammar.specs.Tree.{Path}
 use Rattle.sj_path.specs.Vars.{Variables, covers}
-use Rattle.sj_statement.specs.declared.clauses.Encoding.{Encoding}
-use Rattle.sj_statement.specs.declared.clauses.Encoding.TheVariants.{Read, Refused}
-use Rattle.sj_statement.specs.Tree as t
-use Rattle.sj_statement.specs.Tree.{Common, ColumnOf, Table, Statement, Plain, All, Listed}
+use Rattle.sj_sql_grammar.specs.declared.clauses.Encoding.{Encoding}
+use Rattle.sj_sql_grammar.specs.declared.clauses.Encoding.TheVariants.{Read, Refused}
+use Rattle.sj_sql_grammar.specs.Tree as t
+use Rattle.sj_sql_grammar.specs.Tree.{Common, ColumnOf, Table, Statement, Plain, All, Listed}
 use Rattle.sj_value.specs.declared.clauses.ValueAction.{ValueAction}
 use Rattle.sj_value.specs.declared.clauses.ValueAction.TheVariants as action
 use Rattle.sj_value.specs.declared.clauses.ValueSpec.{ValueSpec}

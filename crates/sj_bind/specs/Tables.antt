@@ -3,7 +3,7 @@ use Rattle.std.specs.Prelude.{ℕ, ◌+◌, Bool, true, false, ◌&&◌, ◌||�
 use Rattle.std.specs.List.{list_any}
 use Rattle.std.specs.Option.{option_to_list}
 use Rattle.std.specs.Str.{bytes_eq}
-use Rattle.sj_statement.specs.Tree.{Table, Columns, Last, More, ColumnOf, Ordinality, Regular, Formatted, Existence, Nested, PlanTree, Default, Named}
+use Rattle.sj_sql_grammar.specs.Tree.{Table, Columns, Last, More, ColumnOf, Ordinality, Regular, Formatted, Existence, Nested, PlanTree, Default, Named}
 use Rattle.sj_bind.specs.Paths.{paths_in, table_paths}
 
 -- a column, and the number of the path whose rows it is a column of

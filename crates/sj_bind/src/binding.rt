@@ -1,7 +1,7 @@
 //! The binding of statements.
 
 ghost use Rattle.std.specs.Prelude.{◌≡◌, ◌≤◌, false, length, IfOk};
-ghost use Rattle.sj_statement.specs.Tree as t;
+ghost use Rattle.sj_sql_grammar.specs.Tree as t;
 ghost use Rattle.sj_sql.specs.View.{plain_of, items_of, table_of, statement_of};
 ghost use Rattle.sj_bind.specs.Answer.{Binds};
 ghost use Rattle.sj_bind.specs.Fits.{AreItemsNamed, AreListFit};

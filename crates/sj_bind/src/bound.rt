@@ -8,7 +8,7 @@
 
 use sj_path::{Literal, Path, Vars};
 use sj_sql::Seq;
-use sj_statement::IsJsonCall;
+use sj_sql_grammar::IsJsonCall;
 use sj_value::{ExistsAction, Nulls, Plan, QuerySpec, TableAction, ValueSpec};
 
 /// A bound statement.

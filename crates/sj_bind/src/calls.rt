@@ -12,7 +12,7 @@ use crate::clauses::{default_fails, quotes_clash, sql_type};
 use crate::parts::Call;
 use crate::variables::{lacks_variable, passes_twice};
 use sj_base::Memory;
-use sj_statement::{TypeName, ValueDo};
+use sj_sql_grammar::{TypeName, ValueDo};
 use std::alloc::Global;
 
 fn call_passes_twice(alloc: Global, call: Call<'_>) -> Result<bool, Memory>

@@ -2,7 +2,7 @@
 
 ghost use Rattle.std.specs.Prelude.{◌≡◌, ◌||◌, false, not, nat_lt, length, IfOk, All};
 ghost use Rattle.std.specs.List.{list_any};
-ghost use Rattle.sj_statement.specs.Tree as t;
+ghost use Rattle.sj_sql_grammar.specs.Tree as t;
 ghost use Rattle.sj_sql.specs.View.{plain_of, items_of, table_of};
 ghost use Rattle.sj_bind.specs.Faults as group;
 ghost use Rattle.sj_bind.specs.PartsView.{calls_of, row_keys_of};
@@ -26,7 +26,7 @@ use crate::table_rules::{
 use crate::variables::passes_twice;
 use sj_base::Memory;
 use sj_sql::{SValue, Seq, TItem, TValue, Table};
-use sj_statement::BindKind;
+use sj_sql_grammar::BindKind;
 use std::alloc::Global;
 
 /// The most items that a SELECT list may have.

@@ -2,12 +2,12 @@
 
 ghost use Rattle.std.specs.Prelude.{ℕ, List, Option};
 ghost use Rattle.std.specs.List.{All as Each};
-ghost use Rattle.sj_grammar.specs.Tree.{Path};
+ghost use Rattle.sj_path_grammar.specs.Tree.{Path};
 ghost use Rattle.sj_sql_token.specs.Tokens.{Lexed};
-ghost use Rattle.sj_statement.specs.declared.refusal.FileKind.{FileKind};
-ghost use Rattle.sj_statement.specs.Tree.{Statement};
-ghost use Rattle.sj_statement.specs.Phrases.{Tokens};
-ghost use Rattle.sj_statement.specs.Answers.{Accepted, IsFile};
+ghost use Rattle.sj_sql_grammar.specs.declared.refusal.FileKind.{FileKind};
+ghost use Rattle.sj_sql_grammar.specs.Tree.{Statement};
+ghost use Rattle.sj_sql_grammar.specs.Phrases.{Tokens};
+ghost use Rattle.sj_sql_grammar.specs.Answers.{Accepted, IsFile};
 ghost use Rattle.sj_bind.specs.Sound.{IsBindable};
 
 /// A statement that is accepted has no type and no encoding that cannot be bound.

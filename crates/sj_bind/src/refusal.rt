@@ -3,7 +3,7 @@
 ghost use Rattle.std.specs.Prelude.{◌≡◌};
 ghost use Rattle.sj_bind.specs.declared.refusal.BindRefusal.TheVariants.{Memory};
 
-use sj_statement::BindKind;
+use sj_sql_grammar::BindKind;
 use thiserror::Error;
 
 /// Why a statement is not bound.

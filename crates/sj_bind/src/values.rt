@@ -2,7 +2,7 @@
 
 ghost use Rattle.std.specs.Prelude.{◌≡◌, [], IfOk};
 ghost use Rattle.sj_sql.specs.View.{svalue_of, svalues_of, smembers_of, exists_of, value_call_of, query_of};
-ghost use Rattle.sj_statement.specs.Tree as t;
+ghost use Rattle.sj_sql_grammar.specs.Tree as t;
 ghost use Rattle.sj_bind.specs.View.{value_of, values_of, members_of};
 ghost use Rattle.sj_bind.specs.Fits.{IsFit, AreFit, AreFitMembers, IsFitCall, PassesOnce};
 ghost use Rattle.sj_bind.specs.Meaning.{bound_value, bound_values, bound_members};

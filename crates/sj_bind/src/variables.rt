@@ -17,7 +17,7 @@ use crate::table::note;
 use sj_base::Memory;
 use sj_path::Vars;
 use sj_sql::{Common, Seq};
-use sj_statement::Passed;
+use sj_sql_grammar::Passed;
 use std::alloc::Global;
 
 /// Whether a PASSING clause names a variable twice.

@@ -1,6 +1,6 @@
 -- Cells that are of a path and go back at its beginning have what the cursor has left.
 use Rattle.std.proofs.Common.{◌≡◌, ap, ◌∙◌}
-use Rattle.sj_grammar.specs.Tree as t
+use Rattle.sj_path_grammar.specs.Tree as t
 use Rattle.sj_item.specs.Items.{ItemValue}
 use Rattle.sj_path.specs.Tree.{path_of, expr_of}
 use Rattle.sj_path.specs.declared.tree.Path.{Path}

@@ -9,8 +9,8 @@ use Rattle.sj_doc.specs.Kinds.{kind_of}
 use Rattle.sj_doc.specs.Slots.{Key, texts}
 use Rattle.sj_doc.specs.declared.node.Kind.{Kind}
 use Rattle.sj_doc.specs.declared.node.Kind.TheVariants as kinds
-use Rattle.sj_grammar.specs.Tree as t
-use Rattle.sj_grammar.specs.declared.tree.Mode.TheVariants.{Lax}
+use Rattle.sj_path_grammar.specs.Tree as t
+use Rattle.sj_path_grammar.specs.declared.tree.Mode.TheVariants.{Lax}
 use Rattle.sj_item.specs.Items.{ItemValue, node}
 use Rattle.sj_step.specs.Trace.{Trace, stop, visit, give, only, after_visits, join, each}
 use Rattle.sj_step.specs.Reach.{reach, on_kind, by_key, unwrapped, unwrap, child_item, under_key}

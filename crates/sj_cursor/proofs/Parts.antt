@@ -3,8 +3,8 @@ use Rattle.std.proofs.Common.{◌≡◌, ℕ, ◌≤◌, Result, Ok, Err, ℤ}
 use Rattle.sj_base.specs.Outside.{raised}
 use Rattle.sj_base.specs.declared.state.State.{State}
 use Rattle.sj_base.specs.declared.state.State.TheVariants.{S22033, S22038}
-use Rattle.sj_grammar.specs.declared.tree.Arith.{Arith}
-use Rattle.sj_grammar.specs.declared.tree.Mode.{Mode}
+use Rattle.sj_path_grammar.specs.declared.tree.Arith.{Arith}
+use Rattle.sj_path_grammar.specs.declared.tree.Mode.{Mode}
 use Rattle.sj_item.specs.Items.{ItemValue}
 use Rattle.sj_step.specs.Trace.{Trace, fail}
 use Rattle.sj_cursor.specs.Draws.{Approaches}

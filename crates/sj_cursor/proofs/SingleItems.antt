@@ -2,7 +2,7 @@
 use Rattle.std.specs.Prelude.{if◌then◌else◌}
 use Rattle.std.proofs.Common.{◌≡◌, ◌≤◌, ℕ, Bool, true, false, ◌||◌, ◌&&◌, ap, ◌∙◌, refl, arith}
 use Rattle.sj_base.specs.Outside.{raised}
-use Rattle.sj_grammar.specs.declared.tree.Mode.{Mode}
+use Rattle.sj_path_grammar.specs.declared.tree.Mode.{Mode}
 use Rattle.sj_item.specs.Items.{ItemValue}
 use Rattle.sj_step.specs.Trace.{Trace, only, each}
 use Rattle.sj_step.specs.Reach.{unwrap}

@@ -5,8 +5,8 @@ use Rattle.sj_json.specs.Tree.{Tree, NumberedChild}
 use Rattle.sj_doc.specs.Listed.{node_id, node_tree}
 use Rattle.sj_doc.specs.Slots.{texts}
 use Rattle.sj_doc.specs.declared.doc.NodeRef.{NodeRef}
-use Rattle.sj_grammar.specs.Tree as t
-use Rattle.sj_grammar.specs.declared.tree.Mode.TheVariants.{Lax}
+use Rattle.sj_path_grammar.specs.Tree as t
+use Rattle.sj_path_grammar.specs.declared.tree.Mode.TheVariants.{Lax}
 use Rattle.sj_item.specs.Items.{ItemValue, node}
 use Rattle.sj_step.specs.Trace.{Trace, only, join, each}
 use Rattle.sj_step.specs.Reach.{reach, by_key, unwrap, child_item, every}

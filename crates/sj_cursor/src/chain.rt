@@ -1,7 +1,7 @@
 // Plain paths, which are the root and accessors of members behind it, in lax mode. Their items on a node are found without cells.
 ghost use Rattle.std.specs.Prelude.{◌≡◌, [], true, IfOk, IfSome};
 ghost use Rattle.sj_doc.specs.Slots.{texts};
-ghost use Rattle.sj_grammar.specs.Tree as tree;
+ghost use Rattle.sj_path_grammar.specs.Tree as tree;
 ghost use Rattle.sj_item.specs.Items.{item_value};
 ghost use Rattle.sj_path.specs.Tree.{path_of, expr_of};
 ghost use Rattle.sj_cursor.specs.Chains.{IsChainOf, Sought, node_value, accessed, below, under, over};

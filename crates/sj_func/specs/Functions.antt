@@ -3,7 +3,7 @@
 use Rattle.std.specs.Prelude.{ℕ, ◌+◌, Bool as Logical, true, false, List, [], ◌∷◌, codes, Option, Some, None, Result, Ok, Err, if◌then◌else◌}
 use Rattle.sj_base.specs.declared.state.State.{State}
 use Rattle.sj_base.specs.declared.state.State.TheVariants.{S22034, S22035}
-use Rattle.sj_grammar.specs.declared.tree.Mode.{Mode}
+use Rattle.sj_path_grammar.specs.declared.tree.Mode.{Mode}
 use Rattle.sj_json.specs.Tree.{Tree, null, truth, string, number, array, object, Items, no_items, item}
 use Rattle.sj_json.specs.Printing.{printed}
 use Rattle.sj_doc.specs.Kinds.{kind_of}

@@ -6,8 +6,8 @@ ghost use Rattle.sj_method.specs.Numbers.{operand_of, subscript_of, binary_of, f
 use sj_base::State;
 use sj_decimal::{Decimal, NumFault};
 use sj_doc::{Kind, NodeRef, Num};
-use sj_grammar::Arith;
 use sj_item::Item;
+use sj_path_grammar::Arith;
 
 /// An item as an operand of arithmetic: its number. An item that is no number is 22036, and a number that is not exact
 /// is 22003.

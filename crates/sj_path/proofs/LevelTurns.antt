@@ -1,11 +1,11 @@
 -- One more turn of a loop of `Level`, beside a recursion on the turns that are left.
 use Rattle.std.proofs.Common.{◌≡◌, ℕ, suc, ◌+◌, ◌-◌, ◌<◌, Bool, true, Some, sym, ap, ◌∙◌, arith}
-use Rattle.sj_grammar.specs.declared.tree.Arith.{Arith}
-use Rattle.sj_grammar.specs.Tree.{Expr, Step, Pred, Access, Binary, And, Or}
-use Rattle.sj_grammar.specs.Signs.{add_sign, mul_sign}
-use Rattle.sj_grammar.specs.Grammar.{Tokens}
-use Rattle.sj_grammar.specs.Reading.{Parser, Read, ExprOrPred, begins_step, step_at, access_from, sign_at, unary_at, product_from, term_at, sum_from, and_at, test_at, and_from, or_at, conj_at, or_from}
-use Rattle.sj_grammar.proofs.Completeness.{bind_is, some_on, cond_on}
+use Rattle.sj_path_grammar.specs.declared.tree.Arith.{Arith}
+use Rattle.sj_path_grammar.specs.Tree.{Expr, Step, Pred, Access, Binary, And, Or}
+use Rattle.sj_path_grammar.specs.Signs.{add_sign, mul_sign}
+use Rattle.sj_path_grammar.specs.Grammar.{Tokens}
+use Rattle.sj_path_grammar.specs.Reading.{Parser, Read, ExprOrPred, begins_step, step_at, access_from, sign_at, unary_at, product_from, term_at, sum_from, and_at, test_at, and_from, or_at, conj_at, or_from}
+use Rattle.sj_path_grammar.proofs.Completeness.{bind_is, some_on, cond_on}
 
 -- the turn that was made
 turn : {A : Type 0} {start : Read A} (f : ℕ → Read A) (n at : ℕ) (next : Read A) → at < n → start ≡ f (n - at) → f (suc (n - (at + 1))) ≡ next → start ≡ next

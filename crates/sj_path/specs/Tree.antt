@@ -1,5 +1,5 @@
 -- A parsed path as a tree of the grammar, without where its parts lie in memory.
-use Rattle.sj_grammar.specs.Tree as t
+use Rattle.sj_path_grammar.specs.Tree as t
 use Rattle.sj_path.specs.declared.tree.Path.{Path}
 use Rattle.sj_path.specs.declared.tree.Expr.{Expr, Root, Var, Context, Last, Lit, Access', Plus', Minus', Binary'}
 use Rattle.sj_path.specs.declared.tree.Step.{Step, Member, AllMembers, AllElements, Elements', Filter', Method}

@@ -1,7 +1,7 @@
 //! Whether each `@` and `last` stands where it may.
 
 ghost use Rattle.std.specs.Prelude.{◌≡◌};
-ghost use Rattle.sj_grammar.specs.Misplaced as misplaced;
+ghost use Rattle.sj_path_grammar.specs.Misplaced as misplaced;
 ghost use Rattle.sj_path.specs.Raw.{expr_of, step_of, sub_of, subs_of, pred_of};
 
 use crate::raw::{Expr, Pred, Step, Sub, Subs};

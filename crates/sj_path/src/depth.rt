@@ -1,9 +1,9 @@
 //! How deep a list of tokens nests, before it is read.
 
 ghost use Rattle.std.specs.Prelude.{◌≡◌, false, IsTrue};
-ghost use Rattle.sj_grammar.specs.Depth as depth;
+ghost use Rattle.sj_path_grammar.specs.Depth as depth;
 
-use sj_token::Token;
+use sj_path_token::Token;
 
 /// Parentheses and brackets that may be open at once.
 const MAX_OPEN: usize = 64;

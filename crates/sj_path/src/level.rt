@@ -1,15 +1,15 @@
 //! What may stand at one level of parentheses, with a function that reads what stands inside them.
 
 ghost use Rattle.std.specs.Prelude.{◌≡◌, length};
-ghost use Rattle.sj_grammar.specs.Reading as reading;
+ghost use Rattle.sj_path_grammar.specs.Reading as reading;
 ghost use Rattle.sj_path.specs.Raw.{expr_of, step_of, sub_of, subs_of, pred_of, expr_or_pred_of};
-ghost use Rattle.sj_grammar.specs.Gives.{Gives};
+ghost use Rattle.sj_path_grammar.specs.Gives.{Gives};
 ghost use Rattle.sj_path.specs.Nests.{Nests};
 
 use crate::raw::{Expr, ExprOrPred, Pred, Step, Sub, Subs};
 use crate::{make, predicate, single, step};
-use sj_grammar::PathRefusal;
-use sj_token::{Keyword, Token};
+use sj_path_grammar::PathRefusal;
+use sj_path_token::{Keyword, Token};
 use std::alloc::Global;
 
 #[derive(Clone, Copy)]
@@ -29,7 +29,7 @@ impl<F: Fn(Global, usize, &[Token]) -> Result<(ExprOrPred, &[Token]), PathRefusa
         (self.inner)(self.alloc, self.depth, tokens)
     }
 
-    #[tactic(auto, unfolding(sj_grammar::specs::Reading::inner_expr))]
+    #[tactic(auto, unfolding(sj_path_grammar::specs::Reading::inner_expr))]
     pub fn inner_expr<'a>(
         &self,
         tokens: &'a [Token],
@@ -44,7 +44,7 @@ impl<F: Fn(Global, usize, &[Token]) -> Result<(ExprOrPred, &[Token]), PathRefusa
         }
     }
 
-    #[tactic(auto, unfolding(sj_grammar::specs::Reading::sub_at))]
+    #[tactic(auto, unfolding(sj_path_grammar::specs::Reading::sub_at))]
     fn sub<'a>(&self, tokens: &'a [Token]) -> Result<(Sub, &'a [Token]), PathRefusal>
         requires { Nests self.now.depth (F.pre self.now.inner) (F.post self.now.inner) }
         ensures { Gives (λ x. (sub_of x.0, x.1.now)) result (reading.sub_at (reading.expr_or_pred_at self.now.depth) tokens.now) }
@@ -57,7 +57,7 @@ impl<F: Fn(Global, usize, &[Token]) -> Result<(ExprOrPred, &[Token]), PathRefusa
         Ok((Sub::Range(from, to), rest))
     }
 
-    #[tactic(auto, unfolding(sj_grammar::specs::Reading::primary_at))]
+    #[tactic(auto, unfolding(sj_path_grammar::specs::Reading::primary_at))]
     fn primary<'a>(&self, tokens: &'a [Token]) -> Result<(Box<Expr>, &'a [Token]), PathRefusal>
         requires { Nests self.now.depth (F.pre self.now.inner) (F.post self.now.inner) }
         ensures { Gives (λ x. (expr_of x.0.value, x.1.now)) result (reading.primary_at (reading.expr_or_pred_at self.now.depth) tokens.now) }
@@ -76,7 +76,7 @@ impl<F: Fn(Global, usize, &[Token]) -> Result<(ExprOrPred, &[Token]), PathRefusa
         }
     }
 
-    #[tactic(auto, unfolding(sj_grammar::specs::Reading::inner_pred))]
+    #[tactic(auto, unfolding(sj_path_grammar::specs::Reading::inner_pred))]
     fn inner_pred<'a>(&self, tokens: &'a [Token]) -> Result<(Box<Pred>, &'a [Token]), PathRefusal>
         requires { Nests self.now.depth (F.pre self.now.inner) (F.post self.now.inner) }
         ensures { Gives (λ x. (pred_of x.0.value, x.1.now)) result (reading.inner_pred (reading.expr_or_pred_at self.now.depth) tokens.now) }
@@ -88,7 +88,7 @@ impl<F: Fn(Global, usize, &[Token]) -> Result<(ExprOrPred, &[Token]), PathRefusa
         }
     }
 
-    #[tactic(auto, unfolding(sj_grammar::specs::Reading::subs_at))]
+    #[tactic(auto, unfolding(sj_path_grammar::specs::Reading::subs_at))]
     fn subs<'a>(
         &self,
         turns: usize,
@@ -108,7 +108,7 @@ impl<F: Fn(Global, usize, &[Token]) -> Result<(ExprOrPred, &[Token]), PathRefusa
         Ok((Box::new(self.alloc, Subs::More(sub, others))?, rest))
     }
 
-    #[tactic(auto, unfolding(sj_grammar::specs::Reading::after_bracket))]
+    #[tactic(auto, unfolding(sj_path_grammar::specs::Reading::after_bracket))]
     fn after_bracket<'a>(&self, tokens: &'a [Token]) -> Result<(Step, &'a [Token]), PathRefusal>
         requires { Nests self.now.depth (F.pre self.now.inner) (F.post self.now.inner) }
         ensures { Gives (λ x. (step_of x.0, x.1.now)) result (reading.after_bracket (reading.expr_or_pred_at self.now.depth) tokens.now) }
@@ -122,7 +122,7 @@ impl<F: Fn(Global, usize, &[Token]) -> Result<(ExprOrPred, &[Token]), PathRefusa
         Ok((Step::Elements(subs), rest))
     }
 
-    #[tactic(auto, unfolding(sj_grammar::specs::Reading::after_question))]
+    #[tactic(auto, unfolding(sj_path_grammar::specs::Reading::after_question))]
     fn after_question<'a>(&self, tokens: &'a [Token]) -> Result<(Step, &'a [Token]), PathRefusal>
         requires { Nests self.now.depth (F.pre self.now.inner) (F.post self.now.inner) }
         ensures { Gives (λ x. (step_of x.0, x.1.now)) result (reading.after_question (reading.expr_or_pred_at self.now.depth) tokens.now) }
@@ -133,7 +133,7 @@ impl<F: Fn(Global, usize, &[Token]) -> Result<(ExprOrPred, &[Token]), PathRefusa
         Ok((Step::Filter(p), rest))
     }
 
-    #[tactic(auto, unfolding(sj_grammar::specs::Reading::step_at))]
+    #[tactic(auto, unfolding(sj_path_grammar::specs::Reading::step_at))]
     fn step<'a>(&self, tokens: &'a [Token]) -> Result<(Step, &'a [Token]), PathRefusal>
         requires { Nests self.now.depth (F.pre self.now.inner) (F.post self.now.inner) }
         ensures { Gives (λ x. (step_of x.0, x.1.now)) result (reading.step_at (reading.expr_or_pred_at self.now.depth) tokens.now) }
@@ -146,7 +146,7 @@ impl<F: Fn(Global, usize, &[Token]) -> Result<(ExprOrPred, &[Token]), PathRefusa
         }
     }
 
-    #[tactic(auto, unfolding(sj_grammar::specs::Reading::access_from))]
+    #[tactic(auto, unfolding(sj_path_grammar::specs::Reading::access_from))]
     fn access_from<'a>(
         &self,
         x: Box<Expr>,
@@ -168,7 +168,7 @@ impl<F: Fn(Global, usize, &[Token]) -> Result<(ExprOrPred, &[Token]), PathRefusa
         Ok((e, rest))
     }
 
-    #[tactic(auto, unfolding(sj_grammar::specs::Reading::access_at))]
+    #[tactic(auto, unfolding(sj_path_grammar::specs::Reading::access_at))]
     fn access<'a>(&self, tokens: &'a [Token]) -> Result<(Box<Expr>, &'a [Token]), PathRefusal>
         requires { Nests self.now.depth (F.pre self.now.inner) (F.post self.now.inner) }
         ensures { Gives (λ x. (expr_of x.0.value, x.1.now)) result (reading.access_at (reading.expr_or_pred_at self.now.depth) tokens.now) }
@@ -177,7 +177,7 @@ impl<F: Fn(Global, usize, &[Token]) -> Result<(ExprOrPred, &[Token]), PathRefusa
         self.access_from(x, rest)
     }
 
-    #[tactic(auto, unfolding(sj_grammar::specs::Reading::unary_at))]
+    #[tactic(auto, unfolding(sj_path_grammar::specs::Reading::unary_at))]
     fn unary<'a>(&self, tokens: &'a [Token]) -> Result<(Box<Expr>, &'a [Token]), PathRefusal>
         requires { Nests self.now.depth (F.pre self.now.inner) (F.post self.now.inner) }
         ensures { Gives (λ x. (expr_of x.0.value, x.1.now)) result (reading.unary_at (reading.expr_or_pred_at self.now.depth) tokens.now) }
@@ -196,7 +196,7 @@ impl<F: Fn(Global, usize, &[Token]) -> Result<(ExprOrPred, &[Token]), PathRefusa
         }
     }
 
-    #[tactic(auto, unfolding(sj_grammar::specs::Reading::product_from))]
+    #[tactic(auto, unfolding(sj_path_grammar::specs::Reading::product_from))]
     fn product_from<'a>(
         &self,
         x: Box<Expr>,
@@ -218,7 +218,7 @@ impl<F: Fn(Global, usize, &[Token]) -> Result<(ExprOrPred, &[Token]), PathRefusa
         Ok((e, rest))
     }
 
-    #[tactic(auto, unfolding(sj_grammar::specs::Reading::term_at))]
+    #[tactic(auto, unfolding(sj_path_grammar::specs::Reading::term_at))]
     fn term<'a>(&self, tokens: &'a [Token]) -> Result<(Box<Expr>, &'a [Token]), PathRefusal>
         requires { Nests self.now.depth (F.pre self.now.inner) (F.post self.now.inner) }
         ensures { Gives (λ x. (expr_of x.0.value, x.1.now)) result (reading.term_at (reading.expr_or_pred_at self.now.depth) tokens.now) }
@@ -227,7 +227,7 @@ impl<F: Fn(Global, usize, &[Token]) -> Result<(ExprOrPred, &[Token]), PathRefusa
         self.product_from(x, rest)
     }
 
-    #[tactic(auto, unfolding(sj_grammar::specs::Reading::sum_from))]
+    #[tactic(auto, unfolding(sj_path_grammar::specs::Reading::sum_from))]
     fn sum_from<'a>(
         &self,
         x: Box<Expr>,
@@ -249,7 +249,7 @@ impl<F: Fn(Global, usize, &[Token]) -> Result<(ExprOrPred, &[Token]), PathRefusa
         Ok((e, rest))
     }
 
-    #[tactic(auto, unfolding(sj_grammar::specs::Reading::expr_at))]
+    #[tactic(auto, unfolding(sj_path_grammar::specs::Reading::expr_at))]
     fn expr<'a>(&self, tokens: &'a [Token]) -> Result<(Box<Expr>, &'a [Token]), PathRefusal>
         requires { Nests self.now.depth (F.pre self.now.inner) (F.post self.now.inner) }
         ensures { Gives (λ x. (expr_of x.0.value, x.1.now)) result (reading.expr_at (reading.expr_or_pred_at self.now.depth) tokens.now) }
@@ -259,7 +259,7 @@ impl<F: Fn(Global, usize, &[Token]) -> Result<(ExprOrPred, &[Token]), PathRefusa
     }
 
     /// The rest of an expression that begins with `x`.
-    #[tactic(auto, unfolding(sj_grammar::specs::Reading::expr_from))]
+    #[tactic(auto, unfolding(sj_path_grammar::specs::Reading::expr_from))]
     fn expr_from<'a>(
         &self,
         x: Box<Expr>,
@@ -274,7 +274,7 @@ impl<F: Fn(Global, usize, &[Token]) -> Result<(ExprOrPred, &[Token]), PathRefusa
     }
 
     /// What stands behind an expression.
-    #[tactic(auto, unfolding(sj_grammar::specs::Reading::test_from))]
+    #[tactic(auto, unfolding(sj_path_grammar::specs::Reading::test_from))]
     fn test_from<'a>(
         &self,
         e: Box<Expr>,
@@ -301,7 +301,7 @@ impl<F: Fn(Global, usize, &[Token]) -> Result<(ExprOrPred, &[Token]), PathRefusa
         }
     }
 
-    #[tactic(auto, unfolding(sj_grammar::specs::Reading::tested))]
+    #[tactic(auto, unfolding(sj_path_grammar::specs::Reading::tested))]
     fn tested<'a>(&self, tokens: &'a [Token]) -> Result<(ExprOrPred, &'a [Token]), PathRefusal>
         requires { Nests self.now.depth (F.pre self.now.inner) (F.post self.now.inner) }
         ensures { Gives (λ x. (expr_or_pred_of x.0, x.1.now)) result (reading.tested (reading.expr_or_pred_at self.now.depth) tokens.now) }
@@ -311,7 +311,7 @@ impl<F: Fn(Global, usize, &[Token]) -> Result<(ExprOrPred, &[Token]), PathRefusa
     }
 
     /// What stands behind a parenthesis that was closed.
-    #[tactic(auto, unfolding(sj_grammar::specs::Reading::after_group))]
+    #[tactic(auto, unfolding(sj_path_grammar::specs::Reading::after_group))]
     fn after_group<'a>(
         &self,
         x: ExprOrPred,
@@ -329,7 +329,7 @@ impl<F: Fn(Global, usize, &[Token]) -> Result<(ExprOrPred, &[Token]), PathRefusa
         }
     }
 
-    #[tactic(auto, unfolding(sj_grammar::specs::Reading::exists_at))]
+    #[tactic(auto, unfolding(sj_path_grammar::specs::Reading::exists_at))]
     fn exists<'a>(&self, tokens: &'a [Token]) -> Result<(Box<Pred>, &'a [Token]), PathRefusal>
         requires { Nests self.now.depth (F.pre self.now.inner) (F.post self.now.inner) }
         ensures { Gives (λ x. (pred_of x.0.value, x.1.now)) result (reading.exists_at (reading.expr_or_pred_at self.now.depth) tokens.now) }
@@ -340,7 +340,7 @@ impl<F: Fn(Global, usize, &[Token]) -> Result<(ExprOrPred, &[Token]), PathRefusa
         Ok((Box::new(self.alloc, Pred::Exists(e))?, rest))
     }
 
-    #[tactic(auto, unfolding(sj_grammar::specs::Reading::group_at))]
+    #[tactic(auto, unfolding(sj_path_grammar::specs::Reading::group_at))]
     fn group<'a>(&self, tokens: &'a [Token]) -> Result<(Box<Pred>, &'a [Token]), PathRefusal>
         requires { Nests self.now.depth (F.pre self.now.inner) (F.post self.now.inner) }
         ensures { Gives (λ x. (pred_of x.0.value, x.1.now)) result (reading.group_at (reading.expr_or_pred_at self.now.depth) tokens.now) }
@@ -350,7 +350,7 @@ impl<F: Fn(Global, usize, &[Token]) -> Result<(ExprOrPred, &[Token]), PathRefusa
         Ok((p, rest))
     }
 
-    #[tactic(auto, unfolding(sj_grammar::specs::Reading::delim_at))]
+    #[tactic(auto, unfolding(sj_path_grammar::specs::Reading::delim_at))]
     fn delim<'a>(&self, tokens: &'a [Token]) -> Result<(Box<Pred>, &'a [Token]), PathRefusal>
         requires { Nests self.now.depth (F.pre self.now.inner) (F.post self.now.inner) }
         ensures { Gives (λ x. (pred_of x.0.value, x.1.now)) result (reading.delim_at (reading.expr_or_pred_at self.now.depth) tokens.now) }
@@ -363,7 +363,7 @@ impl<F: Fn(Global, usize, &[Token]) -> Result<(ExprOrPred, &[Token]), PathRefusa
     }
 
     /// A predicate with no `&&` and no `||`, or an expression.
-    #[tactic(auto, unfolding(sj_grammar::specs::Reading::neg_at))]
+    #[tactic(auto, unfolding(sj_path_grammar::specs::Reading::neg_at))]
     fn neg<'a>(&self, tokens: &'a [Token]) -> Result<(ExprOrPred, &'a [Token]), PathRefusal>
         requires { Nests self.now.depth (F.pre self.now.inner) (F.post self.now.inner) }
         ensures { Gives (λ x. (expr_or_pred_of x.0, x.1.now)) result (reading.neg_at (reading.expr_or_pred_at self.now.depth) tokens.now) }
@@ -388,7 +388,7 @@ impl<F: Fn(Global, usize, &[Token]) -> Result<(ExprOrPred, &[Token]), PathRefusa
         }
     }
 
-    #[tactic(auto, unfolding(sj_grammar::specs::Reading::test_at))]
+    #[tactic(auto, unfolding(sj_path_grammar::specs::Reading::test_at))]
     fn test<'a>(&self, tokens: &'a [Token]) -> Result<(Box<Pred>, &'a [Token]), PathRefusal>
         requires { Nests self.now.depth (F.pre self.now.inner) (F.post self.now.inner) }
         ensures { Gives (λ x. (pred_of x.0.value, x.1.now)) result (reading.test_at (reading.expr_or_pred_at self.now.depth) tokens.now) }
@@ -400,7 +400,7 @@ impl<F: Fn(Global, usize, &[Token]) -> Result<(ExprOrPred, &[Token]), PathRefusa
         }
     }
 
-    #[tactic(auto, unfolding(sj_grammar::specs::Reading::and_from))]
+    #[tactic(auto, unfolding(sj_path_grammar::specs::Reading::and_from))]
     fn and_from<'a>(
         &self,
         p: Box<Pred>,
@@ -422,7 +422,7 @@ impl<F: Fn(Global, usize, &[Token]) -> Result<(ExprOrPred, &[Token]), PathRefusa
         Ok((q, rest))
     }
 
-    #[tactic(auto, unfolding(sj_grammar::specs::Reading::conj_at))]
+    #[tactic(auto, unfolding(sj_path_grammar::specs::Reading::conj_at))]
     fn conj<'a>(&self, tokens: &'a [Token]) -> Result<(Box<Pred>, &'a [Token]), PathRefusal>
         requires { Nests self.now.depth (F.pre self.now.inner) (F.post self.now.inner) }
         ensures { Gives (λ x. (pred_of x.0.value, x.1.now)) result (reading.conj_at (reading.expr_or_pred_at self.now.depth) tokens.now) }
@@ -431,7 +431,7 @@ impl<F: Fn(Global, usize, &[Token]) -> Result<(ExprOrPred, &[Token]), PathRefusa
         self.and_from(p, rest)
     }
 
-    #[tactic(auto, unfolding(sj_grammar::specs::Reading::or_from))]
+    #[tactic(auto, unfolding(sj_path_grammar::specs::Reading::or_from))]
     fn or_from<'a>(
         &self,
         p: Box<Pred>,
@@ -453,7 +453,7 @@ impl<F: Fn(Global, usize, &[Token]) -> Result<(ExprOrPred, &[Token]), PathRefusa
         Ok((q, rest))
     }
 
-    #[tactic(auto, unfolding(sj_grammar::specs::Reading::pred_from))]
+    #[tactic(auto, unfolding(sj_path_grammar::specs::Reading::pred_from))]
     fn pred_from<'a>(
         &self,
         x: ExprOrPred,
@@ -472,7 +472,7 @@ impl<F: Fn(Global, usize, &[Token]) -> Result<(ExprOrPred, &[Token]), PathRefusa
         }
     }
 
-    #[tactic(auto, unfolding(sj_grammar::specs::Reading::expr_or_pred_over))]
+    #[tactic(auto, unfolding(sj_path_grammar::specs::Reading::expr_or_pred_over))]
     fn over<'a>(&self, tokens: &'a [Token]) -> Result<(ExprOrPred, &'a [Token]), PathRefusal>
         requires { Nests self.now.depth (F.pre self.now.inner) (F.post self.now.inner) }
         ensures { Gives (λ x. (expr_or_pred_of x.0, x.1.now)) result (reading.expr_or_pred_over (reading.expr_or_pred_at self.now.depth) tokens.now) }

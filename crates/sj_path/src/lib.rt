@@ -1,10 +1,10 @@
 //! Paths of the SQL/JSON path language (ISO/IEC 9075-2, 9.46): their trees, the parser, the path of
 //! one member, the number of nodes, and the variables that are passed to a path.
 //!
-//! It stands on the definitions of sj_grammar and the tokens of sj_token. `parse_path` accepts
-//! exactly the texts that `Accepts` in `specs/Answers.antt` of sj_grammar describes, gives the one
+//! It stands on the definitions of sj_path_grammar and the tokens of sj_path_token. `parse_path` accepts
+//! exactly the texts that `Accepts` in `specs/Answers.antt` of sj_path_grammar describes, gives the one
 //! tree of each, and refuses every other text with the first reason in the order of `PathRefusal`.
-//! Contracts see a path as a tree of sj_grammar, by `path_of` in `specs/Tree.antt`.
+//! Contracts see a path as a tree of sj_path_grammar, by `path_of` in `specs/Tree.antt`.
 #![tactic(auto)]
 
 mod check;
@@ -26,6 +26,6 @@ pub use count::nodes;
 pub use member::member_path;
 pub use parse::parse_path;
 pub use sj_decimal::Compare;
-pub use sj_grammar::{Arith, Initial, Literal, Method, Mode, Name, PathRefusal};
+pub use sj_path_grammar::{Arith, Initial, Literal, Method, Mode, Name, PathRefusal};
 pub use tree::{Expr, Path, Pred, Step, Sub, Subs};
 pub use vars::Vars;

@@ -6,7 +6,7 @@ ghost use Rattle.sj_path.specs.Member.{member_path};
 
 use crate::tree::{Expr, Path, Step};
 use sj_base::{Memory, Text};
-use sj_grammar::Mode;
+use sj_path_grammar::Mode;
 use std::alloc::Global;
 
 /// The path `lax $.key`, whatever characters the key has.

@@ -1,9 +1,9 @@
 //! Whole paths.
 
 ghost use Rattle.std.specs.Prelude.{◌≡◌, IfOk, IfErr, MatchResult};
-ghost use Rattle.sj_grammar.specs.Reading as reading;
-ghost use Rattle.sj_grammar.specs.Gives.{Gives};
-ghost use Rattle.sj_grammar.specs.Answers.{Allows, Forbids, Accepts, Refuses};
+ghost use Rattle.sj_path_grammar.specs.Reading as reading;
+ghost use Rattle.sj_path_grammar.specs.Gives.{Gives};
+ghost use Rattle.sj_path_grammar.specs.Answers.{Allows, Forbids, Accepts, Refuses};
 ghost use Rattle.sj_path.specs.Raw as raw;
 ghost use Rattle.sj_path.specs.Tree.{path_of};
 
@@ -13,11 +13,11 @@ use crate::finish::finished;
 use crate::level::{Level, expr_or_pred};
 use crate::tree::Path;
 use crate::{raw, single};
-use sj_grammar::{Mode, PathRefusal};
-use sj_token::{LexError, Token, tokens_of};
+use sj_path_grammar::{Mode, PathRefusal};
+use sj_path_token::{LexError, Token, tokens_of};
 use std::alloc::Global;
 
-#[tactic(auto, unfolding(sj_grammar::specs::Reading::whole_at))]
+#[tactic(auto, unfolding(sj_path_grammar::specs::Reading::whole_at))]
 fn whole(alloc: Global, tokens: &[Token]) -> Result<Box<raw::Expr>, PathRefusal>
     ensures { Gives (λ e. raw.expr_of e.value) result (reading.whole_at tokens.now) }
 {
@@ -33,7 +33,7 @@ fn whole(alloc: Global, tokens: &[Token]) -> Result<Box<raw::Expr>, PathRefusal>
     }
 }
 
-#[tactic(auto, unfolding(sj_grammar::specs::Reading::path_at))]
+#[tactic(auto, unfolding(sj_path_grammar::specs::Reading::path_at))]
 fn path(alloc: Global, tokens: &[Token]) -> Result<raw::Path, PathRefusal>
     ensures { Gives raw.path_of result (reading.path_at tokens.now) }
 {

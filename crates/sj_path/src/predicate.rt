@@ -1,19 +1,19 @@
 //! The ends of predicates.
 
 ghost use Rattle.std.specs.Prelude.{◌≡◌};
-ghost use Rattle.sj_grammar.specs.Reading as reading;
+ghost use Rattle.sj_path_grammar.specs.Reading as reading;
 ghost use Rattle.sj_path.specs.Raw.{expr_of, pred_of, expr_or_pred_of};
-ghost use Rattle.sj_grammar.specs.Gives.{Gives};
+ghost use Rattle.sj_path_grammar.specs.Gives.{Gives};
 
 use crate::raw::{Expr, ExprOrPred, Pred};
 use crate::single;
 use sj_base::Text;
-use sj_grammar::{Initial, PathRefusal};
-use sj_token::Token;
+use sj_path_grammar::{Initial, PathRefusal};
+use sj_path_token::Token;
 use std::alloc::Global;
 
 /// Behind `starts with`.
-#[tactic(auto, unfolding(sj_grammar::specs::Reading::initial_at))]
+#[tactic(auto, unfolding(sj_path_grammar::specs::Reading::initial_at))]
 pub fn initial(
     alloc: Global,
     e: Box<Expr>,
@@ -37,7 +37,7 @@ pub fn initial(
 }
 
 /// Behind `like_regex` and its pattern.
-#[tactic(auto, unfolding(sj_grammar::specs::Reading::flags_at))]
+#[tactic(auto, unfolding(sj_path_grammar::specs::Reading::flags_at))]
 pub fn flags(
     alloc: Global,
     e: Box<Expr>,
@@ -56,7 +56,7 @@ pub fn flags(
 }
 
 /// Behind a predicate in parentheses.
-#[tactic(auto, unfolding(sj_grammar::specs::Reading::unknown_from))]
+#[tactic(auto, unfolding(sj_path_grammar::specs::Reading::unknown_from))]
 pub fn unknown(
     alloc: Global,
     p: Box<Pred>,

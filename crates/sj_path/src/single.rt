@@ -3,15 +3,15 @@
 
 ghost use Rattle.std.specs.Prelude.{◌≡◌, option_map, IfOk};
 ghost use Rattle.std.specs.Option.{option_copied};
-ghost use Rattle.sj_grammar.specs.Gives.{Gives};
-ghost use Rattle.sj_grammar.specs.Signs as sign;
+ghost use Rattle.sj_path_grammar.specs.Gives.{Gives};
+ghost use Rattle.sj_path_grammar.specs.Signs as sign;
 ghost use Rattle.sj_path.specs.Raw.{expr_of};
-ghost use Rattle.sj_grammar.specs.Reading as reading;
+ghost use Rattle.sj_path_grammar.specs.Reading as reading;
 
 use crate::raw::Expr;
 use sj_base::{Memory, Text};
-use sj_grammar::{Arith, Literal, PathRefusal};
-use sj_token::{Keyword, Token};
+use sj_path_grammar::{Arith, Literal, PathRefusal};
+use sj_path_token::{Keyword, Token};
 use std::alloc::Global;
 
 pub fn add_sign(tokens: &[Token]) -> Option<(Arith, &[Token])>

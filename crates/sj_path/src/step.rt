@@ -1,16 +1,16 @@
 //! Accessors with no tree inside.
 
 ghost use Rattle.std.specs.Prelude.{◌≡◌, option_map};
-ghost use Rattle.sj_grammar.specs.Reading as reading;
-ghost use Rattle.sj_grammar.specs.Signs as sign;
+ghost use Rattle.sj_path_grammar.specs.Reading as reading;
+ghost use Rattle.sj_path_grammar.specs.Signs as sign;
 ghost use Rattle.sj_path.specs.Raw.{step_of};
-ghost use Rattle.sj_grammar.specs.Gives.{Gives};
+ghost use Rattle.sj_path_grammar.specs.Gives.{Gives};
 
 use crate::raw::Step;
 use crate::single;
 use sj_base::Text;
-use sj_grammar::{Method, PathRefusal};
-use sj_token::{Keyword, Token};
+use sj_path_grammar::{Method, PathRefusal};
+use sj_path_token::{Keyword, Token};
 use std::alloc::Global;
 
 /// The method without an argument that the word names.
@@ -35,7 +35,7 @@ fn method(keyword: Keyword) -> Option<Step>
     }
 }
 
-#[tactic(auto, unfolding(sj_grammar::specs::Reading::datetime_at))]
+#[tactic(auto, unfolding(sj_path_grammar::specs::Reading::datetime_at))]
 fn datetime(alloc: Global, tokens: &[Token]) -> Result<(Step, &[Token]), PathRefusal>
     ensures { Gives (λ x. (step_of x.0, x.1.now)) result (reading.datetime_at tokens.now) }
 {
@@ -52,7 +52,7 @@ fn datetime(alloc: Global, tokens: &[Token]) -> Result<(Step, &[Token]), PathRef
 }
 
 /// Behind a name and a parenthesis.
-#[tactic(auto, unfolding(sj_grammar::specs::Reading::called))]
+#[tactic(auto, unfolding(sj_path_grammar::specs::Reading::called))]
 fn called(
     alloc: Global,
     keyword: Keyword,
@@ -71,7 +71,7 @@ fn called(
 }
 
 /// Behind a point and a name.
-#[tactic(auto, unfolding(sj_grammar::specs::Reading::named))]
+#[tactic(auto, unfolding(sj_path_grammar::specs::Reading::named))]
 fn named<'a>(
     alloc: Global,
     keyword: Keyword,
@@ -87,7 +87,7 @@ fn named<'a>(
 }
 
 /// Behind a point.
-#[tactic(auto, unfolding(sj_grammar::specs::Reading::after_dot))]
+#[tactic(auto, unfolding(sj_path_grammar::specs::Reading::after_dot))]
 pub fn after_dot(alloc: Global, tokens: &[Token]) -> Result<(Step, &[Token]), PathRefusal>
     ensures { Gives (λ x. (step_of x.0, x.1.now)) result (reading.after_dot tokens.now) }
 {

@@ -8,7 +8,7 @@ ghost use Rattle.sj_path.specs.Vars as spec;
 
 use crate::tree::{Expr, Path, Pred, Step, Sub, Subs};
 use sj_base::{Memory, Text};
-use sj_grammar::{Initial, Literal};
+use sj_path_grammar::{Initial, Literal};
 use std::alloc::Global;
 use std::marker::Model;
 
@@ -20,7 +20,7 @@ pub struct Vars {
 
 impl Model for Vars {
     ghost use Rattle.std.specs.Prelude.{ℕ, List};
-    ghost use Rattle.sj_grammar.specs.declared.tree.Literal.{Literal};
+    ghost use Rattle.sj_path_grammar.specs.declared.tree.Literal.{Literal};
 
     ghost Value = { List (List ℕ × Literal) };
 

@@ -3,7 +3,7 @@ use Rattle.std.proofs.Common.{◌≡◌, ◌↔◌, Bool, true, false, not, ◌&
 use Rattle.std.specs.Bool.{one_answer}
 use Rattle.sj_json.specs.Tree.{Tree}
 use Rattle.sj_doc.specs.Kinds.{kind_of}
-use Rattle.sj_statement.specs.declared.clauses.IsJsonCall.{IsJsonCall}
+use Rattle.sj_sql_grammar.specs.declared.clauses.IsJsonCall.{IsJsonCall}
 use Rattle.sj_value.specs.declared.value.SqlValue.TheVariants.{Bool as truth}
 use Rattle.sj_func.specs.Json.{is_of, Fits, IsJsonAs}
 use Rattle.sj_func.specs.declared.context.Outcome.TheVariants.{Value}

@@ -1,9 +1,9 @@
 -- The operations by which the values of a SELECT list are found, one behind the other: those that a value is made of stand before it.
 use Rattle.std.specs.Prelude.{ℕ, ◌+◌, Bool as Logical, List, [], ◌∷◌, ◌++◌, map}
-use Rattle.sj_grammar.specs.declared.tree.Literal.{Literal}
+use Rattle.sj_path_grammar.specs.declared.tree.Literal.{Literal}
 use Rattle.sj_path.specs.Tree.{path_of}
 use Rattle.sj_cursor.specs.Sequel.{Sequel}
-use Rattle.sj_statement.specs.declared.clauses.IsJsonCall.{IsJsonCall}
+use Rattle.sj_sql_grammar.specs.declared.clauses.IsJsonCall.{IsJsonCall}
 use Rattle.sj_value.specs.declared.clauses.ExistsAction.{ExistsAction}
 use Rattle.sj_value.specs.declared.clauses.Nulls.{Nulls}
 use Rattle.sj_value.specs.declared.clauses.QuerySpec.{QuerySpec}

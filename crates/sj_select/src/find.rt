@@ -15,7 +15,7 @@ use sj_base::{Ledger, Memory, State, Steps, Text};
 use sj_doc::Doc;
 use sj_func::{Outcome, is_json};
 use sj_path::Literal;
-use sj_statement::IsJsonCall;
+use sj_sql_grammar::IsJsonCall;
 use sj_value::{SqlValue, copy};
 use std::alloc::Global;
 

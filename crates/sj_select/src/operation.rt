@@ -2,7 +2,7 @@
 
 use sj_cursor::Cursor;
 use sj_path::Literal;
-use sj_statement::IsJsonCall;
+use sj_sql_grammar::IsJsonCall;
 use sj_value::{ExistsAction, Nulls, QuerySpec, ValueSpec};
 
 /// How one value is found, or made of those that were found before it.

@@ -1,14 +1,14 @@
 -- The tokens of one statement, and one statement after another.
 use Rattle.std.proofs.Common.{◌≡◌, ℕ, suc, ◌<◌, ◌≤◌, true, false, List, [], ◌∷◌, ◌++◌, length, Option, Some, None, Err, refl, sym, ap, subst, ◌∙◌, arith, append_assoc, append-nil}
-use Rattle.sj_grammar.specs.Tree.{Path}
+use Rattle.sj_path_grammar.specs.Tree.{Path}
 use Rattle.sj_sql_token.specs.declared.token.Token.{Token}
 use Rattle.sj_sql_token.specs.declared.token.Token.TheVariants as k
 use Rattle.sj_sql_token.specs.Tokens.{Lexed, end, fault, next, lexed}
-use Rattle.sj_statement.specs.declared.refusal.FileKind.{FileKind}
-use Rattle.sj_statement.specs.declared.refusal.FileKind.TheVariants as kind
-use Rattle.sj_statement.specs.Tree as t
-use Rattle.sj_statement.specs.Phrases.{Tokens}
-use Rattle.sj_statement.specs.Answers.{Ending, closed, cut_off, broken, opened, Pieces, before, pieces, Forbids, IsScript, done, unended, faulty, refused, accepted}
+use Rattle.sj_sql_grammar.specs.declared.refusal.FileKind.{FileKind}
+use Rattle.sj_sql_grammar.specs.declared.refusal.FileKind.TheVariants as kind
+use Rattle.sj_sql_grammar.specs.Tree as t
+use Rattle.sj_sql_grammar.specs.Phrases.{Tokens}
+use Rattle.sj_sql_grammar.specs.Answers.{Ending, closed, cut_off, broken, opened, Pieces, before, pieces, Forbids, IsScript, done, unended, faulty, refused, accepted}
 use Rattle.sj_sql.specs.declared.answer.Refused.{Refused}
 use Rattle.sj_sql.specs.declared.answer.Refused.TheVariants.{For, Memory}
 use Rattle.sj_sql.specs.declared.file.Gathered.{Gathered}

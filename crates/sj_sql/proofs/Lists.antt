@@ -1,13 +1,13 @@
 -- What commas part: the turns of a loop that gathers it, beside the recursion that reads it.
 use Rattle.std.proofs.Common.{map, ◌≡◌, ℕ, zero, suc, ◌+◌, ◌-◌, ◌<◌, ◌≤◌, List, [], ◌∷◌, ◌++◌, Option, Some, None, refl, sym, ap, ◌∙◌, arith}
 use Rattle.sj_base.specs.Options.{◌>>=◌}
-use Rattle.sj_grammar.specs.Tree.{Path}
-use Rattle.sj_statement.specs.declared.clauses.Passed.{Passed}
-use Rattle.sj_statement.specs.Tree.{Value, MoreValues, NoValues, MoreMembers, NoMembers, Columns, More, Last}
-use Rattle.sj_statement.specs.Faults.{Faults, parsing}
-use Rattle.sj_statement.specs.Phrases.{Tokens, if_some, comma_at, passed_at}
-use Rattle.sj_statement.specs.Reading.{list_from, values_from, member_at, members_from, column_at, columns_from, items_from}
-use Rattle.sj_statement.proofs.ReadTokens.{bind_is, bind_none, some_on, none_on}
+use Rattle.sj_path_grammar.specs.Tree.{Path}
+use Rattle.sj_sql_grammar.specs.declared.clauses.Passed.{Passed}
+use Rattle.sj_sql_grammar.specs.Tree.{Value, MoreValues, NoValues, MoreMembers, NoMembers, Columns, More, Last}
+use Rattle.sj_sql_grammar.specs.Faults.{Faults, parsing}
+use Rattle.sj_sql_grammar.specs.Phrases.{Tokens, if_some, comma_at, passed_at}
+use Rattle.sj_sql_grammar.specs.Reading.{list_from, values_from, member_at, members_from, column_at, columns_from, items_from}
+use Rattle.sj_sql_grammar.proofs.ReadTokens.{bind_is, bind_none, some_on, none_on}
 use Rattle.sj_sql.specs.declared.refusal.Refusal.{Refusal}
 use Rattle.sj_sql.specs.declared.refusal.Refusal.TheVariants as refusal
 use Rattle.sj_sql.specs.declared.tree.SValue.{SValue}

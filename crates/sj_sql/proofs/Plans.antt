@@ -1,10 +1,10 @@
 -- The turns of the loops that join plans, beside the recursions that read them.
 use Rattle.std.proofs.Common.{◌≡◌, ℕ, suc, ◌+◌, ◌-◌, ◌<◌, Option, Some, None, refl, sym, ap, ◌∙◌, arith}
 use Rattle.sj_sql_token.specs.declared.keyword.Keyword.TheVariants as w
-use Rattle.sj_statement.specs.Tree.{NamedPlan, Union, Cross}
-use Rattle.sj_statement.specs.Phrases.{Tokens, Phrase, word}
-use Rattle.sj_statement.specs.Reading.{plan_prim_at, union_from, cross_from}
-use Rattle.sj_statement.proofs.ReadTokens.{bind_is, some_on, none_on}
+use Rattle.sj_sql_grammar.specs.Tree.{NamedPlan, Union, Cross}
+use Rattle.sj_sql_grammar.specs.Phrases.{Tokens, Phrase, word}
+use Rattle.sj_sql_grammar.specs.Reading.{plan_prim_at, union_from, cross_from}
+use Rattle.sj_sql_grammar.proofs.ReadTokens.{bind_is, some_on, none_on}
 
 pub union_turn : (inner : Phrase NamedPlan) {start : Option (NamedPlan × Tokens)} (n at : ℕ) (x y z : NamedPlan) (rest mid after : Tokens) → at < n
     → start ≡ union_from inner (n - at) x rest → Some mid ≡ word w.Union rest → plan_prim_at inner mid ≡ Some (y, after) → z ≡ Union x y

@@ -1,10 +1,10 @@
 -- The statements of a whole file.
 use Rattle.std.proofs.Common.{◌≡◌, ℕ, suc, ◌+◌, ◌<◌, ◌≤◌, List, [], ◌∷◌, ◌++◌, length, map, Bor, Option, None, Some, Ok, Err, refl, sym, ap, subst, ◌∙◌, arith, append-nil, length-append}
-use Rattle.sj_grammar.specs.Tree.{Path}
+use Rattle.sj_path_grammar.specs.Tree.{Path}
 use Rattle.sj_sql_token.specs.Tokens.{lexed}
-use Rattle.sj_statement.specs.declared.refusal.FileKind.{FileKind}
-use Rattle.sj_statement.specs.Tree as t
-use Rattle.sj_statement.specs.Answers.{closed, IsFile}
+use Rattle.sj_sql_grammar.specs.declared.refusal.FileKind.{FileKind}
+use Rattle.sj_sql_grammar.specs.Tree as t
+use Rattle.sj_sql_grammar.specs.Answers.{closed, IsFile}
 use Rattle.sj_sql.specs.declared.answer.Refused.{Refused}
 use Rattle.sj_sql.specs.declared.answer.Refused.TheVariants.{For}
 use Rattle.sj_sql.specs.declared.file.NextStatement.{NextStatement}

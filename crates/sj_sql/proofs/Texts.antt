@@ -1,17 +1,17 @@
 -- The path of a text, and what is noted behind it, as parse_path answers.
 use Rattle.std.proofs.Common.{◌≡◌, ℕ, List, Option, Some, None, refl, sym, ap, ◌∙◌}
-use Rattle.sj_grammar.specs.declared.refusal.PathRefusal.{PathRefusal}
-use Rattle.sj_grammar.specs.declared.refusal.PathRefusal.TheVariants as r
-use Rattle.sj_grammar.specs.declared.tree.Mode.TheVariants as mode
-use Rattle.sj_grammar.specs.Tree.{Path, Root}
-use Rattle.sj_grammar.specs.Answers.{Accepts, Refuses}
-use Rattle.sj_grammar.specs.Accepted.{accepted_path}
-use Rattle.sj_grammar.proofs.Acceptance.{path_accepted, accepted_is}
-use Rattle.sj_grammar.proofs.Laws as laws
-use Rattle.sj_statement.specs.Answers.{or_root}
-use Rattle.sj_statement.specs.Faults.{Faults, noting_refusal, noting_answer}
-use Rattle.sj_statement.specs.Tree.{Written}
-use Rattle.sj_statement.proofs.PathAnswers.{accepted_answer, refused_answer}
+use Rattle.sj_path_grammar.specs.declared.refusal.PathRefusal.{PathRefusal}
+use Rattle.sj_path_grammar.specs.declared.refusal.PathRefusal.TheVariants as r
+use Rattle.sj_path_grammar.specs.declared.tree.Mode.TheVariants as mode
+use Rattle.sj_path_grammar.specs.Tree.{Path, Root}
+use Rattle.sj_path_grammar.specs.Answers.{Accepts, Refuses}
+use Rattle.sj_path_grammar.specs.Accepted.{accepted_path}
+use Rattle.sj_path_grammar.proofs.Acceptance.{path_accepted, accepted_is}
+use Rattle.sj_path_grammar.proofs.Laws as laws
+use Rattle.sj_sql_grammar.specs.Answers.{or_root}
+use Rattle.sj_sql_grammar.specs.Faults.{Faults, noting_refusal, noting_answer}
+use Rattle.sj_sql_grammar.specs.Tree.{Written}
+use Rattle.sj_sql_grammar.proofs.PathAnswers.{accepted_answer, refused_answer}
 use Rattle.sj_sql.specs.Noted.{IsNoted}
 
 -- the path lax $

@@ -1,8 +1,8 @@
 -- Lists of values before the linked cells that follow them.
 use Rattle.std.specs.Prelude.{List, [], ◌∷◌, Option, Some, None, Box}
 use Rattle.std.specs.declared.alloc.Global.{Global}
-use Rattle.sj_grammar.specs.Tree.{Path}
-use Rattle.sj_statement.specs.Tree as t
+use Rattle.sj_path_grammar.specs.Tree.{Path}
+use Rattle.sj_sql_grammar.specs.Tree as t
 use Rattle.sj_sql.specs.declared.member.Member.{Member}
 use Rattle.sj_sql.specs.declared.tree.Column.{Column}
 use Rattle.sj_sql.specs.View.{column_of}

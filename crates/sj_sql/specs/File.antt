@@ -1,13 +1,13 @@
 -- What the functions that read a file ensure.
 use Rattle.std.specs.Prelude.{◌≡◌, ℕ, ◌<◌, Bool, true, false, List, [], ◌∷◌, length, Option, Some, Result, Ok, Err}
-use Rattle.sj_grammar.specs.Tree.{Path}
+use Rattle.sj_path_grammar.specs.Tree.{Path}
 use Rattle.sj_sql_token.specs.declared.token.Token.{Token}
 use Rattle.sj_sql_token.specs.declared.token.Token.TheVariants as k
 use Rattle.sj_sql_token.specs.Tokens.{lexed}
-use Rattle.sj_statement.specs.declared.refusal.FileKind.{FileKind}
-use Rattle.sj_statement.specs.Phrases.{Tokens}
-use Rattle.sj_statement.specs.Tree as t
-use Rattle.sj_statement.specs.Answers.{Ending, closed, cut_off, broken, pieces, Accepted, Forbids, IsScript}
+use Rattle.sj_sql_grammar.specs.declared.refusal.FileKind.{FileKind}
+use Rattle.sj_sql_grammar.specs.Phrases.{Tokens}
+use Rattle.sj_sql_grammar.specs.Tree as t
+use Rattle.sj_sql_grammar.specs.Answers.{Ending, closed, cut_off, broken, pieces, Accepted, Forbids, IsScript}
 use Rattle.sj_sql.specs.declared.tree.Statement.{Statement}
 use Rattle.sj_sql.specs.declared.answer.Refused.{Refused}
 use Rattle.sj_sql.specs.declared.answer.Refused.TheVariants as refused

@@ -2,12 +2,12 @@
 use Rattle.std.specs.Prelude.{ℕ, Result}
 use Rattle.std.specs.declared.alloc.Global.{Global}
 use Rattle.std.specs.Borrow.{Bor}
-use Rattle.sj_statement.specs.Faults.{parsing}
-use Rattle.sj_statement.specs.Grammar.{Source}
-use Rattle.sj_statement.specs.Phrases.{Tokens}
-use Rattle.sj_grammar.specs.Tree.{Path}
-use Rattle.sj_statement.specs.Tree.{Value}
-use Rattle.sj_statement.specs.Reading.{value_at, columns_at, plan_expr_at}
+use Rattle.sj_sql_grammar.specs.Faults.{parsing}
+use Rattle.sj_sql_grammar.specs.Grammar.{Source}
+use Rattle.sj_sql_grammar.specs.Phrases.{Tokens}
+use Rattle.sj_path_grammar.specs.Tree.{Path}
+use Rattle.sj_sql_grammar.specs.Tree.{Value}
+use Rattle.sj_sql_grammar.specs.Reading.{value_at, columns_at, plan_expr_at}
 use Rattle.sj_sql.specs.declared.faults.Faults.{Faults}
 use Rattle.sj_sql.specs.declared.refusal.Refusal.{Refusal}
 use Rattle.sj_sql.specs.declared.tree.Columns.{Columns}

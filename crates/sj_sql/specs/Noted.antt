@@ -1,13 +1,13 @@
 -- What the parser has noted, as the definitions of statements have it.
 use Rattle.std.specs.Prelude.{◌≡◌, Option, Some, Result, Ok, Err}
-use Rattle.sj_grammar.specs.Tree as g
+use Rattle.sj_path_grammar.specs.Tree as g
 use Rattle.sj_path.specs.declared.tree.Path.{Path}
 use Rattle.sj_path.specs.Tree.{path_of}
 use Rattle.std.specs.Borrow.{Bor}
-use Rattle.sj_statement.specs.Answers as a
-use Rattle.sj_statement.specs.Faults as f
-use Rattle.sj_statement.specs.Phrases.{Tokens}
-use Rattle.sj_statement.specs.Tree.{PathText}
+use Rattle.sj_sql_grammar.specs.Answers as a
+use Rattle.sj_sql_grammar.specs.Faults as f
+use Rattle.sj_sql_grammar.specs.Phrases.{Tokens}
+use Rattle.sj_sql_grammar.specs.Tree.{PathText}
 use Rattle.sj_sql.specs.declared.faults.Faults.{Faults}
 use Rattle.sj_sql.specs.declared.refusal.Refusal.{Refusal}
 use Rattle.sj_sql.specs.Gives.{Fails}

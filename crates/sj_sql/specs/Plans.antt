@@ -1,13 +1,13 @@
 -- The parts of a PLAN clause behind its words, as the reading of statements has them.
 use Rattle.std.specs.Prelude.{suc, length, Some}
 use Rattle.sj_base.specs.Options.{◌>>=◌}
-use Rattle.sj_statement.specs.declared.clauses.InOut.{InOut}
-use Rattle.sj_statement.specs.declared.clauses.InOut.TheVariants as in_out
-use Rattle.sj_statement.specs.declared.clauses.Siblings.{Siblings}
-use Rattle.sj_statement.specs.declared.clauses.Siblings.TheVariants as siblings
-use Rattle.sj_statement.specs.Tree.{PlanTree, Default}
-use Rattle.sj_statement.specs.Phrases.{Phrase, if_some, meant, comma_at, open_at, close_at, siblings_of, in_out_of, default_at}
-use Rattle.sj_statement.specs.Reading.{plan_expr_at, few_operators}
+use Rattle.sj_sql_grammar.specs.declared.clauses.InOut.{InOut}
+use Rattle.sj_sql_grammar.specs.declared.clauses.InOut.TheVariants as in_out
+use Rattle.sj_sql_grammar.specs.declared.clauses.Siblings.{Siblings}
+use Rattle.sj_sql_grammar.specs.declared.clauses.Siblings.TheVariants as siblings
+use Rattle.sj_sql_grammar.specs.Tree.{PlanTree, Default}
+use Rattle.sj_sql_grammar.specs.Phrases.{Phrase, if_some, meant, comma_at, open_at, close_at, siblings_of, in_out_of, default_at}
+use Rattle.sj_sql_grammar.specs.Reading.{plan_expr_at, few_operators}
 
 abbrev pub behind_in_out : InOut → Phrase PlanTree
 behind_in_out i ts = if_some (comma_at ts) (λ a. meant siblings_of a >>= λ s. Some (Default i s.0, s.1)) (Some (Default i siblings.Union, ts))

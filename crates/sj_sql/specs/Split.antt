@@ -1,6 +1,6 @@
 -- Linked cells taken apart: the first of them, and the others. Each part lies less deep than the whole.
 use Rattle.std.specs.Prelude.{◌≡◌, ◌<◌, Option, None, Some}
-use Rattle.sj_statement.specs.Tree as t
+use Rattle.sj_sql_grammar.specs.Tree as t
 use Rattle.sj_sql.specs.declared.tree.SValue.{SValue, size-SValue}
 use Rattle.sj_sql.specs.declared.tree.SValues.{SValues, size-SValues}
 use Rattle.sj_sql.specs.declared.tree.SMembers.{SMembers, size-SMembers}

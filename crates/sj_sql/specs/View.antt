@@ -1,8 +1,8 @@
 -- A statement as a tree of the grammar, without where its parts lie in memory.
 use Rattle.std.specs.Prelude.{List, [], ◌∷◌}
-use Rattle.sj_grammar.specs.Tree.{Path}
+use Rattle.sj_path_grammar.specs.Tree.{Path}
 use Rattle.sj_path.specs.Tree.{path_of}
-use Rattle.sj_statement.specs.Tree as t
+use Rattle.sj_sql_grammar.specs.Tree as t
 use Rattle.sj_sql.specs.declared.tree.Common.{Common}
 use Rattle.sj_sql.specs.declared.tree.ExistsCall.{ExistsCall}
 use Rattle.sj_sql.specs.declared.tree.ValueCall.{ValueCall}

@@ -7,7 +7,7 @@ use crate::refusal::Refusal;
 use crate::select::select;
 use crate::single::Tokens;
 use crate::tree::Statement;
-use sj_statement::FileKind;
+use sj_sql_grammar::FileKind;
 use std::alloc::Global;
 
 /// Why a statement is not taken.

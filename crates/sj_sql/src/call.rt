@@ -1,8 +1,8 @@
 //! The functions JSON_EXISTS, JSON_VALUE and JSON_QUERY, behind their words.
 
 ghost use Rattle.std.specs.Prelude.{◌≡◌};
-ghost use Rattle.sj_statement.specs.Faults.{parsing};
-ghost use Rattle.sj_statement.specs.Reading as reading;
+ghost use Rattle.sj_sql_grammar.specs.Faults.{parsing};
+ghost use Rattle.sj_sql_grammar.specs.Reading as reading;
 ghost use Rattle.sj_sql.specs.Gives.{Gives};
 ghost use Rattle.sj_sql.specs.Noted.{faults_of};
 ghost use Rattle.sj_sql.specs.View.{svalue_of};
@@ -14,13 +14,13 @@ use crate::phrase::{exists_clause, query_clause, quotes_clause, returning, wrapp
 use crate::refusal::Refusal;
 use crate::single::{Tokens, close, open};
 use crate::tree::{ExistsCall, QueryCall, SValue, ValueCall};
+use sj_sql_grammar::{Quotes, TypeName};
 use sj_sql_token::Keyword;
-use sj_statement::{Quotes, TypeName};
 use sj_value::{ExistsAction, QueryAction, SqlType, Wrapper};
 use std::alloc::Global;
 
 /// JSON_EXISTS.
-#[tactic(auto, unfolding(sj_statement::specs::Reading::exists_from))]
+#[tactic(auto, unfolding(sj_sql_grammar::specs::Reading::exists_from))]
 pub fn exists(
     alloc: Global,
     faults: Faults,
@@ -37,7 +37,7 @@ pub fn exists(
 }
 
 /// JSON_VALUE.
-#[tactic(auto, unfolding(sj_statement::specs::Reading::value_from))]
+#[tactic(auto, unfolding(sj_sql_grammar::specs::Reading::value_from))]
 pub fn value(
     alloc: Global,
     faults: Faults,
@@ -62,7 +62,7 @@ pub fn value(
 }
 
 /// JSON_QUERY.
-#[tactic(auto, unfolding(sj_statement::specs::Reading::query_from))]
+#[tactic(auto, unfolding(sj_sql_grammar::specs::Reading::query_from))]
 pub fn query(
     alloc: Global,
     faults: Faults,

@@ -1,9 +1,9 @@
 //! The columns of a table, with a function that reads the columns inside them.
 
 ghost use Rattle.std.specs.Prelude.{◌≡◌, IfOk, length, map};
-ghost use Rattle.sj_statement.specs.Faults.{parsing};
-ghost use Rattle.sj_statement.specs.Reading as reading;
-ghost use Rattle.sj_statement.specs.Tree as t;
+ghost use Rattle.sj_sql_grammar.specs.Faults.{parsing};
+ghost use Rattle.sj_sql_grammar.specs.Reading as reading;
+ghost use Rattle.sj_sql_grammar.specs.Tree as t;
 ghost use Rattle.sj_sql.specs.Cells.{onto, boxed_column_of};
 ghost use Rattle.sj_sql.specs.Gives.{Gives};
 ghost use Rattle.sj_sql.specs.Nests.{ColumnNests};
@@ -23,13 +23,13 @@ use crate::seq::Seq;
 use crate::single::{Rest, Tokens, close, comma, name, open, word};
 use crate::tree::{Column, Columns, FormattedColumn, RegularColumn};
 use sj_base::{Memory, Text};
+use sj_sql_grammar::{Encoding, Quotes};
 use sj_sql_token::Keyword;
-use sj_statement::{Encoding, Quotes};
 use sj_value::{ExistsAction, QueryAction, Wrapper};
 use std::alloc::Global;
 
 /// A column that is JSON_VALUE, behind its name.
-#[tactic(auto, unfolding(sj_statement::specs::Reading::regular_at))]
+#[tactic(auto, unfolding(sj_sql_grammar::specs::Reading::regular_at))]
 fn regular(
     alloc: Global,
     name: Text,
@@ -55,7 +55,7 @@ fn regular(
 }
 
 /// A column that is JSON_QUERY, behind its name and type.
-#[tactic(auto, unfolding(sj_statement::specs::Reading::formatted_from))]
+#[tactic(auto, unfolding(sj_sql_grammar::specs::Reading::formatted_from))]
 fn formatted(
     alloc: Global,
     name: Text,
@@ -83,7 +83,7 @@ fn formatted(
 }
 
 /// A column that is JSON_EXISTS, behind its name and BOOLEAN EXISTS.
-#[tactic(auto, unfolding(sj_statement::specs::Reading::existence_from))]
+#[tactic(auto, unfolding(sj_sql_grammar::specs::Reading::existence_from))]
 fn existence(
     alloc: Global,
     name: Text,
@@ -98,7 +98,7 @@ fn existence(
 }
 
 /// A column, behind its name.
-#[tactic(auto, unfolding(sj_statement::specs::Reading::named_column_at))]
+#[tactic(auto, unfolding(sj_sql_grammar::specs::Reading::named_column_at))]
 fn named_column(
     alloc: Global,
     name: Text,
@@ -167,7 +167,7 @@ impl<
     }
 
     /// Nested columns, behind NESTED.
-    #[tactic(auto, unfolding(sj_statement::specs::Reading::nested_from))]
+    #[tactic(auto, unfolding(sj_sql_grammar::specs::Reading::nested_from))]
     fn nested<'a>(
         &self,
         faults: Faults,
@@ -187,7 +187,7 @@ impl<
         Ok((nested, faults, rest))
     }
 
-    #[tactic(auto, unfolding(sj_statement::specs::Reading::column_at))]
+    #[tactic(auto, unfolding(sj_sql_grammar::specs::Reading::column_at))]
     fn column<'a>(
         &self,
         faults: Faults,
@@ -218,7 +218,7 @@ impl<
     }
 
     /// Columns with commas between them.
-    #[tactic(auto, unfolding(sj_statement::specs::Reading::columns_from))]
+    #[tactic(auto, unfolding(sj_sql_grammar::specs::Reading::columns_from))]
     fn columns<'a>(
         &self,
         faults: Faults,
@@ -244,7 +244,7 @@ impl<
         Err(Refusal::Syntax)
     }
 
-    #[tactic(auto, unfolding(sj_statement::specs::Reading::columns_over))]
+    #[tactic(auto, unfolding(sj_sql_grammar::specs::Reading::columns_over))]
     fn over<'a>(
         &self,
         faults: Faults,

@@ -1,8 +1,8 @@
 //! The document, the path and the variables of a function or a table.
 
 ghost use Rattle.std.specs.Prelude.{◌≡◌};
-ghost use Rattle.sj_statement.specs.Faults.{parsing};
-ghost use Rattle.sj_statement.specs.Reading as reading;
+ghost use Rattle.sj_sql_grammar.specs.Faults.{parsing};
+ghost use Rattle.sj_sql_grammar.specs.Reading as reading;
 ghost use Rattle.sj_sql.specs.Gives.{Gives};
 ghost use Rattle.sj_sql.specs.Noted.{faults_of};
 ghost use Rattle.sj_sql.specs.View.{common_of};
@@ -19,7 +19,7 @@ use sj_base::Text;
 use std::alloc::Global;
 
 /// Those of a function.
-#[tactic(auto, unfolding(sj_statement::specs::Reading::common_at))]
+#[tactic(auto, unfolding(sj_sql_grammar::specs::Reading::common_at))]
 pub fn common(
     alloc: Global,
     faults: Faults,
@@ -45,7 +45,7 @@ pub fn common(
 }
 
 /// Those of a table, and the name of its row path.
-#[tactic(auto, unfolding(sj_statement::specs::Reading::row_path_at))]
+#[tactic(auto, unfolding(sj_sql_grammar::specs::Reading::row_path_at))]
 pub fn row_path(
     alloc: Global,
     faults: Faults,

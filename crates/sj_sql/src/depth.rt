@@ -1,7 +1,7 @@
 //! How many parentheses a list of tokens leaves open, before it is read.
 
 ghost use Rattle.std.specs.Prelude.{◌≡◌, false, IsTrue};
-ghost use Rattle.sj_statement.specs.Grammar as grammar;
+ghost use Rattle.sj_sql_grammar.specs.Grammar as grammar;
 
 use crate::single::Tokens;
 use sj_sql_token::Token;

@@ -2,14 +2,14 @@
 
 ghost use Rattle.std.specs.Prelude.{◌≡◌, Some, option_map};
 ghost use Rattle.std.specs.Option.{option_copied};
-ghost use Rattle.sj_statement.specs.Phrases as phrase;
-ghost use Rattle.sj_statement.specs.Reading as reading;
+ghost use Rattle.sj_sql_grammar.specs.Phrases as phrase;
+ghost use Rattle.sj_sql_grammar.specs.Reading as reading;
 
 use crate::meaning::meant;
 use crate::phrase::{format, unique_clause};
 use crate::single::{Tokens, word};
+use sj_sql_grammar::{Encoding, IsJsonCall};
 use sj_sql_token::{Keyword, Token};
-use sj_statement::{Encoding, IsJsonCall};
 use sj_value::JsonKind;
 
 /// What follows the document, if it stands first.
@@ -25,7 +25,7 @@ fn doc(tokens: Tokens<'_>) -> Option<Tokens<'_>>
 }
 
 /// The encoding of a document, and what follows it.
-#[tactic(auto, unfolding(sj_statement::specs::Reading::document_at))]
+#[tactic(auto, unfolding(sj_sql_grammar::specs::Reading::document_at))]
 pub fn document(tokens: Tokens<'_>) -> Option<(Encoding, Tokens<'_>)>
     ensures { option_map (λ x. (x.0, x.1.now)) result ≡ reading.document_at tokens.now }
 {
@@ -73,7 +73,7 @@ fn begins_value(tokens: Tokens<'_>) -> bool
 }
 
 /// The kind of an IS JSON, and what follows it.
-#[tactic(auto, unfolding(sj_statement::specs::Reading::kind_at))]
+#[tactic(auto, unfolding(sj_sql_grammar::specs::Reading::kind_at))]
 fn json_kind(tokens: Tokens<'_>) -> (JsonKind, Tokens<'_>)
     ensures { reading.kind_at tokens.now ≡ Some (result.0, result.1.now) }
 {
@@ -87,7 +87,7 @@ fn json_kind(tokens: Tokens<'_>) -> (JsonKind, Tokens<'_>)
 }
 
 /// An IS JSON, and what follows it.
-#[tactic(auto, unfolding(sj_statement::specs::Reading::is_json_at, sj_statement::specs::Phrases::not_at))]
+#[tactic(auto, unfolding(sj_sql_grammar::specs::Reading::is_json_at, sj_sql_grammar::specs::Phrases::not_at))]
 pub fn is_json(tokens: Tokens<'_>) -> Option<(IsJsonCall, Tokens<'_>)>
     ensures { option_map (λ x. (x.0, x.1.now)) result ≡ reading.is_json_at tokens.now }
 {

@@ -1,10 +1,10 @@
 //! The values of a SELECT list without a table.
 
 ghost use Rattle.std.specs.Prelude.{◌≡◌};
-ghost use Rattle.sj_statement.specs.Faults.{parsing};
-ghost use Rattle.sj_statement.specs.Grammar as grammar;
-ghost use Rattle.sj_statement.specs.Reading as reading;
-ghost use Rattle.sj_statement.specs.Tree as t;
+ghost use Rattle.sj_sql_grammar.specs.Faults.{parsing};
+ghost use Rattle.sj_sql_grammar.specs.Grammar as grammar;
+ghost use Rattle.sj_sql_grammar.specs.Reading as reading;
+ghost use Rattle.sj_sql_grammar.specs.Tree as t;
 ghost use Rattle.sj_sql.specs.Gives.{Gives};
 ghost use Rattle.sj_sql.specs.Noted.{faults_of};
 ghost use Rattle.sj_sql.specs.View.{svalue_of, svalues_of, smembers_of};
@@ -23,7 +23,7 @@ use sj_value::Nulls;
 use std::alloc::Global;
 
 /// A value that asks the document.
-#[tactic(auto, unfolding(sj_statement::specs::Reading::asking_at))]
+#[tactic(auto, unfolding(sj_sql_grammar::specs::Reading::asking_at))]
 fn asking_document(
     alloc: Global,
     faults: Faults,

@@ -1,14 +1,14 @@
 //! What is noted of a statement while it is read.
 
 ghost use Rattle.std.specs.Prelude.{◌≡◌, IfOk};
-ghost use Rattle.sj_grammar.specs.declared.refusal.PathRefusal.TheVariants as path_refusal;
-ghost use Rattle.sj_statement.specs.Faults as spec;
-ghost use Rattle.sj_statement.specs.Notes as notes;
+ghost use Rattle.sj_path_grammar.specs.declared.refusal.PathRefusal.TheVariants as path_refusal;
+ghost use Rattle.sj_sql_grammar.specs.Faults as spec;
+ghost use Rattle.sj_sql_grammar.specs.Notes as notes;
 ghost use Rattle.sj_sql.specs.Noted.{faults_of};
 
 use sj_base::Memory;
 use sj_path::{Name, PathRefusal};
-use sj_statement::{Encoding, FileKind, TypeName};
+use sj_sql_grammar::{Encoding, FileKind, TypeName};
 
 /// What may refuse a statement that has a tree: the first of each kind, in the order of the text.
 #[derive(Clone, Copy, Debug)]

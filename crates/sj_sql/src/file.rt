@@ -6,8 +6,8 @@ ghost use Rattle.sj_sql.specs.File.{IsGathered, IsNext, is_semicolon};
 use crate::answer::{Refused, answer};
 use crate::tree::Statement;
 use sj_base::Memory;
+use sj_sql_grammar::FileKind;
 use sj_sql_token::{Next, Token, next_token};
-use sj_statement::FileKind;
 use std::alloc::Global;
 
 /// What a file begins with.

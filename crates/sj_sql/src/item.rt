@@ -1,8 +1,8 @@
 //! The items of a SELECT list.
 
 ghost use Rattle.std.specs.Prelude.{◌≡◌, length};
-ghost use Rattle.sj_statement.specs.Faults.{parsing};
-ghost use Rattle.sj_statement.specs.Reading as reading;
+ghost use Rattle.sj_sql_grammar.specs.Faults.{parsing};
+ghost use Rattle.sj_sql_grammar.specs.Reading as reading;
 ghost use Rattle.sj_sql.specs.Gives.{Gives};
 ghost use Rattle.sj_sql.specs.Noted.{faults_of};
 ghost use Rattle.sj_sql.specs.View.{svalue_of, item_of, plain_of, items_of};
@@ -23,7 +23,7 @@ use sj_value::Nulls;
 use std::alloc::Global;
 
 /// A value without a table, and the name that leaves no trace.
-#[tactic(auto, unfolding(sj_statement::specs::Reading::plain_item_at))]
+#[tactic(auto, unfolding(sj_sql_grammar::specs::Reading::plain_item_at))]
 fn plain_item(
     alloc: Global,
     faults: Faults,
@@ -36,7 +36,7 @@ fn plain_item(
 }
 
 /// JSON_ARRAYAGG, behind its word.
-#[tactic(auto, unfolding(sj_statement::specs::Reading::array_agg_from))]
+#[tactic(auto, unfolding(sj_sql_grammar::specs::Reading::array_agg_from))]
 fn array_agg(
     alloc: Global,
     faults: Faults,
@@ -52,7 +52,7 @@ fn array_agg(
 }
 
 /// JSON_OBJECTAGG, behind its word.
-#[tactic(auto, unfolding(sj_statement::specs::Reading::object_agg_from))]
+#[tactic(auto, unfolding(sj_sql_grammar::specs::Reading::object_agg_from))]
 fn object_agg(
     alloc: Global,
     faults: Faults,
@@ -76,7 +76,7 @@ fn object_agg(
 }
 
 /// A value of a row, or an aggregate.
-#[tactic(auto, unfolding(sj_statement::specs::Reading::row_item_at))]
+#[tactic(auto, unfolding(sj_sql_grammar::specs::Reading::row_item_at))]
 fn row_item(
     alloc: Global,
     faults: Faults,
@@ -95,7 +95,7 @@ fn row_item(
 }
 
 /// An item with a table, and the name that leaves no trace.
-#[tactic(auto, unfolding(sj_statement::specs::Reading::listed_item_at))]
+#[tactic(auto, unfolding(sj_sql_grammar::specs::Reading::listed_item_at))]
 fn listed_item(
     alloc: Global,
     faults: Faults,
@@ -108,7 +108,7 @@ fn listed_item(
 }
 
 /// Values without a table, with commas between them.
-#[tactic(auto, unfolding(sj_statement::specs::Reading::items_from))]
+#[tactic(auto, unfolding(sj_sql_grammar::specs::Reading::items_from))]
 pub fn plain_items(
     alloc: Global,
     faults: Faults,
@@ -133,7 +133,7 @@ pub fn plain_items(
 }
 
 /// Items with a table, with commas between them.
-#[tactic(auto, unfolding(sj_statement::specs::Reading::items_from))]
+#[tactic(auto, unfolding(sj_sql_grammar::specs::Reading::items_from))]
 pub fn listed_items(
     alloc: Global,
     faults: Faults,

@@ -1,6 +1,6 @@
 //! Statements as trees (ISO/IEC 9075-2, SQL/JSON).
 //!
-//! It stands on the definitions of sj_statement and the paths of sj_path. Contracts see a statement as a tree of sj_statement,
+//! It stands on the definitions of sj_sql_grammar and the paths of sj_path. Contracts see a statement as a tree of sj_sql_grammar,
 //! by `statement_of` in `specs/View.antt`, with lists in place of sequences and linked cells, and without pointers.
 #![tactic(auto)]
 
@@ -38,7 +38,7 @@ pub use answer::Refused;
 pub use file::{NextStatement, next_statement};
 pub use script::{FileFault, Script, Statements, parse_file};
 pub use seq::Seq;
-pub use sj_statement::{
+pub use sj_sql_grammar::{
     BindKind, Encoding, FileKind, InOut, IsJsonCall, Passed, Quotes, Siblings, TypeName, ValueDo,
 };
 pub use tree::{

@@ -2,7 +2,7 @@
 
 ghost use Rattle.std.specs.Prelude.{◌≡◌, option_map};
 ghost use Rattle.sj_sql.specs.Gives.{Gives};
-ghost use Rattle.sj_statement.specs.Phrases as phrase;
+ghost use Rattle.sj_sql_grammar.specs.Phrases as phrase;
 
 use crate::meaning::meant;
 use crate::phrase::cause;
@@ -10,8 +10,8 @@ use crate::refusal::Refusal;
 use crate::single::{Tokens, name, number_of, word};
 use sj_base::Text;
 use sj_path::Literal;
+use sj_sql_grammar::{Passed, ValueDo};
 use sj_sql_token::{Keyword, Token};
-use sj_statement::{Passed, ValueDo};
 use std::alloc::Global;
 
 /// The literal that a word is.
@@ -27,7 +27,7 @@ fn constant_of(keyword: Keyword) -> Option<Literal>
 }
 
 /// A literal, and what follows it.
-#[tactic(auto, unfolding(sj_statement::specs::Phrases::literal_at))]
+#[tactic(auto, unfolding(sj_sql_grammar::specs::Phrases::literal_at))]
 pub fn literal(alloc: Global, tokens: Tokens<'_>) -> Result<(Literal, Tokens<'_>), Refusal>
     ensures { Gives (λ x. (x.0, x.1.now)) result (phrase.literal_at tokens.now) }
 {
@@ -61,7 +61,7 @@ pub fn literal(alloc: Global, tokens: Tokens<'_>) -> Result<(Literal, Tokens<'_>
 }
 
 /// A name behind AS.
-#[tactic(auto, unfolding(sj_statement::specs::Phrases::alias_at))]
+#[tactic(auto, unfolding(sj_sql_grammar::specs::Phrases::alias_at))]
 pub fn alias(alloc: Global, tokens: Tokens<'_>) -> Result<(Text, Tokens<'_>), Refusal>
     ensures { Gives (λ x. (x.0, x.1.now)) result (phrase.alias_at tokens.now) }
 {
@@ -72,7 +72,7 @@ pub fn alias(alloc: Global, tokens: Tokens<'_>) -> Result<(Text, Tokens<'_>), Re
 }
 
 /// The name of a path.
-#[tactic(auto, unfolding(sj_statement::specs::Phrases::path_name_at))]
+#[tactic(auto, unfolding(sj_sql_grammar::specs::Phrases::path_name_at))]
 pub fn path_name(alloc: Global, tokens: Tokens<'_>) -> Result<(Option<Text>, Tokens<'_>), Refusal>
     ensures { Gives (λ x. (x.0, x.1.now)) result (phrase.path_name_at tokens.now) }
 {
@@ -81,7 +81,7 @@ pub fn path_name(alloc: Global, tokens: Tokens<'_>) -> Result<(Option<Text>, Tok
 }
 
 /// A variable of a PASSING clause.
-#[tactic(auto, unfolding(sj_statement::specs::Phrases::passed_at))]
+#[tactic(auto, unfolding(sj_sql_grammar::specs::Phrases::passed_at))]
 pub fn passed(alloc: Global, tokens: Tokens<'_>) -> Result<(Passed, Tokens<'_>), Refusal>
     ensures { Gives (λ x. (x.0, x.1.now)) result (phrase.passed_at tokens.now) }
 {
@@ -104,7 +104,7 @@ fn value_action_phrase(alloc: Global, tokens: Tokens<'_>) -> Result<(ValueDo, To
 }
 
 /// The action of JSON_VALUE for a cause.
-#[tactic(auto, unfolding(sj_statement::specs::Phrases::value_clause_at))]
+#[tactic(auto, unfolding(sj_sql_grammar::specs::Phrases::value_clause_at))]
 pub fn value_clause(
     alloc: Global,
     on: Keyword,

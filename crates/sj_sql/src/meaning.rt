@@ -2,11 +2,11 @@
 
 ghost use Rattle.std.specs.Prelude.{◌≡◌, Option, option_map};
 ghost use Rattle.sj_sql_token.specs.declared.keyword.Keyword.{Keyword};
-ghost use Rattle.sj_statement.specs.Phrases as phrase;
+ghost use Rattle.sj_sql_grammar.specs.Phrases as phrase;
 
 use crate::single::Tokens;
+use sj_sql_grammar::{Encoding, InOut, Quotes, Siblings, ValueDo};
 use sj_sql_token::{Keyword, Token};
-use sj_statement::{Encoding, InOut, Quotes, Siblings, ValueDo};
 use sj_value::{ExistsAction, JsonKind, Nulls, QueryAction, TableAction, Wrapper};
 
 /// What one of some words says.

@@ -1,7 +1,7 @@
 //! The linked cells of a constructor's values and members, made from the back of a sequence by a loop.
 
 ghost use Rattle.std.specs.Prelude.{◌≡◌, IfOk, map};
-ghost use Rattle.sj_statement.specs.Tree as t;
+ghost use Rattle.sj_sql_grammar.specs.Tree as t;
 ghost use Rattle.sj_sql.specs.Cells.{onto, member_of, more_members};
 
 use crate::seq::Seq;

@@ -1,7 +1,7 @@
 //! How many operators a plan has.
 
 ghost use Rattle.std.specs.Prelude.{◌≡◌, ◌-◌, ◌≤◌, nat_le, Some, None, if◌then◌else◌};
-ghost use Rattle.sj_statement.specs.Grammar.{operators};
+ghost use Rattle.sj_sql_grammar.specs.Grammar.{operators};
 ghost use Rattle.sj_sql.specs.View.{plan_of};
 
 use crate::tree::NamedPlan;

@@ -2,17 +2,17 @@
 
 ghost use Rattle.std.specs.Prelude.{◌≡◌, None, option_map};
 ghost use Rattle.std.specs.Option.{option_copied};
-ghost use Rattle.sj_statement.specs.Phrases as phrase;
-ghost use Rattle.sj_statement.specs.Reading as reading;
-ghost use Rattle.sj_statement.specs.declared.clauses.ValueDo.TheVariants as on_value;
+ghost use Rattle.sj_sql_grammar.specs.Phrases as phrase;
+ghost use Rattle.sj_sql_grammar.specs.Reading as reading;
+ghost use Rattle.sj_sql_grammar.specs.declared.clauses.ValueDo.TheVariants as on_value;
 ghost use Rattle.sj_sql.specs.Gives.{Gives};
 
 use crate::literal::{path_name, value_clause};
 use crate::refusal::Refusal;
 use crate::single::{Tokens, passing, skip_name, word};
 use sj_base::Text;
+use sj_sql_grammar::ValueDo;
 use sj_sql_token::Keyword;
-use sj_statement::ValueDo;
 use std::alloc::Global;
 
 /// The action of JSON_VALUE for a cause: NULL, unless a clause says another.
@@ -45,7 +45,7 @@ pub fn name_of_path(
 }
 
 /// What follows a name behind AS, which leaves no trace.
-#[tactic(auto, unfolding(sj_statement::specs::Phrases::alias_at))]
+#[tactic(auto, unfolding(sj_sql_grammar::specs::Phrases::alias_at))]
 pub fn skip_alias(tokens: Tokens<'_>) -> Tokens<'_>
     ensures { result.now ≡ reading.passed_over phrase.alias_at tokens.now }
 {
@@ -56,7 +56,7 @@ pub fn skip_alias(tokens: Tokens<'_>) -> Tokens<'_>
 }
 
 /// What follows a name of a table, behind AS or not, which leaves no trace.
-#[tactic(auto, unfolding(sj_statement::specs::Phrases::table_alias_at))]
+#[tactic(auto, unfolding(sj_sql_grammar::specs::Phrases::table_alias_at))]
 pub fn skip_table_alias(tokens: Tokens<'_>) -> Tokens<'_>
     ensures { result.now ≡ reading.passed_over phrase.table_alias_at tokens.now }
 {

@@ -1,8 +1,8 @@
 //! The variables of a PASSING clause.
 
 ghost use Rattle.std.specs.Prelude.{◌≡◌, ◌++◌, ◌∷◌, [], length, OnOk};
-ghost use Rattle.sj_statement.specs.Phrases as phrase;
-ghost use Rattle.sj_statement.specs.Reading as reading;
+ghost use Rattle.sj_sql_grammar.specs.Phrases as phrase;
+ghost use Rattle.sj_sql_grammar.specs.Reading as reading;
 ghost use Rattle.sj_sql.specs.Gives.{Gives};
 
 use crate::literal::passed;
@@ -10,8 +10,8 @@ use crate::refusal::Refusal;
 use crate::seq::Seq;
 use crate::single::{Rest, Tokens, comma, word};
 use sj_base::Memory;
+use sj_sql_grammar::Passed;
 use sj_sql_token::Keyword;
-use sj_statement::Passed;
 use std::alloc::Global;
 
 /// Puts a value at the end.
@@ -25,7 +25,7 @@ pub fn put<T: Drop>(values: &mut Seq<T>, value: T) -> Result<(), Memory>
 }
 
 /// Variables with commas between them.
-#[tactic(auto, unfolding(sj_statement::specs::Reading::list_from))]
+#[tactic(auto, unfolding(sj_sql_grammar::specs::Reading::list_from))]
 fn variables(alloc: Global, tokens: Tokens<'_>) -> Result<(Seq<Passed>, Tokens<'_>), Refusal>
     ensures { Gives (λ x. (x.0, x.1.now)) result (reading.list_from phrase.passed_at (length tokens.now) tokens.now) }
 {
@@ -43,7 +43,7 @@ fn variables(alloc: Global, tokens: Tokens<'_>) -> Result<(Seq<Passed>, Tokens<'
 }
 
 /// The variables of a PASSING clause, or none where there is no clause.
-#[tactic(auto, unfolding(sj_statement::specs::Reading::passing_at))]
+#[tactic(auto, unfolding(sj_sql_grammar::specs::Reading::passing_at))]
 pub fn passing(alloc: Global, tokens: Tokens<'_>) -> Result<(Seq<Passed>, Tokens<'_>), Refusal>
     ensures { Gives (λ x. (x.0, x.1.now)) result (reading.passing_at tokens.now) }
 {

@@ -3,11 +3,11 @@
 
 ghost use Rattle.std.specs.Prelude.{◌≡◌, IfOk, option_map};
 ghost use Rattle.sj_path.specs.Tree.{path_of};
-ghost use Rattle.sj_statement.specs.Answers as answers;
-ghost use Rattle.sj_statement.specs.Faults.{parsing};
-ghost use Rattle.sj_statement.specs.Phrases as phrase;
-ghost use Rattle.sj_statement.specs.Reading as reading;
-ghost use Rattle.sj_statement.specs.Tree.{Written, OfName};
+ghost use Rattle.sj_sql_grammar.specs.Answers as answers;
+ghost use Rattle.sj_sql_grammar.specs.Faults.{parsing};
+ghost use Rattle.sj_sql_grammar.specs.Phrases as phrase;
+ghost use Rattle.sj_sql_grammar.specs.Reading as reading;
+ghost use Rattle.sj_sql_grammar.specs.Tree.{Written, OfName};
 ghost use Rattle.sj_sql.specs.Noted.{faults_of, IsNoted, ReadsPath};
 
 use crate::faults::Faults;
@@ -51,7 +51,7 @@ fn name_path(alloc: Global, name: &Text) -> Result<Path, Memory>
 }
 
 /// The text of a PATH clause, and what follows it.
-#[tactic(auto, unfolding(sj_statement::specs::Phrases::path_at))]
+#[tactic(auto, unfolding(sj_sql_grammar::specs::Phrases::path_at))]
 fn path_clause(tokens: Tokens<'_>) -> Option<(&Quoted<'_>, Tokens<'_>)>
     ensures { option_map (λ x. (Written x.0.now, x.1.now)) result ≡ phrase.path_at tokens.now }
 {
@@ -76,7 +76,7 @@ pub fn column_path<'a>(
 }
 
 /// The path text of nested columns, and what follows it.
-#[tactic(auto, unfolding(sj_statement::specs::Phrases::nested_path_at))]
+#[tactic(auto, unfolding(sj_sql_grammar::specs::Phrases::nested_path_at))]
 pub fn nested_path(tokens: Tokens<'_>) -> Option<(&Quoted<'_>, Tokens<'_>)>
     ensures { option_map (λ x. (Written x.0.now, x.1.now)) result ≡ phrase.nested_path_at tokens.now }
 {

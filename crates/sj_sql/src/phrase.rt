@@ -2,12 +2,12 @@
 
 ghost use Rattle.std.specs.Prelude.{◌≡◌, option_map};
 ghost use Rattle.std.specs.Option.{option_copied};
-ghost use Rattle.sj_statement.specs.Phrases as phrase;
+ghost use Rattle.sj_sql_grammar.specs.Phrases as phrase;
 
 use crate::meaning::{emptied, meant};
 use crate::single::{Tokens, close, comma, count, open, passing, word};
+use sj_sql_grammar::{Encoding, Quotes, TypeName};
 use sj_sql_token::{Keyword, Token};
-use sj_statement::{Encoding, Quotes, TypeName};
 use sj_value::{ExistsAction, Nulls, QueryAction, SqlType, TableAction, Wrapper};
 
 /// What ON and the cause behind an action are followed by.
@@ -18,7 +18,7 @@ pub fn cause(cause: Keyword, tokens: Tokens<'_>) -> Option<Tokens<'_>>
 }
 
 /// The action of JSON_EXISTS on an error.
-#[tactic(auto, unfolding(sj_statement::specs::Phrases::exists_clause_at))]
+#[tactic(auto, unfolding(sj_sql_grammar::specs::Phrases::exists_clause_at))]
 pub fn exists_clause(tokens: Tokens<'_>) -> Option<(ExistsAction, Tokens<'_>)>
     ensures { option_map (λ x. (x.0, x.1.now)) result ≡ phrase.exists_clause_at tokens.now }
 {
@@ -28,7 +28,7 @@ pub fn exists_clause(tokens: Tokens<'_>) -> Option<(ExistsAction, Tokens<'_>)>
 }
 
 /// The action of JSON_TABLE on an error.
-#[tactic(auto, unfolding(sj_statement::specs::Phrases::table_clause_at))]
+#[tactic(auto, unfolding(sj_sql_grammar::specs::Phrases::table_clause_at))]
 pub fn table_clause(tokens: Tokens<'_>) -> Option<(TableAction, Tokens<'_>)>
     ensures { option_map (λ x. (x.0, x.1.now)) result ≡ phrase.table_clause_at tokens.now }
 {
@@ -38,7 +38,7 @@ pub fn table_clause(tokens: Tokens<'_>) -> Option<(TableAction, Tokens<'_>)>
 }
 
 /// What a constructor makes of NULL.
-#[tactic(auto, unfolding(sj_statement::specs::Phrases::nulls_at))]
+#[tactic(auto, unfolding(sj_sql_grammar::specs::Phrases::nulls_at))]
 pub fn nulls_clause(tokens: Tokens<'_>) -> Option<(Nulls, Tokens<'_>)>
     ensures { option_map (λ x. (x.0, x.1.now)) result ≡ phrase.nulls_at tokens.now }
 {
@@ -48,7 +48,7 @@ pub fn nulls_clause(tokens: Tokens<'_>) -> Option<(Nulls, Tokens<'_>)>
 }
 
 /// Whether keys are to be unique.
-#[tactic(auto, unfolding(sj_statement::specs::Phrases::unique_at))]
+#[tactic(auto, unfolding(sj_sql_grammar::specs::Phrases::unique_at))]
 pub fn unique_clause(tokens: Tokens<'_>) -> Option<(bool, Tokens<'_>)>
     ensures { option_map (λ x. (x.0, x.1.now)) result ≡ phrase.unique_at tokens.now }
 {
@@ -67,7 +67,7 @@ fn query_action_phrase(tokens: Tokens<'_>) -> Option<(QueryAction, Tokens<'_>)>
 }
 
 /// The action of JSON_QUERY for a cause.
-#[tactic(auto, unfolding(sj_statement::specs::Phrases::query_clause_at))]
+#[tactic(auto, unfolding(sj_sql_grammar::specs::Phrases::query_clause_at))]
 pub fn query_clause(on: Keyword, tokens: Tokens<'_>) -> Option<(QueryAction, Tokens<'_>)>
     ensures { option_map (λ x. (x.0, x.1.now)) result ≡ phrase.query_clause_at on tokens.now }
 {
@@ -84,7 +84,7 @@ fn wrapped(wrapper: Wrapper, tokens: Tokens<'_>) -> Option<(Wrapper, Tokens<'_>)
 }
 
 /// Whether JSON_QUERY wraps.
-#[tactic(auto, unfolding(sj_statement::specs::Phrases::wrapper_at))]
+#[tactic(auto, unfolding(sj_sql_grammar::specs::Phrases::wrapper_at))]
 pub fn wrapper(tokens: Tokens<'_>) -> Option<(Wrapper, Tokens<'_>)>
     ensures { option_map (λ x. (x.0, x.1.now)) result ≡ phrase.wrapper_at tokens.now }
 {
@@ -99,7 +99,7 @@ pub fn wrapper(tokens: Tokens<'_>) -> Option<(Wrapper, Tokens<'_>)>
 }
 
 /// Whether JSON_QUERY keeps the quotation marks of a string.
-#[tactic(auto, unfolding(sj_statement::specs::Phrases::quotes_at))]
+#[tactic(auto, unfolding(sj_sql_grammar::specs::Phrases::quotes_at))]
 pub fn quotes_clause(tokens: Tokens<'_>) -> Option<(Quotes, Tokens<'_>)>
     ensures { option_map (λ x. (x.0, x.1.now)) result ≡ phrase.quotes_at tokens.now }
 {
@@ -117,7 +117,7 @@ fn on_scalar_string(tokens: Tokens<'_>) -> Option<Tokens<'_>>
 }
 
 /// The format of the document.
-#[tactic(auto, unfolding(sj_statement::specs::Phrases::format_at))]
+#[tactic(auto, unfolding(sj_sql_grammar::specs::Phrases::format_at))]
 pub fn format(tokens: Tokens<'_>) -> Option<(Encoding, Tokens<'_>)>
     ensures { option_map (λ x. (x.0, x.1.now)) result ≡ phrase.format_at tokens.now }
 {
@@ -130,7 +130,7 @@ pub fn format(tokens: Tokens<'_>) -> Option<(Encoding, Tokens<'_>)>
 }
 
 /// The encoding of a column.
-#[tactic(auto, unfolding(sj_statement::specs::Phrases::encoding_at))]
+#[tactic(auto, unfolding(sj_sql_grammar::specs::Phrases::encoding_at))]
 pub fn encoding_clause(tokens: Tokens<'_>) -> Option<(Encoding, Tokens<'_>)>
     ensures { option_map (λ x. (x.0, x.1.now)) result ≡ phrase.encoding_at tokens.now }
 {
@@ -195,7 +195,7 @@ fn numeric(tokens: Tokens<'_>) -> Option<(TypeName, Tokens<'_>)>
 }
 
 /// A type, behind its first word.
-#[tactic(auto, unfolding(sj_statement::specs::Phrases::type_from))]
+#[tactic(auto, unfolding(sj_sql_grammar::specs::Phrases::type_from))]
 fn type_from(first: Keyword, tokens: Tokens<'_>) -> Option<(TypeName, Tokens<'_>)>
     ensures { option_map (λ x. (x.0, x.1.now)) result ≡ phrase.type_from first tokens.now }
 {
@@ -218,7 +218,7 @@ fn type_from(first: Keyword, tokens: Tokens<'_>) -> Option<(TypeName, Tokens<'_>
 }
 
 /// A type.
-#[tactic(auto, unfolding(sj_statement::specs::Phrases::type_at))]
+#[tactic(auto, unfolding(sj_sql_grammar::specs::Phrases::type_at))]
 pub fn type_name(tokens: Tokens<'_>) -> Option<(TypeName, Tokens<'_>)>
     ensures { option_map (λ x. (x.0, x.1.now)) result ≡ phrase.type_at tokens.now }
 {
@@ -230,7 +230,7 @@ pub fn type_name(tokens: Tokens<'_>) -> Option<(TypeName, Tokens<'_>)>
 }
 
 /// The type of RETURNING.
-#[tactic(auto, unfolding(sj_statement::specs::Phrases::returning_at))]
+#[tactic(auto, unfolding(sj_sql_grammar::specs::Phrases::returning_at))]
 pub fn returning(tokens: Tokens<'_>) -> Option<(TypeName, Tokens<'_>)>
     ensures { option_map (λ x. (x.0, x.1.now)) result ≡ phrase.returning_at tokens.now }
 {
@@ -238,7 +238,7 @@ pub fn returning(tokens: Tokens<'_>) -> Option<(TypeName, Tokens<'_>)>
 }
 
 /// What follows VARCHAR FORMAT JSON, if it stands first.
-#[tactic(auto, unfolding(sj_statement::specs::Phrases::formatted_at))]
+#[tactic(auto, unfolding(sj_sql_grammar::specs::Phrases::formatted_at))]
 pub fn formatted_type(tokens: Tokens<'_>) -> Option<Tokens<'_>>
     ensures { option_copied result ≡ phrase.formatted_at tokens.now }
 {
@@ -248,7 +248,7 @@ pub fn formatted_type(tokens: Tokens<'_>) -> Option<Tokens<'_>>
 }
 
 /// What follows BOOLEAN EXISTS, if it stands first.
-#[tactic(auto, unfolding(sj_statement::specs::Phrases::existence_at))]
+#[tactic(auto, unfolding(sj_sql_grammar::specs::Phrases::existence_at))]
 pub fn existence_type(tokens: Tokens<'_>) -> Option<Tokens<'_>>
     ensures { option_copied result ≡ phrase.existence_at tokens.now }
 {

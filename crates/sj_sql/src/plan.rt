@@ -1,9 +1,9 @@
 //! The plan of a table, with a function that reads what stands inside parentheses.
 
 ghost use Rattle.std.specs.Prelude.{◌≡◌, IfOk, length, option_map};
-ghost use Rattle.sj_statement.specs.Phrases as phrase;
-ghost use Rattle.sj_statement.specs.Reading as reading;
-ghost use Rattle.sj_statement.specs.Tree as t;
+ghost use Rattle.sj_sql_grammar.specs.Phrases as phrase;
+ghost use Rattle.sj_sql_grammar.specs.Reading as reading;
+ghost use Rattle.sj_sql_grammar.specs.Tree as t;
 ghost use Rattle.sj_sql.specs.Gives.{Gives};
 ghost use Rattle.sj_sql.specs.Nests.{PlanNests};
 ghost use Rattle.sj_sql.specs.Plans as plans;
@@ -15,8 +15,8 @@ use crate::refusal::Refusal;
 use crate::single::{Rest, Tokens, close, comma, name, open, word};
 use crate::tree::{NamedPlan, PlanTree};
 use sj_base::{Memory, Text};
+use sj_sql_grammar::{InOut, Siblings};
 use sj_sql_token::Keyword;
-use sj_statement::{InOut, Siblings};
 use std::alloc::Global;
 
 fn union_of(alloc: Global, a: NamedPlan, b: NamedPlan) -> Result<NamedPlan, Memory>
@@ -49,7 +49,7 @@ impl<F: Fn(Global, usize, Tokens<'_>) -> Result<(NamedPlan, Tokens<'_>), Refusal
     }
 
     /// Behind an opening parenthesis.
-    #[tactic(auto, unfolding(sj_statement::specs::Reading::plan_parens_at))]
+    #[tactic(auto, unfolding(sj_sql_grammar::specs::Reading::plan_parens_at))]
     fn parens<'a>(&self, tokens: Tokens<'a>) -> Result<(NamedPlan, Tokens<'a>), Refusal>
         requires { PlanNests self.now.depth (F.pre self.now.inner) (F.post self.now.inner) }
         ensures { Gives (λ x. (plan_of x.0, x.1.now)) result (reading.plan_parens_at (reading.plan_expr_at self.now.depth) tokens.now) }
@@ -60,7 +60,7 @@ impl<F: Fn(Global, usize, Tokens<'_>) -> Result<(NamedPlan, Tokens<'_>), Refusal
     }
 
     /// A name, or a plan in parentheses.
-    #[tactic(auto, unfolding(sj_statement::specs::Reading::plan_prim_at))]
+    #[tactic(auto, unfolding(sj_sql_grammar::specs::Reading::plan_prim_at))]
     fn operand<'a>(&self, tokens: Tokens<'a>) -> Result<(NamedPlan, Tokens<'a>), Refusal>
         requires { PlanNests self.now.depth (F.pre self.now.inner) (F.post self.now.inner) }
         ensures { Gives (λ x. (plan_of x.0, x.1.now)) result (reading.plan_prim_at (reading.plan_expr_at self.now.depth) tokens.now) }
@@ -73,7 +73,7 @@ impl<F: Fn(Global, usize, Tokens<'_>) -> Result<(NamedPlan, Tokens<'_>), Refusal
     }
 
     /// The other operands of UNION.
-    #[tactic(auto, unfolding(sj_statement::specs::Reading::union_from))]
+    #[tactic(auto, unfolding(sj_sql_grammar::specs::Reading::union_from))]
     fn union<'a>(
         &self,
         first: NamedPlan,
@@ -96,7 +96,7 @@ impl<F: Fn(Global, usize, Tokens<'_>) -> Result<(NamedPlan, Tokens<'_>), Refusal
     }
 
     /// The other operands of CROSS.
-    #[tactic(auto, unfolding(sj_statement::specs::Reading::cross_from))]
+    #[tactic(auto, unfolding(sj_sql_grammar::specs::Reading::cross_from))]
     fn cross<'a>(
         &self,
         first: NamedPlan,
@@ -119,7 +119,7 @@ impl<F: Fn(Global, usize, Tokens<'_>) -> Result<(NamedPlan, Tokens<'_>), Refusal
     }
 
     /// Behind a plan, which an operator has to follow.
-    #[tactic(auto, unfolding(sj_statement::specs::Reading::joined_at))]
+    #[tactic(auto, unfolding(sj_sql_grammar::specs::Reading::joined_at))]
     fn joined<'a>(
         &self,
         first: NamedPlan,
@@ -156,7 +156,7 @@ impl<F: Fn(Global, usize, Tokens<'_>) -> Result<(NamedPlan, Tokens<'_>), Refusal
     }
 
     /// Behind a name.
-    #[tactic(auto, unfolding(sj_statement::specs::Reading::named_plan_at))]
+    #[tactic(auto, unfolding(sj_sql_grammar::specs::Reading::named_plan_at))]
     fn named<'a>(&self, name: Text, tokens: Tokens<'a>) -> Result<(NamedPlan, Tokens<'a>), Refusal>
         requires { PlanNests self.now.depth (F.pre self.now.inner) (F.post self.now.inner) }
         ensures { Gives (λ x. (plan_of x.0, x.1.now)) result (reading.named_plan_at (reading.plan_expr_at self.now.depth) name tokens.now) }
@@ -173,7 +173,7 @@ impl<F: Fn(Global, usize, Tokens<'_>) -> Result<(NamedPlan, Tokens<'_>), Refusal
     }
 
     /// A plan.
-    #[tactic(auto, unfolding(sj_statement::specs::Reading::plan_over))]
+    #[tactic(auto, unfolding(sj_sql_grammar::specs::Reading::plan_over))]
     fn over<'a>(&self, tokens: Tokens<'a>) -> Result<(NamedPlan, Tokens<'a>), Refusal>
         requires { PlanNests self.now.depth (F.pre self.now.inner) (F.post self.now.inner) }
         ensures { Gives (λ x. (plan_of x.0, x.1.now)) result (reading.plan_over (reading.plan_expr_at self.now.depth) tokens.now) }
@@ -229,7 +229,7 @@ fn behind_siblings(siblings: Siblings, tokens: Tokens<'_>) -> Option<(PlanTree, 
 }
 
 /// What stands inside the parentheses of PLAN DEFAULT.
-#[tactic(auto, unfolding(sj_statement::specs::Phrases::default_at))]
+#[tactic(auto, unfolding(sj_sql_grammar::specs::Phrases::default_at))]
 fn default_plan(tokens: Tokens<'_>) -> Option<(PlanTree, Tokens<'_>)>
     ensures { option_map (λ x. (plan_tree_of x.0, x.1.now)) result ≡ phrase.default_at tokens.now }
 {
@@ -264,7 +264,7 @@ fn named_clause(alloc: Global, tokens: Tokens<'_>) -> Result<(PlanTree, Tokens<'
 }
 
 /// The plan of a table: OUTER and UNION, unless a clause says another.
-#[tactic(auto, unfolding(sj_statement::specs::Reading::plan_at))]
+#[tactic(auto, unfolding(sj_sql_grammar::specs::Reading::plan_at))]
 pub fn plan(alloc: Global, tokens: Tokens<'_>) -> Result<(PlanTree, Tokens<'_>), Refusal>
     ensures { Gives (λ x. (plan_tree_of x.0, x.1.now)) result (reading.plan_at tokens.now) }
 {

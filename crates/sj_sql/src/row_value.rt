@@ -1,10 +1,10 @@
 //! The values of a SELECT list with a table.
 
 ghost use Rattle.std.specs.Prelude.{◌≡◌};
-ghost use Rattle.sj_statement.specs.Faults.{parsing};
-ghost use Rattle.sj_statement.specs.Grammar as grammar;
-ghost use Rattle.sj_statement.specs.Reading as reading;
-ghost use Rattle.sj_statement.specs.Tree as t;
+ghost use Rattle.sj_sql_grammar.specs.Faults.{parsing};
+ghost use Rattle.sj_sql_grammar.specs.Grammar as grammar;
+ghost use Rattle.sj_sql_grammar.specs.Reading as reading;
+ghost use Rattle.sj_sql_grammar.specs.Tree as t;
 ghost use Rattle.sj_sql.specs.Gives.{Gives};
 ghost use Rattle.sj_sql.specs.Noted.{faults_of};
 ghost use Rattle.sj_sql.specs.View.{tvalue_of, tvalues_of, tmembers_of};
@@ -20,7 +20,7 @@ use sj_value::Nulls;
 use std::alloc::Global;
 
 /// A column.
-#[tactic(auto, unfolding(sj_statement::specs::Reading::asking_at))]
+#[tactic(auto, unfolding(sj_sql_grammar::specs::Reading::asking_at))]
 fn column(
     alloc: Global,
     faults: Faults,

@@ -3,7 +3,7 @@
 ghost use Rattle.std.specs.Prelude.{◌≡◌, suc, ◌<◌, ◌≤◌, ◌-◌, ◌^◌, ◌∷◌, ◌++◌, [], length, map, IfOk, OnOk, MatchOption, slice_get};
 ghost use Rattle.std.specs.Option.{option_copied};
 ghost use Rattle.sj_sql_token.specs.Tokens.{lexed};
-ghost use Rattle.sj_statement.specs.Answers.{IsFile, max_file};
+ghost use Rattle.sj_sql_grammar.specs.Answers.{IsFile, max_file};
 ghost use Rattle.sj_sql.specs.Script.{fault_of};
 ghost use Rattle.sj_sql.specs.View.{statement_of};
 
@@ -11,7 +11,7 @@ use crate::answer::Refused;
 use crate::file::{NextStatement, next_statement};
 use crate::tree::Statement;
 use sj_base::Memory;
-use sj_statement::FileKind;
+use sj_sql_grammar::FileKind;
 use std::alloc::Global;
 use std::collections::VecDeque;
 use std::marker::Model;

@@ -1,8 +1,8 @@
 //! Statements.
 
 ghost use Rattle.std.specs.Prelude.{◌≡◌};
-ghost use Rattle.sj_statement.specs.Faults.{parsing, nothing_noted};
-ghost use Rattle.sj_statement.specs.Reading as reading;
+ghost use Rattle.sj_sql_grammar.specs.Faults.{parsing, nothing_noted};
+ghost use Rattle.sj_sql_grammar.specs.Reading as reading;
 ghost use Rattle.sj_sql.specs.Gives.{Gives};
 ghost use Rattle.sj_sql.specs.Noted.{faults_of};
 ghost use Rattle.sj_sql.specs.View.{statement_of};
@@ -54,7 +54,7 @@ fn ended(
 }
 
 /// The table of a statement that selects all of its columns, behind the star.
-#[tactic(auto, unfolding(sj_statement::specs::Reading::all_at))]
+#[tactic(auto, unfolding(sj_sql_grammar::specs::Reading::all_at))]
 fn all(alloc: Global, faults: Faults, tokens: Tokens<'_>) -> Result<(Statement, Faults), Refusal>
     ensures { Gives (λ x. (statement_of x.0, faults_of x.1)) result (reading.all_at parsing (faults_of faults) tokens.now) }
 {
@@ -64,7 +64,7 @@ fn all(alloc: Global, faults: Faults, tokens: Tokens<'_>) -> Result<(Statement, 
 }
 
 /// The items and the table of a statement.
-#[tactic(auto, unfolding(sj_statement::specs::Reading::listed_at))]
+#[tactic(auto, unfolding(sj_sql_grammar::specs::Reading::listed_at))]
 fn listed(alloc: Global, faults: Faults, tokens: Tokens<'_>) -> Result<(Statement, Faults), Refusal>
     ensures { Gives (λ x. (statement_of x.0, faults_of x.1)) result (reading.listed_at parsing (faults_of faults) tokens.now) }
 {
@@ -75,7 +75,7 @@ fn listed(alloc: Global, faults: Faults, tokens: Tokens<'_>) -> Result<(Statemen
 }
 
 /// The values of a statement without a table.
-#[tactic(auto, unfolding(sj_statement::specs::Reading::plain_at))]
+#[tactic(auto, unfolding(sj_sql_grammar::specs::Reading::plain_at))]
 fn plain(alloc: Global, faults: Faults, tokens: Tokens<'_>) -> Result<(Statement, Faults), Refusal>
     ensures { Gives (λ x. (statement_of x.0, faults_of x.1)) result (reading.plain_at parsing (faults_of faults) tokens.now) }
 {
@@ -86,7 +86,7 @@ fn plain(alloc: Global, faults: Faults, tokens: Tokens<'_>) -> Result<(Statement
 /// The tree of a statement's tokens, without its semicolon, and what is noted of it.
 ///
 /// It takes time linear in the tokens, and recurs only over parentheses, which the caller has to bound.
-#[tactic(auto, unfolding(sj_statement::specs::Reading::select_at))]
+#[tactic(auto, unfolding(sj_sql_grammar::specs::Reading::select_at))]
 pub fn select(alloc: Global, tokens: Tokens<'_>) -> Result<(Statement, Faults), Refusal>
     ensures { Gives (λ x. (statement_of x.0, faults_of x.1)) result (reading.select_at parsing nothing_noted tokens.now) }
 {

@@ -5,7 +5,7 @@ ghost use Rattle.std.specs.Option.{option_copied};
 ghost use Rattle.sj_sql.specs.Gives.{Gives};
 ghost use Rattle.sj_sql_token.specs.Keywords as keywords;
 ghost use Rattle.sj_sql_token.specs.Same as keyword;
-ghost use Rattle.sj_statement.specs.Phrases as phrase;
+ghost use Rattle.sj_sql_grammar.specs.Phrases as phrase;
 
 use crate::refusal::Refusal;
 use sj_base::Text;

@@ -1,8 +1,8 @@
 //! JSON_TABLE.
 
 ghost use Rattle.std.specs.Prelude.{◌≡◌};
-ghost use Rattle.sj_statement.specs.Faults.{parsing};
-ghost use Rattle.sj_statement.specs.Reading as reading;
+ghost use Rattle.sj_sql_grammar.specs.Faults.{parsing};
+ghost use Rattle.sj_sql_grammar.specs.Reading as reading;
 ghost use Rattle.sj_sql.specs.Gives.{Gives};
 ghost use Rattle.sj_sql.specs.Noted.{faults_of};
 ghost use Rattle.sj_sql.specs.View.{table_of};
@@ -21,7 +21,7 @@ use sj_value::TableAction;
 use std::alloc::Global;
 
 /// A table, and the name that leaves no trace.
-#[tactic(auto, unfolding(sj_statement::specs::Reading::table_at))]
+#[tactic(auto, unfolding(sj_sql_grammar::specs::Reading::table_at))]
 pub fn table(
     alloc: Global,
     faults: Faults,

@@ -6,7 +6,7 @@ ghost use Rattle.sj_sql.specs.Split.{SplitsValues, SplitsMembers, SplitsRowValue
 use crate::seq::Seq;
 use sj_base::Text;
 use sj_path::{Literal, Path};
-use sj_statement::{Encoding, InOut, IsJsonCall, Passed, Quotes, Siblings, TypeName, ValueDo};
+use sj_sql_grammar::{Encoding, InOut, IsJsonCall, Passed, Quotes, Siblings, TypeName, ValueDo};
 use sj_value::{ExistsAction, Nulls, QueryAction, TableAction, Wrapper};
 
 /// A statement.

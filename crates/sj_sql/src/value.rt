@@ -1,8 +1,8 @@
 //! The values of a SELECT list, with a function that reads the values inside them.
 
 ghost use Rattle.std.specs.Prelude.{◌≡◌, length};
-ghost use Rattle.sj_statement.specs.Faults.{parsing};
-ghost use Rattle.sj_statement.specs.Reading as reading;
+ghost use Rattle.sj_sql_grammar.specs.Faults.{parsing};
+ghost use Rattle.sj_sql_grammar.specs.Reading as reading;
 ghost use Rattle.sj_sql.specs.Cells.{member_of};
 ghost use Rattle.sj_sql.specs.Gives.{Gives};
 ghost use Rattle.sj_sql.specs.Nests.{Nests};
@@ -46,7 +46,7 @@ impl<
     }
 
     /// Values with commas between them.
-    #[tactic(auto, unfolding(sj_statement::specs::Reading::values_from))]
+    #[tactic(auto, unfolding(sj_sql_grammar::specs::Reading::values_from))]
     fn values<'a>(
         &self,
         faults: Faults,
@@ -73,7 +73,7 @@ impl<
     }
 
     /// The value of a member, behind its key.
-    #[tactic(auto, unfolding(sj_statement::specs::Reading::member_value_at))]
+    #[tactic(auto, unfolding(sj_sql_grammar::specs::Reading::member_value_at))]
     fn member_value<'a>(
         &self,
         key: Box<V>,
@@ -90,7 +90,7 @@ impl<
     }
 
     /// A member behind KEY.
-    #[tactic(auto, unfolding(sj_statement::specs::Reading::keyed_at))]
+    #[tactic(auto, unfolding(sj_sql_grammar::specs::Reading::keyed_at))]
     fn keyed<'a>(
         &self,
         faults: Faults,
@@ -107,7 +107,7 @@ impl<
     }
 
     /// A member without KEY.
-    #[tactic(auto, unfolding(sj_statement::specs::Reading::valued_at))]
+    #[tactic(auto, unfolding(sj_sql_grammar::specs::Reading::valued_at))]
     fn valued<'a>(
         &self,
         faults: Faults,
@@ -127,7 +127,7 @@ impl<
     }
 
     /// A member, of a key and a value.
-    #[tactic(auto, unfolding(sj_statement::specs::Reading::member_at))]
+    #[tactic(auto, unfolding(sj_sql_grammar::specs::Reading::member_at))]
     pub fn member<'a>(
         &self,
         faults: Faults,
@@ -144,7 +144,7 @@ impl<
     }
 
     /// Members with commas between them.
-    #[tactic(auto, unfolding(sj_statement::specs::Reading::members_from))]
+    #[tactic(auto, unfolding(sj_sql_grammar::specs::Reading::members_from))]
     fn members<'a>(
         &self,
         faults: Faults,
@@ -170,7 +170,7 @@ impl<
         Err(Refusal::Syntax)
     }
 
-    #[tactic(auto, unfolding(sj_statement::specs::Reading::members_to_end))]
+    #[tactic(auto, unfolding(sj_sql_grammar::specs::Reading::members_to_end))]
     fn members_to_end<'a>(
         &self,
         faults: Faults,
@@ -188,7 +188,7 @@ impl<
     }
 
     /// JSON_OBJECT, behind its word.
-    #[tactic(auto, unfolding(sj_statement::specs::Reading::object_from))]
+    #[tactic(auto, unfolding(sj_sql_grammar::specs::Reading::object_from))]
     fn object<'a>(
         &self,
         faults: Faults,
@@ -206,7 +206,7 @@ impl<
         self.members_to_end(faults, rest)
     }
 
-    #[tactic(auto, unfolding(sj_statement::specs::Reading::values_to_end))]
+    #[tactic(auto, unfolding(sj_sql_grammar::specs::Reading::values_to_end))]
     fn values_to_end<'a>(
         &self,
         faults: Faults,
@@ -223,7 +223,7 @@ impl<
     }
 
     /// JSON_ARRAY, behind its word.
-    #[tactic(auto, unfolding(sj_statement::specs::Reading::array_from))]
+    #[tactic(auto, unfolding(sj_sql_grammar::specs::Reading::array_from))]
     fn array<'a>(
         &self,
         faults: Faults,
@@ -242,7 +242,7 @@ impl<
     }
 
     /// A value, with the values of a constructor by the function inside.
-    #[tactic(auto, unfolding(sj_statement::specs::Reading::value_over))]
+    #[tactic(auto, unfolding(sj_sql_grammar::specs::Reading::value_over))]
     pub fn over<'a>(
         &self,
         faults: Faults,

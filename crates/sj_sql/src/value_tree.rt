@@ -1,11 +1,11 @@
 //! Trees of values, as the parser makes them: those of a SELECT list without a table, and those of one with a table.
 
 ghost use Rattle.std.specs.Prelude.{◌≡◌};
-ghost use Rattle.sj_grammar.specs.Tree as g;
-ghost use Rattle.sj_statement.specs.Faults.{parsing};
-ghost use Rattle.sj_statement.specs.Grammar.{Source};
-ghost use Rattle.sj_statement.specs.Reading as reading;
-ghost use Rattle.sj_statement.specs.Tree as t;
+ghost use Rattle.sj_path_grammar.specs.Tree as g;
+ghost use Rattle.sj_sql_grammar.specs.Faults.{parsing};
+ghost use Rattle.sj_sql_grammar.specs.Grammar.{Source};
+ghost use Rattle.sj_sql_grammar.specs.Reading as reading;
+ghost use Rattle.sj_sql_grammar.specs.Tree as t;
 ghost use Rattle.sj_sql.specs.Gives.{Gives};
 ghost use Rattle.sj_sql.specs.Noted.{faults_of};
 

@@ -6,5 +6,5 @@ pub mod Texts
 pub mod Numbers
 -- for `name`, `next_token`, `string` and `word`
 pub mod Pieces
--- for sj_sql and sj_statement
+-- for sj_sql and sj_sql_grammar
 pub mod Keywords

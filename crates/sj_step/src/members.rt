@@ -6,8 +6,8 @@ ghost use Rattle.sj_step.specs.Walk.{members_left};
 use crate::answer::Answer;
 use sj_base::{Ledger, State, Steps};
 use sj_doc::Children;
-use sj_grammar::Mode;
 use sj_item::Item;
+use sj_path_grammar::Mode;
 
 /// A walk over the members of an object that gives those under a key.
 #[derive(Drop)]

@@ -4,8 +4,8 @@ ghost use Rattle.sj_item.specs.Items.{item_value};
 ghost use Rattle.sj_step.specs.Reach.{last};
 
 use sj_doc::Kind;
-use sj_grammar::Mode;
 use sj_item::{Item, kind, size};
+use sj_path_grammar::Mode;
 
 /// What is reached of one item (ISO/IEC 9075-2, SQL/JSON path language, accessors).
 #[derive(Clone, Copy)]

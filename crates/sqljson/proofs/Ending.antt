@@ -3,7 +3,7 @@ use Rattle.std.proofs.Common.{◌≡◌, inl, inr, ◌↔◌, ℕ, ◌+◌, ◌-
 use Rattle.std.proofs.lemmas.List.{take-append-drop, append-nil}
 use Rattle.std.specs.Io.KnownBytes.{Consumes, IsAtEnd}
 use Rattle.sj_base.specs.Outside.{Files, HasFile, Rose, raised}
-use Rattle.sj_statement.specs.declared.refusal.FileKind.{FileKind}
+use Rattle.sj_sql_grammar.specs.declared.refusal.FileKind.{FileKind}
 use Rattle.sj_bind.specs.Bound.{Bound}
 use Rattle.sj_generated.specs.Lines.{generated}
 use Rattle.sj_page.specs.Sides.{OutputSide, Grew}
@@ -17,7 +17,7 @@ use Rattle.sqljson.specs.Job.{Job, job}
 use Rattle.sqljson.specs.Input.{InputSide}
 use Rattle.sqljson.specs.Output.{output, whole_output, allowed}
 use Rattle.sqljson.specs.Stream.{IsPrefix, IsWhy, Streamed, IsFrontOf, WroteLeast, WroteWhole, StepsWithin, max_piece, max_input, TookMost}
-use Rattle.sj_statement.specs.Answers.{max_file}
+use Rattle.sj_sql_grammar.specs.Answers.{max_file}
 use Rattle.sqljson.specs.File.{ShelfSide, Form, running, checking, generating, name_in, file_named, file_run, file_shown, IsFile, IsTooLong}
 use Rattle.sqljson.specs.Verdict.{Accepts, Refuses}
 use Rattle.sqljson.specs.Summary.{summary_text}

@@ -1,16 +1,16 @@
 -- Taking the statements of a file, one after the other.
 use Rattle.std.proofs.Common.{◌≡◌, ℕ, suc, ◌+◌, List, [], ◌∷◌, ◌++◌, length, Bor, Option, None, Some, Result, Ok, Err, refl, sym, ◌∙◌, ap, subst, arith, add-one, append_assoc, length-append}
 use Rattle.std.proofs.lemmas.List.{append-nil}
-use Rattle.sj_grammar.specs.Tree.{Path}
+use Rattle.sj_path_grammar.specs.Tree.{Path}
 use Rattle.sj_bind.specs.Bound.{Bound}
 use Rattle.sj_sql_token.specs.Tokens.{lexed}
-use Rattle.sj_statement.specs.declared.refusal.BindKind.{BindKind}
-use Rattle.sj_statement.specs.declared.refusal.FileKind.{FileKind}
-use Rattle.sj_statement.specs.declared.refusal.FileKind.TheVariants.{Bind}
-use Rattle.sj_statement.specs.Tree.{Statement}
-use Rattle.sj_statement.specs.Answers.{closed, pieces}
-use Rattle.sj_statement.proofs.Answered.{some_script}
-use Rattle.sj_statement.proofs.Scripts.{one_file}
+use Rattle.sj_sql_grammar.specs.declared.refusal.BindKind.{BindKind}
+use Rattle.sj_sql_grammar.specs.declared.refusal.FileKind.{FileKind}
+use Rattle.sj_sql_grammar.specs.declared.refusal.FileKind.TheVariants.{Bind}
+use Rattle.sj_sql_grammar.specs.Tree.{Statement}
+use Rattle.sj_sql_grammar.specs.Answers.{closed, pieces}
+use Rattle.sj_sql_grammar.proofs.Answered.{some_script}
+use Rattle.sj_sql_grammar.proofs.Scripts.{one_file}
 use Rattle.sj_sql.specs.declared.answer.Refused.{Refused as RefusedTree}
 use Rattle.sj_sql.specs.declared.answer.Refused.TheVariants as no
 use Rattle.sj_sql.specs.declared.file.NextStatement.{NextStatement}

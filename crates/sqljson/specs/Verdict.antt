@@ -1,12 +1,12 @@
 -- What a command makes of a file of statements: how each is bound, or which one is refused first, and why.
 use Rattle.std.specs.Prelude.{◌≡◌, ℕ, ◌+◌, List, [], ◌∷◌, Option, None, Some, Result, Ok, Err}
-use Rattle.sj_grammar.specs.Tree.{Path}
+use Rattle.sj_path_grammar.specs.Tree.{Path}
 use Rattle.sj_sql_token.specs.Tokens.{lexed}
-use Rattle.sj_statement.specs.declared.refusal.BindKind.{BindKind}
-use Rattle.sj_statement.specs.declared.refusal.FileKind.{FileKind}
-use Rattle.sj_statement.specs.declared.refusal.FileKind.TheVariants.{Bind}
-use Rattle.sj_statement.specs.Tree.{Statement}
-use Rattle.sj_statement.specs.Answers.{IsFile}
+use Rattle.sj_sql_grammar.specs.declared.refusal.BindKind.{BindKind}
+use Rattle.sj_sql_grammar.specs.declared.refusal.FileKind.{FileKind}
+use Rattle.sj_sql_grammar.specs.declared.refusal.FileKind.TheVariants.{Bind}
+use Rattle.sj_sql_grammar.specs.Tree.{Statement}
+use Rattle.sj_sql_grammar.specs.Answers.{IsFile}
 use Rattle.sj_bind.specs.Bound.{Bound}
 use Rattle.sj_bind.specs.Meaning.{bound}
 use Rattle.sj_bind.specs.Rules.{bind_fault}

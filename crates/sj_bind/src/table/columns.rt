@@ -7,7 +7,7 @@ ghost use Rattle.sj_bind.specs.Tables.{names_in, names_below};
 ghost use Rattle.sj_bind.specs.Taken.{CanTake, CanTakeIn, taken_paths, taken_paths_in, taken_columns, taken_columns_in};
 ghost use Rattle.sj_bind.specs.View as bound;
 ghost use Rattle.sj_bind.specs.Meaning.{column_under};
-ghost use Rattle.sj_statement.specs.Tree as t;
+ghost use Rattle.sj_sql_grammar.specs.Tree as t;
 
 use crate::bound::BoundColumn;
 use crate::clauses::{query_clauses, value_clauses};

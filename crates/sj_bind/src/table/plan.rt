@@ -12,7 +12,7 @@ ghost use Rattle.sj_bind.specs.Grown.{one_more, grown_in, grown_below};
 use super::paths::{count_paths_in, find_path};
 use sj_base::Memory;
 use sj_sql::{Column, Columns, NamedPlan, PlanTree, Table};
-use sj_statement::{InOut, Siblings};
+use sj_sql_grammar::{InOut, Siblings};
 use sj_value::Plan;
 use std::alloc::Global;
 

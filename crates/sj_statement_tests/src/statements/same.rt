@@ -7,7 +7,7 @@ use sj_sql::{
     RegularColumn, SMembers, SValue, SValues, Statement, TItem, TMembers, TValue, TValues, Table,
     ValueCall,
 };
-use sj_statement::{Passed, ValueDo};
+use sj_sql_grammar::{Passed, ValueDo};
 
 fn same_text(a: &Text, b: &Text) -> bool {
     a.as_str() == b.as_str()

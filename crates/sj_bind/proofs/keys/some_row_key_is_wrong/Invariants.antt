@@ -1,7 +1,7 @@
 use Rattle.std.proofs.Common.{◌≡◌, not, drop}
 use Rattle.std.specs.List.{list_any}
-use Rattle.sj_grammar.specs.Tree.{Path}
-use Rattle.sj_statement.specs.Tree.{Value}
+use Rattle.sj_path_grammar.specs.Tree.{Path}
+use Rattle.sj_sql_grammar.specs.Tree.{Value}
 use Rattle.sj_bind.specs.Names.{names_of}
 use Rattle.sj_bind.specs.PartsView.{row_keys_of}
 use Rattle.sj_bind.specs.Rules.{is_key}

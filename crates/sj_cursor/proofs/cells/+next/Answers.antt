@@ -107,7 +107,7 @@ Operand::see_row-returns-in-Fault-clause-seen g t c = row_fault _ _ _ _ _ _ _ _ 
 
 pub Comparison::see_rows-rows-init : goal.Comparison::see_rows-rows-init
 Comparison::see_rows-rows-init g t c = record {
-  same = ap (λ k. Rattle.sj_grammar.specs.Tree.Compares c.args.self.now.op k (operand_core c.args.self.now.right)) c.rewind.ensures.same;
+  same = ap (λ k. Rattle.sj_path_grammar.specs.Tree.Compares c.args.self.now.op k (operand_core c.args.self.now.right)) c.rewind.ensures.same;
   op = refl;
   rows = rows_from _ _ _ _ _ _ (c.rewind.ensures.whole Unwrapped _);
 }
@@ -119,8 +119,8 @@ pub Comparison::see_rows-rows-preserved : goal.Comparison::see_rows-rows-preserv
 Comparison::see_rows-rows-preserved g t c =
     let right : operand_core c.rows.self.right ≡ operand_core c.args.self.now.right = cc c.rows.invariant.same in
     record {
-      same = ap (λ k. Rattle.sj_grammar.specs.Tree.Compares c.rows.self.op k (operand_core c.see_row.new.self)) c.in-Item.ensures.same
-          ∙ ap (λ k. Rattle.sj_grammar.specs.Tree.Compares c.rows.self.op (operand_core c.rows.self.left) k) c.see_row.ensures.same
+      same = ap (λ k. Rattle.sj_path_grammar.specs.Tree.Compares c.rows.self.op k (operand_core c.see_row.new.self)) c.in-Item.ensures.same
+          ∙ ap (λ k. Rattle.sj_path_grammar.specs.Tree.Compares c.rows.self.op (operand_core c.rows.self.left) k) c.see_row.ensures.same
           ∙ c.rows.invariant.same;
       op = c.rows.invariant.op;
       rows = rw c.saw-rows.ensures.some (rows_item _ _ _ _ _ _ _ _ _ _ _ _ _ _ _ _ _ _ c.rows.invariant.rows c.in-Item.ensures.answers
@@ -170,8 +170,8 @@ Both::and-returns-in-False-clause-decides g t c = and_false _ _ _ _ (rw c.deref_
 pub Both::and-returns-in_default : goal.Both::and-returns-in_default
 Both::and-returns-in_default g t c = record {
   decides = rw c.and.ensures (and_other _ _ _ _ _ _ _ c.in_default.not-False (rw c.deref_mut.ensures.value at c.holds-left.ensures.decides) (rw c.deref_mut-in_default.ensures.value at c.holds.ensures.decides));
-  same = ap (λ k. Rattle.sj_grammar.specs.Tree.And k (Rattle.sj_cursor.specs.Left.test_core c.holds.new.self)) (c.holds-left.ensures.same ∙ ap Rattle.sj_cursor.specs.Left.test_core c.deref_mut.ensures.value)
-      ∙ ap (λ k. Rattle.sj_grammar.specs.Tree.And (Rattle.sj_cursor.specs.Left.test_core c.args.self.now.left.value) k) (c.holds.ensures.same ∙ ap Rattle.sj_cursor.specs.Left.test_core c.deref_mut-in_default.ensures.value);
+  same = ap (λ k. Rattle.sj_path_grammar.specs.Tree.And k (Rattle.sj_cursor.specs.Left.test_core c.holds.new.self)) (c.holds-left.ensures.same ∙ ap Rattle.sj_cursor.specs.Left.test_core c.deref_mut.ensures.value)
+      ∙ ap (λ k. Rattle.sj_path_grammar.specs.Tree.And (Rattle.sj_cursor.specs.Left.test_core c.args.self.now.left.value) k) (c.holds.ensures.same ∙ ap Rattle.sj_cursor.specs.Left.test_core c.deref_mut-in_default.ensures.value);
 }
 
 pub Both::or-returns-in-True-clause-decides : goal.Both::or-returns-in-True-clause-decides
@@ -180,8 +180,8 @@ Both::or-returns-in-True-clause-decides g t c = or_true _ _ _ _ (rw c.deref_mut.
 pub Both::or-returns-in_default : goal.Both::or-returns-in_default
 Both::or-returns-in_default g t c = record {
   decides = rw c.or.ensures (or_other _ _ _ _ _ _ _ c.in_default.not-True (rw c.deref_mut.ensures.value at c.holds-left.ensures.decides) (rw c.deref_mut-in_default.ensures.value at c.holds.ensures.decides));
-  same = ap (λ k. Rattle.sj_grammar.specs.Tree.Or k (Rattle.sj_cursor.specs.Left.test_core c.holds.new.self)) (c.holds-left.ensures.same ∙ ap Rattle.sj_cursor.specs.Left.test_core c.deref_mut.ensures.value)
-      ∙ ap (λ k. Rattle.sj_grammar.specs.Tree.Or (Rattle.sj_cursor.specs.Left.test_core c.args.self.now.left.value) k) (c.holds.ensures.same ∙ ap Rattle.sj_cursor.specs.Left.test_core c.deref_mut-in_default.ensures.value);
+  same = ap (λ k. Rattle.sj_path_grammar.specs.Tree.Or k (Rattle.sj_cursor.specs.Left.test_core c.holds.new.self)) (c.holds-left.ensures.same ∙ ap Rattle.sj_cursor.specs.Left.test_core c.deref_mut.ensures.value)
+      ∙ ap (λ k. Rattle.sj_path_grammar.specs.Tree.Or (Rattle.sj_cursor.specs.Left.test_core c.args.self.now.left.value) k) (c.holds.ensures.same ∙ ap Rattle.sj_cursor.specs.Left.test_core c.deref_mut-in_default.ensures.value);
 }
 
 pub Test::holds-returns-in-Not-clause-decides : goal.Test::holds-returns-in-Not-clause-decides
@@ -233,7 +233,7 @@ MoreParts::next-returns-in-End-clause-answers g t c = join_over _ _ _ _ _ _ _ _ 
 pub MoreParts::next-returns-in_default : goal.MoreParts::next-returns-in_default
 MoreParts::next-returns-in_default g t c = record {
   answers = join_answer _ _ _ _ _ _ (no_end _ _ c.in_default.not-End) c.next.ensures.answers;
-  same = ap (λ k. Rattle.sj_grammar.specs.Tree.More k (parts_core c.args.self.now.others.value)) c.next.ensures.same;
+  same = ap (λ k. Rattle.sj_path_grammar.specs.Tree.More k (parts_core c.args.self.now.others.value)) c.next.ensures.same;
 }
 
 pub Part::next-returns-in-Unasked-clause-answers : goal.Part::next-returns-in-Unasked-clause-answers

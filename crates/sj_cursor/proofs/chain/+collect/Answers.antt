@@ -1,5 +1,5 @@
 use Rattle.std.proofs.Common.{ap, sym, ◌∙◌}
-use Rattle.sj_grammar.specs.Tree as t
+use Rattle.sj_path_grammar.specs.Tree as t
 use Rattle.sj_doc.specs.Slots.{texts}
 use Rattle.sj_path.specs.Tree.{expr_of, step_of}
 use Rattle.sj_cursor.specs.Chains.{accessed}

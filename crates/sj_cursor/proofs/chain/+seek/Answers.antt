@@ -1,6 +1,6 @@
 use Rattle.std.proofs.Common.{false, ap, sym, ◌∙◌}
 use Rattle.sj_doc.specs.Slots.{texts}
-use Rattle.sj_grammar.specs.declared.tree.Mode.TheVariants.{Lax}
+use Rattle.sj_path_grammar.specs.declared.tree.Mode.TheVariants.{Lax}
 use Rattle.sj_step.proofs.Keyed.{fewer}
 use Rattle.sj_cursor.proofs.Chains.{first_rest, keyed, under_none, under_object, seeking_over, seeking_enough, sought_none, sought_same, sought_array, sought_other, element_next, elements_over, member_next, members_over}
 use Rattle.sj_cursor.proofs.chain.+seek.Goals as goal

@@ -1,6 +1,6 @@
 use Rattle.std.proofs.Common.{◌≡◌, ℕ, ◌≤◌, take}
 use Rattle.std.specs.Prelude.{count_by}
-use Rattle.sj_grammar.specs.Depth.{is_opening, is_closing, IsDeepAt}
+use Rattle.sj_path_grammar.specs.Depth.{is_opening, is_closing, IsDeepAt}
 use Rattle.sj_path.proofs.depth.opens_too_many.Given as goal
 
 abbrev pub invariant-loop-token : goal.invariant-loop-token

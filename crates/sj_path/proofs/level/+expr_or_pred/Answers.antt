@@ -1,5 +1,5 @@
 use Rattle.std.proofs.Common.{◌≡◌, suc, ◌-◌, ap, arith}
-use Rattle.sj_grammar.specs.Reading.{expr_or_pred_at}
+use Rattle.sj_path_grammar.specs.Reading.{expr_or_pred_at}
 use Rattle.sj_path.proofs.level.+expr_or_pred.Goals as goal
 
 pub returns-then-depth-eq0 : goal.returns-then-depth-eq0

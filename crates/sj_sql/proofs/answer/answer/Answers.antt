@@ -1,7 +1,7 @@
 use Rattle.std.proofs.Common.{subst}
-use Rattle.sj_statement.specs.Faults.{nothing_noted, parsing}
-use Rattle.sj_statement.specs.Reading.{select_at}
-use Rattle.sj_statement.proofs.Verdicts.{no_tree, path_fault, lacking, clean}
+use Rattle.sj_sql_grammar.specs.Faults.{nothing_noted, parsing}
+use Rattle.sj_sql_grammar.specs.Reading.{select_at}
+use Rattle.sj_sql_grammar.proofs.Verdicts.{no_tree, path_fault, lacking, clean}
 use Rattle.sj_sql.specs.Gives.{Fails}
 use Rattle.sj_sql.specs.Noted.{faults_of}
 use Rattle.sj_sql.specs.View.{statement_of}

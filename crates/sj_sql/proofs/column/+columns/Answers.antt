@@ -1,6 +1,6 @@
 use Rattle.std.proofs.Common.{◌≡◌, suc, ◌-◌, ap, arith}
-use Rattle.sj_statement.specs.Faults.{parsing}
-use Rattle.sj_statement.specs.Reading.{columns_at}
+use Rattle.sj_sql_grammar.specs.Faults.{parsing}
+use Rattle.sj_sql_grammar.specs.Reading.{columns_at}
 use Rattle.sj_sql.specs.Noted.{faults_of}
 use Rattle.sj_sql.proofs.column.+columns.Goals as goal
 

@@ -1,6 +1,6 @@
 use Rattle.std.proofs.Common.{◌≡◌, ℕ, ◌≤◌, take}
 use Rattle.std.specs.Prelude.{count_by}
-use Rattle.sj_statement.specs.Grammar.{is_open, is_close, IsDeepAt}
+use Rattle.sj_sql_grammar.specs.Grammar.{is_open, is_close, IsDeepAt}
 use Rattle.sj_sql.proofs.depth.too_deep.Given as goal
 
 -- the counts of the tokens so far, of which no prefix is too deep

@@ -1,5 +1,5 @@
 use Rattle.std.proofs.Common.{◌≡◌, map, vec_len}
-use Rattle.sj_statement.specs.Tree.{NoMembers}
+use Rattle.sj_sql_grammar.specs.Tree.{NoMembers}
 use Rattle.sj_sql.specs.Cells.{onto, member_of, more_members}
 use Rattle.sj_sql.proofs.member.member_cells.Given as goal
 

@@ -1,5 +1,5 @@
 use Rattle.std.proofs.Common.{◌≡◌, map, vec_len}
-use Rattle.sj_statement.specs.Tree.{MoreValues, NoValues}
+use Rattle.sj_sql_grammar.specs.Tree.{MoreValues, NoValues}
 use Rattle.sj_sql.specs.Cells.{onto}
 use Rattle.sj_sql.proofs.member.value_cells.Given as goal
 

@@ -1,6 +1,6 @@
 use Rattle.std.proofs.Common.{◌≡◌, ◌-◌, length}
-use Rattle.sj_statement.specs.Phrases.{passed_at}
-use Rattle.sj_statement.specs.Reading.{list_from}
+use Rattle.sj_sql_grammar.specs.Phrases.{passed_at}
+use Rattle.sj_sql_grammar.specs.Reading.{list_from}
 use Rattle.sj_sql.specs.Cells.{listed}
 use Rattle.sj_sql.proofs.passing.variables.Given as goal
 

@@ -1,5 +1,5 @@
 use Rattle.std.proofs.Common.{◌≡◌, suc, ◌-◌, ap, arith}
-use Rattle.sj_statement.specs.Reading.{plan_expr_at}
+use Rattle.sj_sql_grammar.specs.Reading.{plan_expr_at}
 use Rattle.sj_sql.proofs.plan.+named_plan.Goals as goal
 
 pub returns-then-depth-eq0 : goal.returns-then-depth-eq0

@@ -1,7 +1,7 @@
 use Rattle.std.proofs.Common.{◌≡◌, suc, ◌-◌, ap, arith}
-use Rattle.sj_statement.specs.Grammar.{row}
-use Rattle.sj_statement.specs.Faults.{parsing}
-use Rattle.sj_statement.specs.Reading.{value_at}
+use Rattle.sj_sql_grammar.specs.Grammar.{row}
+use Rattle.sj_sql_grammar.specs.Faults.{parsing}
+use Rattle.sj_sql_grammar.specs.Reading.{value_at}
 use Rattle.sj_sql.specs.Noted.{faults_of}
 use Rattle.sj_sql.proofs.row_value.+row_value.Goals as goal
 

@@ -1,5 +1,5 @@
 use Rattle.std.proofs.Common.{◌≡◌, drop}
-use Rattle.sj_statement.specs.Reading.{has_from}
+use Rattle.sj_sql_grammar.specs.Reading.{has_from}
 use Rattle.sj_sql.proofs.select.has_from.Given as goal
 
 abbrev pub invariant-loop-token : goal.invariant-loop-token

@@ -1,6 +1,6 @@
 use Rattle.std.proofs.Common.{Err, refl, sym, subst}
-use Rattle.sj_statement.specs.declared.refusal.BindKind.{BindKind}
-use Rattle.sj_statement.specs.declared.refusal.FileKind.TheVariants.{Bind}
+use Rattle.sj_sql_grammar.specs.declared.refusal.BindKind.{BindKind}
+use Rattle.sj_sql_grammar.specs.declared.refusal.FileKind.TheVariants.{Bind}
 use Rattle.sj_sql.specs.View.{statement_of}
 use Rattle.sj_bind.proofs.Bindable.{IsBindableNext, next_bindable}
 use Rattle.sqljson.specs.Refusals.{IsVerdictFrom}

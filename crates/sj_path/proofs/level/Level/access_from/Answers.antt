@@ -1,4 +1,4 @@
-use Rattle.sj_grammar.specs.Reading.{expr_or_pred_at}
+use Rattle.sj_path_grammar.specs.Reading.{expr_or_pred_at}
 use Rattle.sj_path.specs.Raw.{expr_of, step_of}
 use Rattle.sj_path.proofs.LevelTurns.{access_turn}
 use Rattle.sj_path.proofs.level.Level.access_from.Goals as goal

@@ -1,5 +1,5 @@
 use Rattle.std.proofs.Common.{◌≡◌, ◌-◌, length}
-use Rattle.sj_grammar.specs.Reading.{expr_or_pred_at, sum_from}
+use Rattle.sj_path_grammar.specs.Reading.{expr_or_pred_at, sum_from}
 use Rattle.sj_path.specs.Raw.{expr_of}
 use Rattle.sj_path.proofs.level.Level.sum_from.Given as goal
 

@@ -1,7 +1,7 @@
 use Rattle.std.proofs.Common.{◌≡◌, ◌-◌, length, map}
-use Rattle.sj_statement.specs.Faults.{parsing}
-use Rattle.sj_statement.specs.Reading.{columns_at, columns_from}
-use Rattle.sj_statement.specs.Tree.{More}
+use Rattle.sj_sql_grammar.specs.Faults.{parsing}
+use Rattle.sj_sql_grammar.specs.Reading.{columns_at, columns_from}
+use Rattle.sj_sql_grammar.specs.Tree.{More}
 use Rattle.sj_sql.specs.Cells.{boxed_column_of, fronted}
 use Rattle.sj_sql.specs.Noted.{faults_of}
 use Rattle.sj_sql.proofs.column.Level.columns.Given as goal

@@ -1,5 +1,5 @@
 use Rattle.std.proofs.Common.{◌≡◌, ◌-◌, length}
-use Rattle.sj_statement.specs.Reading.{plan_expr_at, cross_from}
+use Rattle.sj_sql_grammar.specs.Reading.{plan_expr_at, cross_from}
 use Rattle.sj_sql.specs.View.{plan_of}
 use Rattle.sj_sql.proofs.plan.Level.cross.Given as goal
 

@@ -1,5 +1,0 @@
-use Rattle.sj_token.proofs.Texts.{same_tokens}
-use Rattle.sj_grammar.proofs.law.one_list_of_tokens.Goals as goal
-
-pub returns : goal.returns
-returns c = same_tokens

@@ -1,0 +1,5 @@
+use Rattle.sj_path_grammar.proofs.Laws as laws
+use Rattle.sj_path_grammar.proofs.law.one_tree.Goals as goal
+
+pub returns : goal.returns
+returns c = laws.one_tree

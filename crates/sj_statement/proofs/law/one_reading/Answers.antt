@@ -1,5 +1,0 @@
-use Rattle.sj_statement.proofs.Laws as laws
-use Rattle.sj_statement.proofs.law.one_reading.Goals as goal
-
-pub returns : goal.returns
-returns c = λ ts x. (laws.found ts x, laws.finds ts x)
