@@ -28,7 +28,7 @@ use Rattle.sj_sql_grammar.proofs.ReadTokens.{If, nothing, here, given, either, c
 use Rattle.sj_bind.specs.Clauses.{IsBindableType}
 use Rattle.sj_bind.specs.Leaves.{leaves_in, leaves}
 use Rattle.sj_bind.specs.Parts.{Call, exists_call, value_call, query_call, calls_in, calls_in_values, calls_in_members, calls_in_list}
-use Rattle.sj_bind.specs.Sound.{IsRead, IsBindableCall, IsBindableColumn, IsBindableTable, IsBindable}
+use Rattle.sj_bind.specs.Bindable.{IsRead, IsBindableCall, IsBindableColumn, IsBindableTable, IsBindable}
 use Rattle.sj_bind.proofs.LeafLists.{leaves_of_columns}
 
 -- ---- the types that the rules give

@@ -3,10 +3,10 @@ use Rattle.std.proofs.Common.{ℕ, List, Result, Ok}
 use Rattle.sj_path_grammar.specs.Tree.{Path}
 use Rattle.sj_sql_grammar.specs.Tree.{Statement}
 use Rattle.sj_sql.specs.File.{IsFirst, IsNext}
-use Rattle.sj_sql.specs.View.{statement_of}
+use Rattle.sj_sql_tree.specs.View.{statement_of}
 use Rattle.sj_sql.specs.declared.file.NextStatement.{NextStatement}
 use Rattle.sj_sql.specs.declared.file.NextStatement.TheVariants.{Statement as Taken, End}
-use Rattle.sj_bind.specs.Sound.{IsBindable}
+use Rattle.sj_bind.specs.Bindable.{IsBindable}
 use Rattle.sj_bind.proofs.Accepting.{accepted_bindable}
 
 pub first_bindable : (file : List ℕ) (s : Statement Path) (behind : List ℕ) → IsFirst file s behind → IsBindable s

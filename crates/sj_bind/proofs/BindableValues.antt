@@ -9,7 +9,7 @@ use Rattle.sj_bind.specs.Clauses.{sql_type, default_fails}
 use Rattle.sj_bind.specs.Fits.{IsFit, AreFit, AreFitMembers, AreListFit, AreNamed, AreAllNamed, AreMembersNamed, IsItemNamed, AreItemsNamed}
 use Rattle.sj_bind.specs.Parts.{Call, calls_in, calls_in_values, calls_in_members, calls_in_list, names_in, names_in_values, names_in_members, names_in_item, names_in_items}
 use Rattle.sj_bind.specs.Rules.{call_passes_twice, call_default_fails}
-use Rattle.sj_bind.specs.Sound.{IsBindableCall}
+use Rattle.sj_bind.specs.Bindable.{IsBindableCall}
 
 pub neither : (a b : Bool) → (a || b) ≡ false → (a ≡ false) × (b ≡ false)
 neither true b h = cc

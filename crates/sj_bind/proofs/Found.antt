@@ -1,12 +1,12 @@
 -- What is found behind what was found before.
 use Rattle.std.proofs.Common.{◌≡◌, ℕ, List, [], ◌∷◌, ◌++◌, refl, ap}
 use Rattle.std.specs.Borrow.{Bor}
-use Rattle.sj_sql.specs.declared.tree.SValue.{SValue}
-use Rattle.sj_sql.specs.declared.tree.TValue.{TValue}
-use Rattle.sj_sql.specs.declared.tree.Column.{Column}
-use Rattle.sj_path.specs.declared.tree.Path.{Path}
-use Rattle.sj_path.specs.Tree.{path_of}
-use Rattle.sj_sql.specs.View.{svalue_of, tvalue_of, column_of}
+use Rattle.sj_sql_tree.specs.declared.tree.SValue.{SValue}
+use Rattle.sj_sql_tree.specs.declared.tree.TValue.{TValue}
+use Rattle.sj_sql_tree.specs.declared.tree.Column.{Column}
+use Rattle.sj_path_tree.specs.declared.tree.Path.{Path}
+use Rattle.sj_path_tree.specs.Tree.{path_of}
+use Rattle.sj_sql_tree.specs.View.{svalue_of, tvalue_of, column_of}
 use Rattle.sj_bind.specs.declared.parts.Call.{Call}
 use Rattle.sj_bind.specs.PartsView.{call_of, calls_of, keys_of, row_keys_of, texts_of, columns_at, paths_at}
 

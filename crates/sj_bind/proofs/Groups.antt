@@ -5,9 +5,9 @@ use Rattle.sj_path_grammar.specs.Tree.{Path}
 use Rattle.sj_sql_grammar.specs.declared.refusal.BindKind.{BindKind}
 use Rattle.sj_sql_grammar.specs.declared.refusal.BindKind.TheVariants.{TooMany, ColumnTwice, PathNameTwice, PathNameMissing, PlanMismatch, VariableTwice, UnknownVariable, QuotesWithWrapper, DefaultCast, KeyType}
 use Rattle.sj_sql_grammar.specs.Tree.{Value, Lit, Column, Exists, ValueOf, Query, IsJson, Object, Array, Item, Table, Plain, All, Listed}
-use Rattle.sj_sql.specs.declared.tree.SValue.{SValue}
-use Rattle.sj_sql.specs.declared.tree.TItem.{TItem}
-use Rattle.sj_sql.specs.View.{plain_of, items_of}
+use Rattle.sj_sql_tree.specs.declared.tree.SValue.{SValue}
+use Rattle.sj_sql_tree.specs.declared.tree.TItem.{TItem}
+use Rattle.sj_sql_tree.specs.View.{plain_of, items_of}
 use Rattle.sj_bind.specs.Faults.{either, calls_fault, names_fault, columns_fault, items_fault}
 use Rattle.sj_bind.specs.Parts.{calls_in_list}
 use Rattle.sj_bind.specs.Plans.{has_plan_mismatch}

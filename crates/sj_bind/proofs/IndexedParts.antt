@@ -5,8 +5,8 @@ use Rattle.std.specs.List.{All}
 use Rattle.std.proofs.lemmas.List.Elements.{All-head, All-tail}
 use Rattle.sj_path_grammar.specs.Tree.{Path}
 use Rattle.sj_sql_grammar.specs.Tree as t
-use Rattle.sj_sql.specs.declared.tree.Column.{Column}
-use Rattle.sj_sql.specs.View.{column_of}
+use Rattle.sj_sql_tree.specs.declared.tree.Column.{Column}
+use Rattle.sj_sql_tree.specs.View.{column_of}
 use Rattle.sj_bind.specs.Parts as p
 use Rattle.sj_bind.specs.PartsView.{call_of, calls_of, columns_at}
 use Rattle.sj_bind.specs.declared.parts.Call.{Call}

@@ -56,5 +56,3 @@ pub mod SoundStatements
 pub mod TableSizes
 -- for `bind_table`, `put_column`, `put_path` and `take_all`
 pub mod TakenColumns
--- for `Bound::width`
-pub mod ViewLists

@@ -1,9 +1,9 @@
 -- Lists as linked cells.
 use Rattle.std.proofs.Common.{◌≡◌, List, [], ◌∷◌, ◌++◌, refl, ap}
-use Rattle.sj_bind.specs.Bound.{Values, MoreValues, Members, MoreMembers}
+use Rattle.sj_bound.specs.Bound.{Values, MoreValues, Members, MoreMembers}
 use Rattle.sj_bind.specs.Chains.{chained, chained_members}
-use Rattle.sj_bind.specs.View.{value_of}
-use Rattle.sj_bind.specs.declared.bound.BoundValue.{BoundValue}
+use Rattle.sj_bound.specs.View.{value_of}
+use Rattle.sj_bound.specs.declared.bound.BoundValue.{BoundValue}
 
 pub chained-push : (xs : List BoundValue) (x : BoundValue) (others : Values) → chained (xs ++ x ∷ []) others ≡ chained xs (MoreValues (value_of x) others)
 chained-push [] x others = refl

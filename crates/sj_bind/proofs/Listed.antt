@@ -1,15 +1,15 @@
 -- Lists of bound items, which grow by one.
 use Rattle.std.proofs.Common.{◌≡◌, ℕ, ◌+◌, List, [], ◌∷◌, ◌++◌, length, refl, sym, ap, subst, ◌∙◌, append_assoc, add-one, length-append, arith}
-use Rattle.sj_sql.specs.declared.tree.SValue.{SValue}
-use Rattle.sj_sql.specs.declared.tree.TItem.{TItem}
-use Rattle.sj_sql.specs.View as sql
-use Rattle.sj_bind.specs.Bound as b
-use Rattle.sj_bind.specs.declared.bound.BoundItem.{BoundItem}
-use Rattle.sj_bind.specs.declared.bound.BoundItem.TheVariants as i
-use Rattle.sj_bind.specs.declared.bound.BoundValue.{Column}
+use Rattle.sj_sql_tree.specs.declared.tree.SValue.{SValue}
+use Rattle.sj_sql_tree.specs.declared.tree.TItem.{TItem}
+use Rattle.sj_sql_tree.specs.View as sql
+use Rattle.sj_bound.specs.Bound as b
+use Rattle.sj_bound.specs.declared.bound.BoundItem.{BoundItem}
+use Rattle.sj_bound.specs.declared.bound.BoundItem.TheVariants as i
+use Rattle.sj_bound.specs.declared.bound.BoundValue.{Column}
 use Rattle.sj_bind.specs.Fits.{AreListFit, AreItemsNamed}
 use Rattle.sj_bind.specs.Meaning.{bound_value, bound_item, bound_list, bound_items, columns_below}
-use Rattle.sj_bind.specs.View.{item_of, items_of}
+use Rattle.sj_bound.specs.View.{item_of, items_of}
 
 pub items_of-push : (xs : List BoundItem) (x : BoundItem) → items_of (xs ++ x ∷ []) ≡ items_of xs ++ item_of x ∷ []
 items_of-push [] x = refl

@@ -2,7 +2,7 @@
 use Rattle.std.proofs.Common.{◌≡◌, ℕ, Bool, true, false, ◌||◌, List, [], ◌∷◌, ◌++◌, refl, sym, ap, ◌∙◌}
 use Rattle.std.specs.List.{list_any}
 use Rattle.std.specs.Str.{bytes_eq}
-use Rattle.sj_path.specs.Vars.{Variables, has_name}
+use Rattle.sj_path_tree.specs.Vars.{Variables, has_name}
 use Rattle.sj_path_grammar.specs.declared.tree.Literal.{Literal}
 use Rattle.sj_sql_grammar.specs.declared.clauses.Passed.{Passed}
 use Rattle.sj_bind.specs.Clauses.{passed, passed_names}

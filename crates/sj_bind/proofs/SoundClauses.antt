@@ -21,8 +21,9 @@ use Rattle.sj_value.specs.declared.types.SqlType.TheVariants as types
 use Rattle.sj_value.specs.declared.value.SqlValue.{SqlValue}
 use Rattle.sj_value.specs.declared.value.SqlValue.TheVariants as value
 use Rattle.sj_value.proofs.Rounded.{rounded_prints}
-use Rattle.sj_bind.specs.Clauses.{IsBindableType, sql_type, is_text_type, literal_cast, default_fails, value_action, value_clauses}
-use Rattle.sj_bind.specs.Sound.{IsTextOrNull, GivesTextOrNull, AreClauses}
+use Rattle.sj_bound.specs.Sound.{is_text_type}
+use Rattle.sj_bind.specs.Clauses.{IsBindableType, sql_type, literal_cast, default_fails, value_action, value_clauses}
+use Rattle.sj_bound.specs.Sound.{IsTextOrNull, GivesTextOrNull, AreClauses}
 
 -- ---- what a cast gives
 

@@ -6,32 +6,33 @@ use Rattle.std.proofs.lemmas.List.Elements.{All-nil, All-cons, All-push}
 use Rattle.sj_base.specs.Names.{is_among}
 use Rattle.sj_path_grammar.specs.Tree.{Path}
 use Rattle.sj_sql_grammar.specs.Tree as t
-use Rattle.sj_sql.specs.View.{svalue_of, svalues_of, smembers_of, tvalue_of, tvalues_of, tmembers_of, item_of, plain_of, items_of, table_of, statement_of}
-use Rattle.sj_sql.specs.declared.tree.SValue.{SValue, Lit, Exists, Value, Query, IsJson, Object, Array}
-use Rattle.sj_sql.specs.declared.tree.SValues.{SValues, Empty, More'}
-use Rattle.sj_sql.specs.declared.tree.SMembers as m
-use Rattle.sj_sql.specs.declared.tree.SMembers.{SMembers}
-use Rattle.sj_sql.specs.declared.tree.TValue as v
-use Rattle.sj_sql.specs.declared.tree.TValue.{TValue}
-use Rattle.sj_sql.specs.declared.tree.TValues as vs
-use Rattle.sj_sql.specs.declared.tree.TValues.{TValues}
-use Rattle.sj_sql.specs.declared.tree.TMembers as n
-use Rattle.sj_sql.specs.declared.tree.TMembers.{TMembers}
-use Rattle.sj_sql.specs.declared.tree.TItem.{TItem}
-use Rattle.sj_sql.specs.declared.tree.TItem.TheVariants as i
-use Rattle.sj_sql.specs.declared.tree.Statement.{Statement}
-use Rattle.sj_sql.specs.declared.tree.Statement.TheVariants as s
+use Rattle.sj_sql_tree.specs.View.{svalue_of, svalues_of, smembers_of, tvalue_of, tvalues_of, tmembers_of, item_of, plain_of, items_of, table_of, statement_of}
+use Rattle.sj_sql_tree.specs.declared.tree.SValue.{SValue, Lit, Exists, Value, Query, IsJson, Object, Array}
+use Rattle.sj_sql_tree.specs.declared.tree.SValues.{SValues, Empty, More'}
+use Rattle.sj_sql_tree.specs.declared.tree.SMembers as m
+use Rattle.sj_sql_tree.specs.declared.tree.SMembers.{SMembers}
+use Rattle.sj_sql_tree.specs.declared.tree.TValue as v
+use Rattle.sj_sql_tree.specs.declared.tree.TValue.{TValue}
+use Rattle.sj_sql_tree.specs.declared.tree.TValues as vs
+use Rattle.sj_sql_tree.specs.declared.tree.TValues.{TValues}
+use Rattle.sj_sql_tree.specs.declared.tree.TMembers as n
+use Rattle.sj_sql_tree.specs.declared.tree.TMembers.{TMembers}
+use Rattle.sj_sql_tree.specs.declared.tree.TItem.{TItem}
+use Rattle.sj_sql_tree.specs.declared.tree.TItem.TheVariants as i
+use Rattle.sj_sql_tree.specs.declared.tree.Statement.{Statement}
+use Rattle.sj_sql_tree.specs.declared.tree.Statement.TheVariants as s
 use Rattle.sj_bind.specs.Answer.{Binds}
-use Rattle.sj_bind.specs.Bound as b
-use Rattle.sj_bind.specs.declared.bound.Bound.{Bound}
+use Rattle.sj_bound.specs.Bound as b
+use Rattle.sj_bound.specs.declared.bound.Bound.{Bound}
 use Rattle.sj_bind.specs.declared.refusal.BindRefusal.{BindRefusal}
 use Rattle.sj_bind.specs.Meaning.{bound, bound_value, bound_list, bound_item, bound_items, bound_columns, columns_below, column_number}
 use Rattle.sj_bind.specs.Parts.{calls_in, calls_in_values, calls_in_members, calls_in_list, keys_in, keys_in_list, keys_in_item, keys_in_items, names_in, names_in_values, names_in_members, names_in_item, names_in_items}
 use Rattle.sj_bind.specs.Rules.{bind_fault, is_key, is_aggregate, all_columns, text_names}
-use Rattle.sj_bind.specs.Sound as sound
-use Rattle.sj_bind.specs.Sound.{IsBindable, IsTextColumn, IsSoundItem, IsSound, AreAllAlike}
+use Rattle.sj_bound.specs.Sound as sound
+use Rattle.sj_bind.specs.Bindable.{IsBindable}
+use Rattle.sj_bound.specs.Sound.{IsTextColumn, IsSoundItem, IsSound, AreAllAlike}
 use Rattle.sj_bind.specs.Tables.{column_names, table_columns}
-use Rattle.sj_bind.specs.View.{bound_of}
+use Rattle.sj_bound.specs.View.{bound_of}
 use Rattle.sj_bind.proofs.UnbrokenRules.{clean_plain, clean_all, clean_list, few_columns}
 use Rattle.sj_bind.proofs.BindableValues.{neither}
 use Rattle.sj_bind.proofs.SoundTables.{placed, are_texts, sound_table, length-bound_columns}

@@ -8,7 +8,7 @@ use Rattle.std.proofs.lemmas.Bool.Decides.{nat_tests}
 use Rattle.std.proofs.lemmas.Slice.Eq.{bytes_eq-Decides}
 use Rattle.sj_base.specs.Names.{is_among}
 use Rattle.sj_path_grammar.specs.Tree.{Path}
-use Rattle.sj_path.specs.Vars.{covers}
+use Rattle.sj_path_tree.specs.Vars.{covers}
 use Rattle.sj_sql_grammar.specs.declared.clauses.Passed.{Passed}
 use Rattle.sj_sql_grammar.specs.Tree.{ColumnOf, Ordinality, Regular, Formatted, Existence, Nested, Columns, Last, More, Table}
 use Rattle.sj_bind.specs.Clauses.{passed, sql_type, names_text, default_fails}
@@ -17,7 +17,8 @@ use Rattle.sj_bind.specs.Paths.{TablePath, paths_in, table_paths}
 use Rattle.sj_value.specs.Plans.{IsPlanOver}
 use Rattle.sj_bind.specs.Plans.{table_plan}
 use Rattle.sj_bind.specs.Rules.{text_name, text_names, columns_alone, paths_alone, all_columns, all_paths, lacks_variable, column_lacks_variable, column_default_fails, table_lacks_variable}
-use Rattle.sj_bind.specs.Sound.{IsBindableColumn, IsBindableTable, IsTextColumn, IsSoundColumn, IsSoundTable}
+use Rattle.sj_bind.specs.Bindable.{IsBindableColumn, IsBindableTable}
+use Rattle.sj_bound.specs.Sound.{IsTextColumn, IsSoundColumn, IsSoundTable}
 use Rattle.sj_bind.specs.Tables.{TableColumn, columns_in, columns_below, table_columns, names_in, names_below, column_names, has_twice}
 use Rattle.sj_bind.proofs.UnbrokenRules.{IsCleanTable, few_columns}
 use Rattle.sj_bind.proofs.BindableValues.{neither}

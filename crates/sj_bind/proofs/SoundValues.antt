@@ -7,16 +7,18 @@ use Rattle.sj_base.specs.Names.{is_among}
 use Rattle.sj_path_grammar.specs.declared.tree.Literal.{Literal}
 use Rattle.sj_path_grammar.specs.declared.tree.Literal.TheVariants as literal
 use Rattle.sj_path_grammar.specs.Tree.{Path}
-use Rattle.sj_path.specs.Vars.{covers}
+use Rattle.sj_path_tree.specs.Vars.{covers}
 use Rattle.sj_sql_grammar.specs.declared.clauses.TypeName.{TypeName}
 use Rattle.sj_sql_grammar.specs.declared.clauses.TypeName.TheVariants.{Known, Approximate, Datetime}
 use Rattle.sj_sql_grammar.specs.Tree.{Value, Lit, Column, Exists, ValueOf, Query, IsJson, Object, Array, Values, NoValues, MoreValues, Members, NoMembers, MoreMembers}
-use Rattle.sj_bind.specs.Bound as b
-use Rattle.sj_bind.specs.Clauses.{passed, sql_type, is_text_type, names_text, default_fails}
+use Rattle.sj_bound.specs.Bound as b
+use Rattle.sj_bound.specs.Sound.{is_text_type}
+use Rattle.sj_bind.specs.Clauses.{passed, sql_type, names_text, default_fails}
 use Rattle.sj_bind.specs.Meaning.{bound_value, bound_values, bound_members, column_number}
 use Rattle.sj_bind.specs.Parts.{Call, calls_in, calls_in_values, calls_in_members, keys_in, keys_in_values, keys_in_members, names_in, names_in_values, names_in_members}
 use Rattle.sj_bind.specs.Rules.{call_lacks_variable, call_default_fails, is_key, is_key_literal}
-use Rattle.sj_bind.specs.Sound.{IsBindableCall, IsTextColumn, IsKey, IsSoundValue, AreSoundValues, AreSoundMembers}
+use Rattle.sj_bind.specs.Bindable.{IsBindableCall}
+use Rattle.sj_bound.specs.Sound.{IsTextColumn, IsKey, IsSoundValue, AreSoundValues, AreSoundMembers}
 use Rattle.sj_bind.proofs.BindableValues.{neither}
 use Rattle.sj_bind.proofs.SoundClauses.{sound_clauses}
 

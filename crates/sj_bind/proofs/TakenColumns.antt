@@ -3,16 +3,16 @@ use Rattle.std.proofs.Common.{◌≡◌, ℕ, suc, ◌+◌, Bool, true, false, �
 use Rattle.std.specs.List.{All, AllByRecursion, list_any}
 use Rattle.std.proofs.lemmas.List.Elements.{recursion_from_All}
 use Rattle.sj_path_grammar.specs.Tree as g
-use Rattle.sj_path.specs.declared.tree.Path.{Path}
-use Rattle.sj_path.specs.Tree.{path_of}
+use Rattle.sj_path_tree.specs.declared.tree.Path.{Path}
+use Rattle.sj_path_tree.specs.Tree.{path_of}
 use Rattle.sj_sql_grammar.specs.Tree.{Columns, Last, More, ColumnOf, Ordinality, Regular, Formatted, Existence, Nested}
-use Rattle.sj_bind.specs.declared.bound.BoundColumn.{BoundColumn}
-use Rattle.sj_bind.specs.View.{paths_of, columns_of, column_of}
+use Rattle.sj_bound.specs.declared.bound.BoundColumn.{BoundColumn}
+use Rattle.sj_bound.specs.View.{paths_of, columns_of, column_of}
 use Rattle.sj_bind.specs.Clauses.{sql_type, default_fails}
 use Rattle.sj_bind.specs.Rules.{columns_alone, paths_alone, column_default_fails}
 use Rattle.sj_bind.specs.Leaves.{leaves_in, leaves}
 use Rattle.sj_bind.proofs.LeafLists.{leaves_of_columns, paths_alone-append}
-use Rattle.sj_bind.specs.Sound.{IsBindableColumn}
+use Rattle.sj_bind.specs.Bindable.{IsBindableColumn}
 use Rattle.sj_bind.specs.Meaning.{bound_column, bound_columns}
 use Rattle.sj_bind.specs.Paths.{TablePath, paths_in, paths_below}
 use Rattle.sj_bind.specs.Tables.{TableColumn, columns_in, columns_below}

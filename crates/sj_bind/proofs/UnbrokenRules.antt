@@ -10,7 +10,7 @@ use Rattle.sj_bind.specs.Fits.{AreListFit, AreItemsNamed}
 use Rattle.sj_bind.specs.Parts.{calls_in_list}
 use Rattle.sj_bind.specs.Plans.{has_plan_mismatch}
 use Rattle.sj_bind.specs.Rules.{bind_fault, call_passes_twice, call_lacks_variable, call_quotes_clash, call_default_fails, passes_twice, table_lacks_variable, column_quotes_clash, column_default_fails, all_columns, unknown_column, aggregate_mixed, key_type}
-use Rattle.sj_bind.specs.Sound.{IsBindable}
+use Rattle.sj_bind.specs.Bindable.{IsBindable}
 use Rattle.sj_bind.specs.Tables.{column_names, has_too_many, has_column_twice, has_path_name_twice, lacks_path_name}
 use Rattle.sj_bind.proofs.BindableValues.{neither, list_is_fit, items_are_named}
 use Rattle.sj_bind.proofs.Groups.{plain_groups, all_groups, listed_groups}

@@ -1,8 +1,8 @@
 -- A list as linked cells, in front of others.
 use Rattle.std.specs.Prelude.{List, [], ◌∷◌}
-use Rattle.sj_bind.specs.Bound.{Values, MoreValues, Members, MoreMembers}
-use Rattle.sj_bind.specs.declared.bound.BoundValue.{BoundValue}
-use Rattle.sj_bind.specs.View.{value_of}
+use Rattle.sj_bound.specs.Bound.{Values, MoreValues, Members, MoreMembers}
+use Rattle.sj_bound.specs.declared.bound.BoundValue.{BoundValue}
+use Rattle.sj_bound.specs.View.{value_of}
 
 abbrev pub chained : List BoundValue → Values → Values
 chained [] others = others

@@ -5,7 +5,7 @@ use Rattle.std.specs.Result.{result_ok}
 use Rattle.sj_path_grammar.specs.declared.tree.Literal.{Literal}
 use Rattle.sj_path_grammar.specs.declared.tree.Literal.TheVariants as literal
 use Rattle.sj_path_grammar.specs.Tree.{Path}
-use Rattle.sj_path.specs.Vars.{Variables}
+use Rattle.sj_path_tree.specs.Vars.{Variables}
 use Rattle.sj_item.specs.Items.{ItemValue, made_text, made_number, made_truth, made_null}
 use Rattle.sj_sql_grammar.specs.declared.clauses.Passed.{Passed}
 use Rattle.sj_sql_grammar.specs.declared.clauses.Quotes.{Quotes}
@@ -28,7 +28,7 @@ use Rattle.sj_value.specs.declared.types.SqlType.{SqlType}
 use Rattle.sj_value.specs.declared.types.SqlType.TheVariants as types
 use Rattle.sj_value.specs.declared.value.SqlValue.{SqlValue}
 use Rattle.sj_value.specs.declared.value.SqlValue.TheVariants as value
-use Rattle.sj_bind.specs.Bound.{PathWith}
+use Rattle.sj_bound.specs.Bound.{PathWith}
 
 -- ---- PASSING
 
@@ -56,16 +56,6 @@ abbrev pub sql_type : TypeName → SqlType
 sql_type (Known ty) = ty
 sql_type Approximate = types.Varchar
 sql_type Datetime = types.Varchar
-
--- VARCHAR and VARCHAR(n)
-abbrev pub is_text_type : SqlType → Bool
-is_text_type types.Varchar = true
-is_text_type (types.VarcharMax n) = true
-is_text_type types.Numeric = false
-is_text_type (types.NumericFixed p s) = false
-is_text_type types.Integer = false
-is_text_type types.Bigint = false
-is_text_type types.Boolean = false
 
 abbrev pub names_text : TypeName → Bool
 names_text (Known ty) = is_text_type ty

@@ -1,5 +1,5 @@
 pub mod Answer
-pub mod Bound
+pub mod Bindable
 pub mod Chains
 pub mod Clauses
 pub mod Counts
@@ -15,8 +15,6 @@ pub mod Paths
 pub mod Places
 pub mod Plans
 pub mod Rules
-pub mod Sound
 pub mod Tables
 pub mod Taken
 pub mod Variables
-pub mod View

@@ -5,7 +5,7 @@ use Rattle.sj_base.specs.Names.{is_among}
 use Rattle.sj_path_grammar.specs.declared.tree.Literal.{Literal}
 use Rattle.sj_path_grammar.specs.declared.tree.Literal.TheVariants as literal
 use Rattle.sj_path_grammar.specs.Tree.{Path}
-use Rattle.sj_path.specs.Vars.{covers}
+use Rattle.sj_path_tree.specs.Vars.{covers}
 use Rattle.sj_sql_grammar.specs.declared.clauses.Passed.{Passed}
 use Rattle.sj_sql_grammar.specs.declared.clauses.TypeName.{TypeName}
 use Rattle.sj_sql_grammar.specs.declared.clauses.ValueDo.{ValueDo}

@@ -2,7 +2,7 @@
 use Rattle.std.specs.Prelude.{ℕ, ◌+◌, List, [], ◌∷◌, ◌++◌, length}
 use Rattle.sj_path_grammar.specs.Tree.{Path}
 use Rattle.sj_sql_grammar.specs.Tree.{Columns, Last, More, ColumnOf, Ordinality, Regular, Formatted, Existence, Nested}
-use Rattle.sj_bind.specs.Bound as b
+use Rattle.sj_bound.specs.Bound as b
 use Rattle.sj_bind.specs.Fits.{AreCastable}
 use Rattle.sj_bind.specs.Meaning.{column_under}
 

@@ -2,16 +2,16 @@
 
 ghost use Rattle.std.specs.Prelude.{◌≡◌, ◌≤◌, false, length, IfOk};
 ghost use Rattle.sj_sql_grammar.specs.Tree as t;
-ghost use Rattle.sj_sql.specs.View.{plain_of, items_of, table_of, statement_of};
+ghost use Rattle.sj_sql_tree.specs.View.{plain_of, items_of, table_of, statement_of};
 ghost use Rattle.sj_bind.specs.Answer.{Binds};
 ghost use Rattle.sj_bind.specs.Fits.{AreItemsNamed, AreListFit};
 ghost use Rattle.sj_bind.specs.Meaning.{bound_items, bound_list, columns_below};
 ghost use Rattle.sj_bind.specs.Names.{names_of};
-ghost use Rattle.sj_bind.specs.Sound.{IsBindable, IsBindableTable, IsSound};
+ghost use Rattle.sj_bind.specs.Bindable.{IsBindable, IsBindableTable};
+ghost use Rattle.sj_bound.specs.Sound.{IsSound};
 ghost use Rattle.sj_bind.specs.Tables.{column_names, has_column_twice};
-ghost use Rattle.sj_bind.specs.View as view;
+ghost use Rattle.sj_bound.specs.View as view;
 
-use crate::bound::{Bound, BoundItem, BoundValue};
 use crate::fault::{all_fault, listed_fault, plain_fault};
 use crate::name_set::NameSet;
 use crate::refusal::BindRefusal;
@@ -19,7 +19,8 @@ use crate::row_values::bind_item;
 use crate::table::{bind_table, column_index};
 use crate::values::bind_value;
 use sj_base::Memory;
-use sj_sql::{SValue, Seq, Statement, TItem, Table};
+use sj_bound::{Bound, BoundItem, BoundValue};
+use sj_sql_tree::{SValue, Seq, Statement, TItem, Table};
 use std::alloc::Global;
 
 /// Binds a statement, which has no type and no encoding that this implementation lacks, and whose types meet the condition of a

@@ -2,11 +2,11 @@
 
 ghost use Rattle.std.specs.Prelude.{◌≡◌, IfOk, All};
 ghost use Rattle.std.specs.List.{list_any};
-ghost use Rattle.sj_sql.specs.View.{value_call_of};
+ghost use Rattle.sj_sql_tree.specs.View.{value_call_of};
 ghost use Rattle.sj_bind.specs.PartsView.{call_of, calls_of};
 ghost use Rattle.sj_bind.specs.Clauses.{IsBindableType};
 ghost use Rattle.sj_bind.specs.Rules as spec;
-ghost use Rattle.sj_bind.specs.Sound.{IsBindableCall};
+ghost use Rattle.sj_bind.specs.Bindable.{IsBindableCall};
 
 use crate::clauses::{default_fails, quotes_clash, sql_type};
 use crate::parts::Call;

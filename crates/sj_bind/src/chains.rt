@@ -1,12 +1,12 @@
 //! Linked cells from a vector, which is walked from its end.
 
 ghost use Rattle.std.specs.Prelude.{◌≡◌, IfOk};
-ghost use Rattle.sj_bind.specs.Bound.{NoValues, NoMembers};
-ghost use Rattle.sj_bind.specs.View.{values_of, members_of};
+ghost use Rattle.sj_bound.specs.Bound.{NoValues, NoMembers};
+ghost use Rattle.sj_bound.specs.View.{values_of, members_of};
 ghost use Rattle.sj_bind.specs.Chains.{chained, chained_members};
 
-use crate::bound::{BoundMembers, BoundValue, BoundValues};
 use sj_base::Memory;
+use sj_bound::{BoundMembers, BoundValue, BoundValues};
 use std::alloc::Global;
 
 /// The values as linked cells, in the same order.

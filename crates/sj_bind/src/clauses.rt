@@ -7,7 +7,7 @@ ghost use Rattle.sj_bind.specs.Clauses as spec;
 
 use sj_base::Memory;
 use sj_item::{Exact, Item};
-use sj_path::Literal;
+use sj_path_tree::Literal;
 use sj_sql_grammar::{Quotes, TypeName, ValueDo};
 use sj_value::{
     CastRefusal, QueryAction, QuerySpec, SqlType, SqlValue, ValueAction, ValueSpec, Wrapper, cast,

@@ -1,15 +1,15 @@
 //! The columns and the paths of a table, at any depth.
 
 ghost use Rattle.std.specs.Prelude.{◌≡◌, ◌++◌, IfOk, OnOk};
-ghost use Rattle.sj_sql.specs.View.{column_of, columns_of, table_of};
+ghost use Rattle.sj_sql_tree.specs.View.{column_of, columns_of, table_of};
 ghost use Rattle.sj_bind.specs.Leaves.{leaves_in, leaves};
 ghost use Rattle.sj_bind.specs.PartsView.{columns_at, paths_at};
 ghost use Rattle.sj_bind.specs.Paths.{paths_in, paths_below};
 ghost use Rattle.sj_bind.specs.Rules.{all_columns, all_paths, paths_alone};
 
 use sj_base::Memory;
-use sj_path::Path;
-use sj_sql::{Column, Columns, Table};
+use sj_path_tree::Path;
+use sj_sql_tree::{Column, Columns, Table};
 use std::alloc::Global;
 
 /// The columns, and the row path with the nested paths.

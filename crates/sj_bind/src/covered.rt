@@ -3,12 +3,12 @@
 ghost use Rattle.std.specs.Prelude.{◌≡◌};
 ghost use Rattle.std.specs.List.{list_all};
 ghost use Rattle.sj_base.specs.Names.{is_among};
-ghost use Rattle.sj_path.specs.Tree.{path_of, expr_of, step_of, sub_of, subs_of, pred_of};
-ghost use Rattle.sj_path.specs.Vars as spec;
+ghost use Rattle.sj_path_tree.specs.Tree.{path_of, expr_of, step_of, sub_of, subs_of, pred_of};
+ghost use Rattle.sj_path_tree.specs.Vars as spec;
 ghost use Rattle.sj_bind.specs.Names.{names_of};
 
 use crate::name_set::NameSet;
-use sj_path::{Expr, Initial, Path, Pred, Step, Sub, Subs};
+use sj_path_tree::{Expr, Initial, Path, Pred, Step, Sub, Subs};
 
 /// Whether the name is there.
 pub fn has_name(names: &NameSet<'_>, name: &str) -> bool

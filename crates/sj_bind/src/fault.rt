@@ -3,12 +3,12 @@
 ghost use Rattle.std.specs.Prelude.{◌≡◌, ◌||◌, false, not, nat_lt, length, IfOk, All};
 ghost use Rattle.std.specs.List.{list_any};
 ghost use Rattle.sj_sql_grammar.specs.Tree as t;
-ghost use Rattle.sj_sql.specs.View.{plain_of, items_of, table_of};
+ghost use Rattle.sj_sql_tree.specs.View.{plain_of, items_of, table_of};
 ghost use Rattle.sj_bind.specs.Faults as group;
 ghost use Rattle.sj_bind.specs.PartsView.{calls_of, row_keys_of};
 ghost use Rattle.sj_bind.specs.Rules as spec;
 ghost use Rattle.sj_bind.specs.Tables as tables;
-ghost use Rattle.sj_bind.specs.Sound.{IsBindable, IsBindableCall, IsBindableTable};
+ghost use Rattle.sj_bind.specs.Bindable.{IsBindable, IsBindableCall, IsBindableTable};
 
 use crate::calls::{some_default_fails, some_lacks_variable, some_passes_twice, some_quotes_clash};
 use crate::columns::table_parts;
@@ -25,8 +25,8 @@ use crate::table_rules::{
 };
 use crate::variables::passes_twice;
 use sj_base::Memory;
-use sj_sql::{SValue, Seq, TItem, TValue, Table};
 use sj_sql_grammar::BindKind;
+use sj_sql_tree::{SValue, Seq, TItem, TValue, Table};
 use std::alloc::Global;
 
 /// The most items that a SELECT list may have.

@@ -3,14 +3,14 @@
 ghost use Rattle.std.specs.Prelude.{◌≡◌, ◌&&◌, not};
 ghost use Rattle.std.specs.List.{list_any};
 ghost use Rattle.sj_base.specs.Names.{is_among};
-ghost use Rattle.sj_sql.specs.View.{item_of, items_of};
+ghost use Rattle.sj_sql_tree.specs.View.{item_of, items_of};
 ghost use Rattle.sj_bind.specs.Names.{names_of};
 ghost use Rattle.sj_bind.specs.PartsView.{texts_of};
 ghost use Rattle.sj_bind.specs.Rules as spec;
 
 use crate::covered::has_name;
 use crate::name_set::NameSet;
-use sj_sql::TItem;
+use sj_sql_tree::TItem;
 
 /// Whether a name is that of no column.
 pub fn some_name_is_unknown(names: &[&str], columns: &NameSet<'_>) -> bool

@@ -2,7 +2,7 @@
 
 ghost use Rattle.std.specs.Prelude.{◌≡◌, ◌∷◌, [], not, IfOk, OnOk};
 ghost use Rattle.std.specs.List.{list_any};
-ghost use Rattle.sj_sql.specs.View.{column_of, svalue_of, tvalue_of};
+ghost use Rattle.sj_sql_tree.specs.View.{column_of, svalue_of, tvalue_of};
 ghost use Rattle.sj_bind.specs.Names.{names_of};
 ghost use Rattle.sj_bind.specs.PartsView.{keys_of, row_keys_of, columns_at};
 ghost use Rattle.sj_bind.specs.Rules as spec;
@@ -12,8 +12,8 @@ use crate::clauses::names_text;
 use crate::covered::has_name;
 use crate::name_set::NameSet;
 use sj_base::Memory;
-use sj_path::Literal;
-use sj_sql::{Column, SValue, TValue};
+use sj_path_tree::Literal;
+use sj_sql_tree::{Column, SValue, TValue};
 use std::alloc::Global;
 
 fn is_key_literal(literal: &Literal) -> bool

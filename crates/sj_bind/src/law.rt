@@ -8,7 +8,7 @@ ghost use Rattle.sj_sql_grammar.specs.declared.refusal.FileKind.{FileKind};
 ghost use Rattle.sj_sql_grammar.specs.Tree.{Statement};
 ghost use Rattle.sj_sql_grammar.specs.Phrases.{Tokens};
 ghost use Rattle.sj_sql_grammar.specs.Answers.{Accepted, IsFile};
-ghost use Rattle.sj_bind.specs.Sound.{IsBindable};
+ghost use Rattle.sj_bind.specs.Bindable.{IsBindable};
 
 /// A statement that is accepted has no type and no encoding that cannot be bound.
 pub fn accepted_statements_are_bindable()

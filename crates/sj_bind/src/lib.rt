@@ -6,7 +6,6 @@
 #![tactic(auto)]
 
 mod binding;
-mod bound;
 mod calls;
 mod chains;
 mod clauses;
@@ -27,8 +26,8 @@ mod values;
 mod variables;
 
 pub use binding::bind;
-pub use bound::{
-    Bound, BoundColumn, BoundItem, BoundMembers, BoundPath, BoundTable, BoundValue, BoundValues,
-};
 pub use law::accepted_statements_are_bindable;
 pub use refusal::BindRefusal;
+pub use sj_bound::{
+    Bound, BoundColumn, BoundItem, BoundMembers, BoundPath, BoundTable, BoundValue, BoundValues,
+};

@@ -1,12 +1,12 @@
 //! What stands in the values of a SELECT list without a table, at any depth.
 
 ghost use Rattle.std.specs.Prelude.{◌≡◌, ◌++◌, IfOk, OnOk};
-ghost use Rattle.sj_sql.specs.View.{svalue_of, svalues_of, smembers_of, plain_of};
+ghost use Rattle.sj_sql_tree.specs.View.{svalue_of, svalues_of, smembers_of, plain_of};
 ghost use Rattle.sj_bind.specs.Parts as spec;
 ghost use Rattle.sj_bind.specs.PartsView.{calls_of, keys_of};
 
 use sj_base::Memory;
-use sj_sql::{ExistsCall, QueryCall, SMembers, SValue, SValues, ValueCall};
+use sj_sql_tree::{ExistsCall, QueryCall, SMembers, SValue, SValues, ValueCall};
 use std::alloc::Global;
 
 /// A function that has a path.

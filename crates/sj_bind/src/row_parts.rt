@@ -1,12 +1,12 @@
 //! What stands in the values of a SELECT list with a table, at any depth.
 
 ghost use Rattle.std.specs.Prelude.{◌≡◌, ◌++◌, ◌∷◌, IfOk, OnOk};
-ghost use Rattle.sj_sql.specs.View.{item_of, items_of, tvalue_of, tvalues_of, tmembers_of};
+ghost use Rattle.sj_sql_tree.specs.View.{item_of, items_of, tvalue_of, tvalues_of, tmembers_of};
 ghost use Rattle.sj_bind.specs.Parts as spec;
 ghost use Rattle.sj_bind.specs.PartsView.{texts_of, row_keys_of};
 
 use sj_base::Memory;
-use sj_sql::{TItem, TMembers, TValue, TValues};
+use sj_sql_tree::{TItem, TMembers, TValue, TValues};
 use std::alloc::Global;
 
 /// The names of columns, and the keys of objects.

@@ -2,17 +2,17 @@
 
 ghost use Rattle.std.specs.Prelude.{◌≡◌, ◌≤◌, true, IfOk, length};
 ghost use Rattle.sj_base.specs.Names.{is_among};
-ghost use Rattle.sj_sql.specs.View.{tvalue_of, tvalues_of, tmembers_of, item_of};
-ghost use Rattle.sj_bind.specs.View as view;
+ghost use Rattle.sj_sql_tree.specs.View.{tvalue_of, tvalues_of, tmembers_of, item_of};
+ghost use Rattle.sj_bound.specs.View as view;
 ghost use Rattle.sj_bind.specs.Fits.{AreNamed, AreAllNamed, AreMembersNamed, IsItemNamed};
 ghost use Rattle.sj_bind.specs.Meaning.{column_number, bound_value, bound_values, bound_members, bound_item};
 ghost use Rattle.sj_bind.specs.Names.{names_of};
 
-use crate::bound::{BoundItem, BoundMembers, BoundValue, BoundValues};
 use crate::chains::{chain_members, chain_values};
 use crate::name_set::NameSet;
 use sj_base::Memory;
-use sj_sql::{TItem, TMembers, TValue, TValues};
+use sj_bound::{BoundItem, BoundMembers, BoundValue, BoundValues};
+use sj_sql_tree::{TItem, TMembers, TValue, TValues};
 use std::alloc::Global;
 
 /// The number of the column with this name.

@@ -2,12 +2,12 @@
 
 ghost use Rattle.std.specs.Prelude.{◌≡◌, IfOk, All};
 ghost use Rattle.std.specs.List.{list_any};
-ghost use Rattle.sj_path.specs.Tree.{path_of};
-ghost use Rattle.sj_sql.specs.View.{column_of, table_of};
+ghost use Rattle.sj_path_tree.specs.Tree.{path_of};
+ghost use Rattle.sj_sql_tree.specs.View.{column_of, table_of};
 ghost use Rattle.sj_bind.specs.Names.{names_of};
 ghost use Rattle.sj_bind.specs.PartsView.{columns_at, paths_at};
 ghost use Rattle.sj_bind.specs.Rules as spec;
-ghost use Rattle.sj_bind.specs.Sound.{IsBindableColumn};
+ghost use Rattle.sj_bind.specs.Bindable.{IsBindableColumn};
 ghost use Rattle.sj_bind.specs.Variables.{column_misses, misses};
 
 use crate::calls::defaults_fail;
@@ -17,8 +17,8 @@ use crate::covered::covers;
 use crate::name_set::NameSet;
 use crate::variables::variable_names;
 use sj_base::Memory;
-use sj_path::Path;
-use sj_sql::{Column, Table};
+use sj_path_tree::Path;
+use sj_sql_tree::{Column, Table};
 use std::alloc::Global;
 
 fn some_path_misses(names: &NameSet<'_>, paths: &[&Path]) -> bool

@@ -1,18 +1,18 @@
 //! The binding of values of a SELECT list without a table.
 
 ghost use Rattle.std.specs.Prelude.{◌≡◌, [], IfOk};
-ghost use Rattle.sj_sql.specs.View.{svalue_of, svalues_of, smembers_of, exists_of, value_call_of, query_of};
+ghost use Rattle.sj_sql_tree.specs.View.{svalue_of, svalues_of, smembers_of, exists_of, value_call_of, query_of};
 ghost use Rattle.sj_sql_grammar.specs.Tree as t;
-ghost use Rattle.sj_bind.specs.View.{value_of, values_of, members_of};
+ghost use Rattle.sj_bound.specs.View.{value_of, values_of, members_of};
 ghost use Rattle.sj_bind.specs.Fits.{IsFit, AreFit, AreFitMembers, IsFitCall, PassesOnce};
 ghost use Rattle.sj_bind.specs.Meaning.{bound_value, bound_values, bound_members};
 
-use crate::bound::{BoundMembers, BoundValue, BoundValues};
 use crate::chains::{chain_members, chain_values};
 use crate::clauses::{query_clauses, value_clauses};
 use crate::variables::bound_path;
 use sj_base::Memory;
-use sj_sql::{ExistsCall, QueryCall, SMembers, SValue, SValues, ValueCall};
+use sj_bound::{BoundMembers, BoundValue, BoundValues};
+use sj_sql_tree::{ExistsCall, QueryCall, SMembers, SValue, SValues, ValueCall};
 use std::alloc::Global;
 
 // The functions that have a path are bound apart from the calls that recur over values, which then take little stack.

@@ -1,23 +1,23 @@
 //! The variables of PASSING clauses.
 
 ghost use Rattle.std.specs.Prelude.{◌≡◌, false, IfOk};
-ghost use Rattle.sj_path.specs.Tree.{path_of};
-ghost use Rattle.sj_sql.specs.View.{common_of};
+ghost use Rattle.sj_path_tree.specs.Tree.{path_of};
+ghost use Rattle.sj_sql_tree.specs.View.{common_of};
 ghost use Rattle.sj_bind.specs.Clauses.{passed, passed_names, path_with};
 ghost use Rattle.sj_bind.specs.Rules as spec;
 ghost use Rattle.sj_bind.specs.Names.{names_of};
 ghost use Rattle.sj_bind.specs.Tables.{has_twice};
 ghost use Rattle.sj_bind.specs.Variables.{AreNamesOf};
-ghost use Rattle.sj_bind.specs.View.{path_with_of};
+ghost use Rattle.sj_bound.specs.View.{path_with_of};
 
-use crate::bound::BoundPath;
 use crate::covered::covers;
 use crate::name_set::NameSet;
 use crate::table::note;
 use sj_base::Memory;
-use sj_path::Vars;
-use sj_sql::{Common, Seq};
+use sj_bound::BoundPath;
+use sj_path_tree::Vars;
 use sj_sql_grammar::Passed;
+use sj_sql_tree::{Common, Seq};
 use std::alloc::Global;
 
 /// Whether a PASSING clause names a variable twice.

@@ -2,12 +2,12 @@
 use Rattle.std.proofs.Common.{◌≡◌, ap, ◌∙◌}
 use Rattle.sj_path_grammar.specs.Tree as t
 use Rattle.sj_item.specs.Items.{ItemValue}
-use Rattle.sj_path.specs.Tree.{path_of, expr_of}
-use Rattle.sj_path.specs.declared.tree.Path.{Path}
+use Rattle.sj_path_tree.specs.Tree.{path_of, expr_of}
+use Rattle.sj_path_tree.specs.declared.tree.Path.{Path}
 use Rattle.sj_step.specs.Trace.{Trace}
 use Rattle.sj_cursor.specs.Standing.{standing_left}
 use Rattle.sj_cursor.specs.declared.cursor.Stands.{Stands}
-use Rattle.sj_path.specs.Vars.{Variables}
+use Rattle.sj_path_tree.specs.Vars.{Variables}
 use Rattle.sj_cursor.specs.Meaning.{meaning, start_env, path_trace}
 
 pub begins : (path : Path) (vars : Variables) (x : ItemValue) (s : Stands) (v u : Trace) (k : t.Expr)

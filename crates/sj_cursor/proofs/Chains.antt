@@ -16,7 +16,7 @@ use Rattle.sj_step.specs.Trace.{Trace, stop, visit, give, only, after_visits, jo
 use Rattle.sj_step.specs.Reach.{reach, on_kind, by_key, unwrapped, unwrap, child_item, under_key}
 use Rattle.sj_step.proofs.Traces.{join-after_visits, join-stop, join_assoc, each-only, each-after_visits, each_assoc}
 use Rattle.sj_step.proofs.Keyed.{gives_first, gives_none}
-use Rattle.sj_path.specs.Vars.{Variables}
+use Rattle.sj_path_tree.specs.Vars.{Variables}
 use Rattle.sj_cursor.specs.Meaning.{Env, meaning, start_env, path_trace}
 use Rattle.sj_cursor.specs.Looks.{Found, none_found, Look, more, is_enough, looked, look_cost, Finds}
 use Rattle.sj_cursor.specs.Chains.{accessed, below, under, over, IsChainOf, Sought, Seeking}

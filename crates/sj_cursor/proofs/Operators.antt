@@ -3,7 +3,7 @@ use Rattle.std.specs.Prelude.{if◌then◌else◌}
 use Rattle.std.proofs.Common.{◌≡◌, Bool, true, false, ◌+◌, ◌≤◌, ap, refl, arith}
 use Rattle.sj_path_grammar.specs.Tree as t
 use Rattle.sj_path_grammar.specs.declared.tree.Method.{Method}
-use Rattle.sj_path.specs.Nodes.{expr_nodes, sub_nodes, subs_nodes}
+use Rattle.sj_path_tree.specs.Nodes.{expr_nodes, sub_nodes, subs_nodes}
 use Rattle.sj_step.specs.Trace.{each}
 use Rattle.sj_step.specs.Reach.{spread}
 use Rattle.sj_step.proofs.Traces.{each-only}

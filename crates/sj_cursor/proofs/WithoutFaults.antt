@@ -19,7 +19,7 @@ use Rattle.sj_step.proofs.Traces.{fault-after_visits}
 use Rattle.sj_method.specs.Numbers.{operand_of, subscript_of}
 use Rattle.sj_cursor.specs.Verdicts.{Verdict, kept, filtered}
 use Rattle.sj_cursor.specs.Numbers.{with_subscript, element_part, range_part}
-use Rattle.sj_path.specs.Vars.{Variables}
+use Rattle.sj_path_tree.specs.Vars.{Variables}
 use Rattle.sj_cursor.specs.Meaning.{Env, at_item, at_last, where_array, meaning, step_on, parts, part, verdict, start_env, path_trace}
 use Rattle.sj_cursor.specs.FaultFree.{is_fixed, sub_fault_free, subs_fault_free, step_fault_free, expr_fault_free, fault_free_in, fault_free}
 

@@ -6,7 +6,7 @@ use Rattle.sj_path_grammar.specs.Tree as t
 use Rattle.sj_path_grammar.specs.declared.tree.Arith.{Arith}
 use Rattle.sj_path_grammar.specs.declared.tree.Mode.{Mode}
 use Rattle.sj_item.specs.Items.{ItemValue, item_value, made_number}
-use Rattle.sj_path.specs.Nodes.{pred_nodes, subs_nodes}
+use Rattle.sj_path_tree.specs.Nodes.{pred_nodes, subs_nodes}
 use Rattle.sj_step.specs.Trace.{Trace, stop, fail, only, join, each}
 use Rattle.sj_step.specs.Reach.{reach, by_range, last}
 use Rattle.sj_step.specs.Walk.{walk_left}

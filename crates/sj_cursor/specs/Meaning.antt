@@ -13,7 +13,7 @@ use Rattle.sj_path_grammar.specs.Tree.{Path, Expr, Root, Var, Context, Last, Lit
 use Rattle.sj_item.specs.Items.{ItemValue, made_number, made_text, made_truth, made_null}
 use Rattle.sj_item.specs.Pairs.{items_compare, item_starts_with}
 use Rattle.sj_item.specs.declared.truth.Truth.TheVariants.{Unknown}
-use Rattle.sj_path.specs.Vars.{Variables}
+use Rattle.sj_path_tree.specs.Vars.{Variables}
 use Rattle.sj_step.specs.Trace.{Trace, stop, fail, only, join, each}
 use Rattle.sj_step.specs.Reach.{reach, by_key, all_members, all_elements, spread, last}
 use Rattle.sj_method.specs.Methods.{method_of, sign_of}

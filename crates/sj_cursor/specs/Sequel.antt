@@ -4,11 +4,11 @@ use Rattle.std.specs.Coded.{Coded, code_by, coded×, coded_ℕ, coded_list}
 use Rattle.sj_path_grammar.specs.contracts.tree.Literal as literal
 use Rattle.sj_item.specs.Items.{ItemValue}
 use Rattle.sj_item.specs.Coding.{item_code}
-use Rattle.sj_path.specs.declared.tree.Path.{Path}
-use Rattle.sj_path.specs.contracts.tree.Path as path
+use Rattle.sj_path_tree.specs.declared.tree.Path.{Path}
+use Rattle.sj_path_tree.specs.contracts.tree.Path as path
 use Rattle.sj_step.specs.Trace.{Trace}
 use Rattle.sj_step.specs.Coding.{trace_code}
-use Rattle.sj_path.specs.Vars.{Variables}
+use Rattle.sj_path_tree.specs.Vars.{Variables}
 
 pub record Sequel : Type 0 where
   pub path : Path

@@ -13,7 +13,7 @@ use sj_base::{Ledger, State, Steps};
 use sj_decimal::Decimal;
 use sj_item::{Exact, Item};
 use sj_method::binary;
-use sj_path::Arith;
+use sj_path_tree::Arith;
 use sj_step::{Answer, Walk};
 
 // A result of arithmetic, or its fault.

@@ -4,7 +4,7 @@
 // is nested. Cells are made, and given up where memory runs out, by functions that do not recur and are kept out of line.
 ghost use Rattle.std.specs.Prelude.{◌≡◌, IfOk};
 ghost use Rattle.sj_path_grammar.specs.Tree as tree;
-ghost use Rattle.sj_path.specs.Tree.{expr_of, step_of, sub_of, subs_of, pred_of};
+ghost use Rattle.sj_path_tree.specs.Tree.{expr_of, step_of, sub_of, subs_of, pred_of};
 ghost use Rattle.sj_cursor.specs.Cells.{source_expr, simple_on};
 ghost use Rattle.sj_cursor.specs.Ends.{ends_core};
 ghost use Rattle.sj_cursor.specs.Left.{core, doing, doing_on, part_core, parts_core, test_core};
@@ -14,7 +14,7 @@ use crate::cells::{
     Operand, Operator, Part, Parts, Range, Reached, Results, Simple, Source, Start, Test,
 };
 use sj_base::Memory;
-use sj_path::{Arith, Compare, Expr, Initial, Pred, Step, Sub, Subs};
+use sj_path_tree::{Arith, Compare, Expr, Initial, Pred, Step, Sub, Subs};
 use sj_step::Walk;
 use std::alloc::Global;
 

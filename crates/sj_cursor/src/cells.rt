@@ -5,7 +5,7 @@ ghost use Rattle.std.specs.Prelude.{◌<◌, ◌^◌, unsigned_abs};
 use sj_base::State;
 use sj_item::Item;
 use sj_method::PairWalk;
-use sj_path::{Arith, Compare, Initial, Literal, Method};
+use sj_path_tree::{Arith, Compare, Initial, Literal, Method};
 use sj_step::Walk;
 
 /// A cell of an expression.

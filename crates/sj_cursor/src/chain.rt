@@ -3,7 +3,7 @@ ghost use Rattle.std.specs.Prelude.{◌≡◌, [], true, IfOk, IfSome};
 ghost use Rattle.sj_doc.specs.Slots.{texts};
 ghost use Rattle.sj_path_grammar.specs.Tree as tree;
 ghost use Rattle.sj_item.specs.Items.{item_value};
-ghost use Rattle.sj_path.specs.Tree.{path_of, expr_of};
+ghost use Rattle.sj_path_tree.specs.Tree.{path_of, expr_of};
 ghost use Rattle.sj_cursor.specs.Chains.{IsChainOf, Sought, node_value, accessed, below, under, over};
 ghost use Rattle.sj_cursor.specs.Looks.{Finds, look_value, found_value};
 ghost use Rattle.sj_cursor.specs.Looks as looks;
@@ -12,7 +12,7 @@ use crate::look::{Found, Limit, Look};
 use sj_base::{Ledger, Memory, Steps};
 use sj_doc::{Children, Kind, NodeRef};
 use sj_item::Item;
-use sj_path::{Expr, Mode, Path, Step};
+use sj_path_tree::{Expr, Mode, Path, Step};
 use std::alloc::Global;
 
 /// The keys of a plain path, in the order of its accessors.

@@ -1,7 +1,7 @@
 // A path's items, one at a time.
 ghost use Rattle.std.specs.Prelude.{◌≡◌, ◌≤◌, ◌*◌, IfOk};
 ghost use Rattle.sj_item.specs.Items.{item_value};
-ghost use Rattle.sj_path.specs.Tree.{path_of};
+ghost use Rattle.sj_path_tree.specs.Tree.{path_of};
 ghost use Rattle.sj_step.specs.Answers.{answer_value};
 ghost use Rattle.sj_cursor.specs.Draws.{Draws};
 ghost use Rattle.sj_cursor.specs.Left.{core, left};
@@ -15,7 +15,7 @@ use crate::chain::Chain;
 use crate::env::Env;
 use sj_base::{Ledger, Memory, Steps};
 use sj_item::{Item, Pull};
-use sj_path::{Mode, Path, Vars};
+use sj_path_tree::{Mode, Path, Vars};
 use sj_step::Answer;
 use std::alloc::Global;
 use std::marker::Model;
@@ -66,7 +66,7 @@ impl<'d> Model for Cursor<'d> {
     ghost coded = { sequel_code };
 
     ghost use Rattle.sj_item.specs.Items.{item_value};
-    ghost use Rattle.sj_path.specs.Tree.{path_of};
+    ghost use Rattle.sj_path_tree.specs.Tree.{path_of};
     ghost use Rattle.sj_cursor.specs.Left.{left};
     ghost use Rattle.sj_cursor.specs.Meaning.{start_env, path_trace};
     ghost use Rattle.sj_cursor.specs.Standing.{standing_left, IsCursor};
@@ -117,9 +117,9 @@ fn next_of<'d, L: Ledger>(
 
 impl<'d> Cursor<'d> {
     ghost use Rattle.sj_item.specs.Items.{item_value, pull_value};
-    ghost use Rattle.sj_path.specs.Nodes.{nodes};
+    ghost use Rattle.sj_path_tree.specs.Nodes.{nodes};
     ghost use Rattle.sj_step.specs.Answers.{answer_value};
-    ghost use Rattle.sj_path.specs.Tree.{path_of};
+    ghost use Rattle.sj_path_tree.specs.Tree.{path_of};
     ghost use Rattle.sj_cursor.specs.Draws.{Draws};
     ghost use Rattle.sj_cursor.specs.Meaning.{path_trace};
 

@@ -2,7 +2,7 @@
 ghost use Rattle.std.specs.Prelude.{◌<◌, ◌^◌, unsigned_abs};
 
 use sj_item::Item;
-use sj_path::{Mode, Vars};
+use sj_path_tree::{Mode, Vars};
 
 /// Where an expression is evaluated. It lends its items, since each item that a filter tests makes one. Contracts see it as the `Env`
 /// of the meaning, by `env_value`.

@@ -1,9 +1,9 @@
 // Whether the form of a path rules out a fault.
 ghost use Rattle.std.specs.Prelude.{◌≡◌};
-ghost use Rattle.sj_path.specs.Tree.{path_of, expr_of, step_of, sub_of, subs_of};
+ghost use Rattle.sj_path_tree.specs.Tree.{path_of, expr_of, step_of, sub_of, subs_of};
 ghost use Rattle.sj_cursor.specs.FaultFree.{is_number, is_fixed, sub_fault_free, subs_fault_free, step_fault_free, expr_fault_free, fault_free};
 
-use sj_path::{Expr, Literal, Mode, Path, Step, Sub, Subs};
+use sj_path_tree::{Expr, Literal, Mode, Path, Step, Sub, Subs};
 
 /// Whether the form of a path rules out a fault on every item: it is in lax mode, has no method, sign or arithmetic, and each subscript is
 /// the literal of a number or `last`. A filter has no fault, whatever its predicate. The law `fault_free_paths_end_well` says that such

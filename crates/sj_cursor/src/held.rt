@@ -1,6 +1,6 @@
 // How many items the cells hold.
 ghost use Rattle.std.specs.Prelude.{◌≤◌, ◌+◌, ◌*◌};
-ghost use Rattle.sj_path.specs.Nodes.{expr_nodes, sub_nodes, subs_nodes, pred_nodes};
+ghost use Rattle.sj_path_tree.specs.Nodes.{expr_nodes, sub_nodes, subs_nodes, pred_nodes};
 ghost use Rattle.sj_cursor.specs.Left as left_of;
 
 use crate::cells::{

@@ -5,7 +5,7 @@ ghost use Rattle.sj_path_grammar.specs.Tree.{Path};
 ghost use Rattle.sj_item.specs.Items.{ItemValue};
 ghost use Rattle.sj_step.specs.Trace.{fault_of};
 ghost use Rattle.sj_cursor.specs.FaultFree.{fault_free};
-ghost use Rattle.sj_path.specs.Vars.{Variables};
+ghost use Rattle.sj_path_tree.specs.Vars.{Variables};
 ghost use Rattle.sj_cursor.specs.Meaning.{path_trace};
 
 /// A path whose form rules out a fault ends well on every item, whatever its variables.

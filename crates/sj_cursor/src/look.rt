@@ -9,7 +9,7 @@ use sj_base::State;
 use sj_decimal::Decimal;
 use sj_item::{Item, Truth};
 use sj_method::{operand, subscript};
-use sj_path::Mode;
+use sj_path_tree::Mode;
 
 /// How far a trace is gone through.
 #[derive(Clone, Copy)]

@@ -22,7 +22,7 @@ use sj_base::{Ledger, State, Steps};
 use sj_decimal::Decimal;
 use sj_doc::Kind;
 use sj_item::{Item, Truth};
-use sj_path::Mode;
+use sj_path_tree::Mode;
 use sj_step::{Answer, Reach, Walk};
 
 impl<'d> Cell<'d> {

@@ -10,7 +10,7 @@ ghost use Rattle.sj_cursor.specs.Meaning.{literal_value, variable_of, initial_va
 use crate::cells::{One, Source};
 use crate::env::Env;
 use sj_item::{Exact, Item};
-use sj_path::{Initial, Literal, Vars};
+use sj_path_tree::{Initial, Literal, Vars};
 use sj_step::{Answer, whole_number};
 
 impl<'d> Source<'d> {

@@ -6,7 +6,7 @@ ghost use Rattle.sj_cursor.specs.Verdicts.{is_unknown};
 ghost use Rattle.sj_cursor.specs.Cells.{beside_truth, is_lax, decided_truth};
 
 use sj_item::{Item, Truth};
-use sj_path::{Compare, Mode};
+use sj_path_tree::{Compare, Mode};
 
 /// What stands beside the items of a row.
 #[derive(Clone, Copy)]

@@ -15,7 +15,7 @@ use crate::cells::{Applied, Opening, Results, Simple};
 use sj_base::{Ledger, State, Steps};
 use sj_item::{Item, Pair};
 use sj_method::{PairWalk, apply, pairs, sign};
-use sj_path::{Method, Mode};
+use sj_path_tree::{Method, Mode};
 use sj_step::{Answer, Reach, Walk};
 
 impl<'d> Simple<'d> {

@@ -17,7 +17,7 @@ use crate::cells::{
 use crate::env::Env;
 use sj_base::{Ledger, State, Steps};
 use sj_item::Item;
-use sj_path::Mode;
+use sj_path_tree::Mode;
 use sj_step::{Answer, Reach, Walk, last_index};
 
 // Where a list of subscripts stands on an item.

@@ -10,7 +10,7 @@ use Rattle.sj_doc.specs.Kinds.{kind_of}
 use Rattle.sj_doc.specs.declared.node.Kind.{Kind}
 use Rattle.sj_doc.specs.declared.node.Kind.TheVariants as kinds
 use Rattle.sj_item.specs.Items.{ItemValue, item_value, item_tree, nodes_below}
-use Rattle.sj_path.specs.Tree.{path_of}
+use Rattle.sj_path_tree.specs.Tree.{path_of}
 use Rattle.sj_step.specs.Trace.{Trace, items, visits, fault_of}
 use Rattle.sj_cursor.specs.Answers.{exists_answer}
 use Rattle.sj_cursor.specs.Meaning.{path_trace}

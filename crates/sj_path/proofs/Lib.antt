@@ -1,4 +1,2 @@
 -- for `Level::access_from`, `Level::and_from`, `Level::or_from`, `Level::product_from` and `Level::sum_from`
 pub mod LevelTurns
--- for `covers_expr`, `covers_pred`, `covers_step`, `covers_sub` and `covers_subs`
-pub mod Names

@@ -1,6 +1,2 @@
-pub mod Tree
 pub mod Raw
 pub mod Nests
-pub mod Nodes
-pub mod Vars
-pub mod Member

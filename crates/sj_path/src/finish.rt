@@ -2,13 +2,13 @@
 
 ghost use Rattle.std.specs.Prelude.{◌≡◌};
 ghost use Rattle.sj_path.specs.Raw as raw;
-ghost use Rattle.sj_path.specs.Tree as tree;
+ghost use Rattle.sj_path_tree.specs.Tree as tree;
 ghost use Rattle.sj_path_grammar.specs.Gives.{Finishes};
 ghost use Rattle.sj_path_grammar.specs.Unsupported as unsupported;
 
 use crate::raw::{Expr, Path, Pred, Step, Sub, Subs};
-use crate::tree;
 use sj_path_grammar::{Name, PathRefusal};
+use sj_path_tree as tree;
 use std::alloc::Global;
 
 #[cycle(finish)]

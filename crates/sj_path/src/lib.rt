@@ -8,24 +8,18 @@
 #![tactic(auto)]
 
 mod check;
-mod count;
 mod depth;
 mod finish;
 mod level;
 mod make;
-mod member;
 mod parse;
 mod predicate;
 mod raw;
 mod single;
 mod step;
-mod tree;
-mod vars;
 
-pub use count::nodes;
-pub use member::member_path;
 pub use parse::parse_path;
-pub use sj_decimal::Compare;
-pub use sj_path_grammar::{Arith, Initial, Literal, Method, Mode, Name, PathRefusal};
-pub use tree::{Expr, Path, Pred, Step, Sub, Subs};
-pub use vars::Vars;
+pub use sj_path_tree::{
+    Arith, Compare, Expr, Initial, Literal, Method, Mode, Name, Path, PathRefusal, Pred, Step, Sub,
+    Subs, Vars, member_path, nodes,
+};

@@ -5,16 +5,16 @@ ghost use Rattle.sj_path_grammar.specs.Reading as reading;
 ghost use Rattle.sj_path_grammar.specs.Gives.{Gives};
 ghost use Rattle.sj_path_grammar.specs.Answers.{Allows, Forbids, Accepts, Refuses};
 ghost use Rattle.sj_path.specs.Raw as raw;
-ghost use Rattle.sj_path.specs.Tree.{path_of};
+ghost use Rattle.sj_path_tree.specs.Tree.{path_of};
 
 use crate::check::misplaced_expr;
 use crate::depth::is_too_deep;
 use crate::finish::finished;
 use crate::level::{Level, expr_or_pred};
-use crate::tree::Path;
 use crate::{raw, single};
 use sj_path_grammar::{Mode, PathRefusal};
 use sj_path_token::{LexError, Token, tokens_of};
+use sj_path_tree::Path;
 use std::alloc::Global;
 
 #[tactic(auto, unfolding(sj_path_grammar::specs::Reading::whole_at))]

@@ -1,8 +1,8 @@
 // A row list goes from line to line, and its end comes again. What statements give for lines is in the tables of
 // `checks/rows/`.
 ghost use Rattle.std.specs.Prelude.{IfOk};
-ghost use Rattle.sj_bind.specs.Sound.{IsSound};
-ghost use Rattle.sj_bind.specs.View.{bound_of};
+ghost use Rattle.sj_bound.specs.Sound.{IsSound};
+ghost use Rattle.sj_bound.specs.View.{bound_of};
 
 use super::cases::expect;
 use sj_base::{Steps, Tally};

@@ -9,12 +9,12 @@ use Rattle.sj_func.specs.declared.context.Outcome.TheVariants.{Value, Raised}
 use Rattle.sj_build.specs.Constructors.{object_aggregate, object_value, object_text, first_refusal, unless_refused}
 use Rattle.sj_build.specs.Held.{StandsForValues, StandsForFields}
 use Rattle.sj_build.specs.declared.field.Field.{Field}
-use Rattle.sj_bind.specs.Bound as b
+use Rattle.sj_bound.specs.Bound as b
 use Rattle.std.specs.List.{All}
 use Rattle.std.proofs.lemmas.List.{drop_more, map-append}
 use Rattle.std.proofs.lemmas.List.Elements.{All-nil, All-append, All-cons}
-use Rattle.sj_bind.specs.View.{value_of, item_of, items_of}
-use Rattle.sj_bind.specs.declared.bound.BoundItem.{BoundItem}
+use Rattle.sj_bound.specs.View.{value_of, item_of, items_of}
+use Rattle.sj_bound.specs.declared.bound.BoundItem.{BoundItem}
 use Rattle.sj_select.specs.Aggregates.{Aggregate, aggregates_in, array_over, object_over, values_over, members_over, aggregate}
 use Rattle.sj_select.specs.Line.{Line}
 use Rattle.sj_select.specs.Taking.{CanTake, array_call, object_call, aggregate_of, IsObjectReady, IsReady, HasTakenValues, HasTakenMembers, HasTaken}

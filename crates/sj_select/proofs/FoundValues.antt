@@ -8,7 +8,7 @@ use Rattle.std.specs.Prelude.{IfOk}
 use Rattle.sj_base.specs.declared.memory.Memory.{Memory}
 use Rattle.sj_base.specs.declared.state.State.{State}
 use Rattle.sj_value.specs.declared.value.SqlValue.{SqlValue}
-use Rattle.sj_bind.specs.Bound as b
+use Rattle.sj_bound.specs.Bound as b
 use Rattle.sj_select.specs.Line.{Line}
 use Rattle.sj_select.specs.Operations.{Step, step_of, steps_of, steps_to, steps_to_all}
 use Rattle.sj_select.specs.Performing.{CanBeGiven, Held, EndsIn, held, done, step_cost, Performance, after, going_on, performed}

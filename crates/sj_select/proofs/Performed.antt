@@ -10,7 +10,7 @@ use Rattle.sj_func.specs.declared.context.Outcome.{Outcome}
 use Rattle.sj_func.specs.declared.context.Outcome.TheVariants.{Value, Raised}
 use Rattle.sj_build.specs.Constructors.{array_value, object_value}
 use Rattle.sj_build.specs.declared.field.Field.{Field}
-use Rattle.sj_bind.specs.Bound as b
+use Rattle.sj_bound.specs.Bound as b
 use Rattle.sj_select.specs.Line.{Line, context}
 use Rattle.sj_select.specs.Operations.{Step, object, array, member, steps_to, steps_to_values, steps_to_members, steps_to_all, value_count, member_count}
 use Rattle.sj_select.specs.Performing.{Held, put, last_of, before_last, paired, member_of, Performance, after, stopped, going_on, performed}

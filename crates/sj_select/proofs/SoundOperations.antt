@@ -2,9 +2,9 @@
 use Rattle.std.proofs.Common.{ℕ, ◌<◌, suc, List, [], ◌∷◌, length, map, get_or, arith}
 use Rattle.std.specs.List.{All}
 use Rattle.std.proofs.lemmas.List.Elements.{All-nil, All-cons, All-append}
-use Rattle.sj_path.specs.Vars.{Variables}
-use Rattle.sj_bind.specs.Bound as b
-use Rattle.sj_bind.specs.Sound.{IsSoundValue, AreSoundValues, AreSoundMembers, IsSoundItem, IsSoundColumn, IsSoundTable, IsSound, columns_of}
+use Rattle.sj_path_tree.specs.Vars.{Variables}
+use Rattle.sj_bound.specs.Bound as b
+use Rattle.sj_bound.specs.Sound.{IsSoundValue, AreSoundValues, AreSoundMembers, IsSoundItem, IsSoundColumn, IsSoundTable, IsSound, columns_of}
 use Rattle.sj_select.specs.Columns.{with_variables, columns_of as table_columns}
 use Rattle.sj_select.specs.Filling.{CanFill}
 use Rattle.sj_select.specs.Operations.{Step, member, steps_to, steps_to_values, steps_to_members, steps_to_all}

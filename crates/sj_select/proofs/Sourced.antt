@@ -1,7 +1,7 @@
 -- What is left of a statement, by what its rows are made of.
 use Rattle.std.proofs.Common.{◌≡◌, List, [], ◌∷◌, length, map, nat_eq, false, true, refl, subst}
 use Rattle.sj_table.specs.Rows.{PlanRows}
-use Rattle.sj_bind.specs.Bound as b
+use Rattle.sj_bound.specs.Bound as b
 use Rattle.sj_select.specs.Aggregates.{Aggregate}
 use Rattle.sj_select.specs.Line.{Line}
 use Rattle.sj_select.specs.Rows.{aggregated, aggregated_cost, over_rows, over_cost}

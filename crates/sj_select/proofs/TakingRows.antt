@@ -10,7 +10,7 @@ use Rattle.sj_func.specs.declared.context.Outcome.TheVariants.{Value}
 use Rattle.sj_table.specs.Rows.{Row, PlanRows}
 use Rattle.sj_table.specs.Takes.{Spends}
 use Rattle.sj_table.specs.Series.{done, raises, more}
-use Rattle.sj_bind.specs.Bound as b
+use Rattle.sj_bound.specs.Bound as b
 use Rattle.sj_select.specs.Aggregates.{Aggregate, aggregates, inputs_cost}
 use Rattle.sj_select.specs.Columns.{columns_of, columns_given, columns_cost}
 use Rattle.sj_select.specs.Line.{Line}

@@ -7,7 +7,7 @@ use Rattle.sj_func.specs.declared.context.Outcome.{Outcome}
 use Rattle.sj_func.specs.declared.context.Outcome.TheVariants.{Value, Raised}
 use Rattle.sj_build.specs.Constructors.{array_aggregate, object_aggregate}
 use Rattle.sj_build.specs.declared.field.Field.{Field}
-use Rattle.sj_bind.specs.Bound as b
+use Rattle.sj_bound.specs.Bound as b
 use Rattle.sj_select.specs.Line.{Line}
 use Rattle.sj_select.specs.Values.{given, cost, outcome_of, each_value, each_cost, member_before, unless_raised}
 

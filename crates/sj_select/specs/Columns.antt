@@ -2,7 +2,7 @@
 use Rattle.std.specs.Prelude.{ℕ, List, map, Option, Some, None, Result, pos}
 use Rattle.sj_base.specs.declared.state.State.{State}
 use Rattle.sj_item.specs.Items.{ItemValue}
-use Rattle.sj_path.specs.Vars.{Variables}
+use Rattle.sj_path_tree.specs.Vars.{Variables}
 use Rattle.sj_value.specs.declared.clauses.ExistsAction.{ExistsAction}
 use Rattle.sj_value.specs.declared.clauses.QuerySpec.{QuerySpec}
 use Rattle.sj_value.specs.declared.clauses.ValueSpec.{ValueSpec}
@@ -12,8 +12,8 @@ use Rattle.sj_func.specs.Functions.{on_item, exists_outcome, exists_cost, value_
 use Rattle.sj_func.specs.declared.context.Outcome.{Outcome}
 use Rattle.sj_func.specs.declared.context.Outcome.TheVariants.{Value}
 use Rattle.sj_table.specs.Rows.{Row, entry}
-use Rattle.sj_bind.specs.Bound as b
-use Rattle.sj_bind.specs.Bound.{PathWith}
+use Rattle.sj_bound.specs.Bound as b
+use Rattle.sj_bound.specs.Bound.{PathWith}
 use Rattle.sj_select.specs.Values.{trace_of, each_value, each_cost}
 
 -- a column of the path of this number, with the variables that are passed to the table

@@ -1,15 +1,15 @@
 -- The operations by which the values of a SELECT list are found, one behind the other: those that a value is made of stand before it.
 use Rattle.std.specs.Prelude.{ℕ, ◌+◌, Bool as Logical, List, [], ◌∷◌, ◌++◌, map}
 use Rattle.sj_path_grammar.specs.declared.tree.Literal.{Literal}
-use Rattle.sj_path.specs.Tree.{path_of}
+use Rattle.sj_path_tree.specs.Tree.{path_of}
 use Rattle.sj_cursor.specs.Sequel.{Sequel}
 use Rattle.sj_sql_grammar.specs.declared.clauses.IsJsonCall.{IsJsonCall}
 use Rattle.sj_value.specs.declared.clauses.ExistsAction.{ExistsAction}
 use Rattle.sj_value.specs.declared.clauses.Nulls.{Nulls}
 use Rattle.sj_value.specs.declared.clauses.QuerySpec.{QuerySpec}
 use Rattle.sj_value.specs.declared.clauses.ValueSpec.{ValueSpec}
-use Rattle.sj_bind.specs.Bound as b
-use Rattle.sj_bind.specs.Bound.{PathWith}
+use Rattle.sj_bound.specs.Bound as b
+use Rattle.sj_bound.specs.Bound.{PathWith}
 use Rattle.sj_select.specs.declared.operation.ExistsCall.{ExistsCall}
 use Rattle.sj_select.specs.declared.operation.Operation.{Operation}
 use Rattle.sj_select.specs.declared.operation.Operation.TheVariants as o

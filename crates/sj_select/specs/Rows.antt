@@ -7,7 +7,7 @@ use Rattle.sj_value.specs.declared.value.SqlValue.{SqlValue}
 use Rattle.sj_func.specs.Functions.{ContextValue, on_item, on_bad}
 use Rattle.sj_table.specs.Rows.{Row, PlanRows, plan_rows, plan_cost}
 use Rattle.sj_table.specs.Series.{Series, done, raises, more, each}
-use Rattle.sj_bind.specs.Bound as b
+use Rattle.sj_bound.specs.Bound as b
 use Rattle.sj_select.specs.Aggregates.{Aggregate, aggregates_in, aggregates, inputs_cost}
 use Rattle.sj_select.specs.Columns.{columns_of, columns_given, columns_cost}
 use Rattle.sj_select.specs.Line.{Line, context}

@@ -7,8 +7,8 @@ use Rattle.sj_value.specs.Values.{IsPrintable}
 use Rattle.sj_value.specs.declared.value.SqlValue.{SqlValue}
 use Rattle.sj_table.specs.Rows.{Row}
 use Rattle.sj_table.specs.Series.{done, raises, more}
-use Rattle.sj_bind.specs.Bound as b
-use Rattle.sj_bind.specs.View.{table_of}
+use Rattle.sj_bound.specs.Bound as b
+use Rattle.sj_bound.specs.View.{table_of}
 use Rattle.sj_select.specs.Aggregates.{Aggregate, aggregates_in, aggregates, inputs_cost}
 use Rattle.sj_select.specs.Columns.{columns_of, columns_given, columns_cost}
 use Rattle.sj_select.specs.Line.{Line}

@@ -4,7 +4,7 @@ use Rattle.sj_base.specs.declared.state.State.{State}
 use Rattle.sj_value.specs.Values.{IsPrintable}
 use Rattle.sj_table.specs.Rows.{PlanRows}
 use Rattle.sj_table.specs.View.{TableView}
-use Rattle.sj_bind.specs.View.{table_of}
+use Rattle.sj_bound.specs.View.{table_of}
 use Rattle.sj_select.specs.Columns.{columns_of}
 use Rattle.sj_select.specs.Filling.{column_of, CanFill}
 use Rattle.sj_select.specs.Rows.{rows_in_error}

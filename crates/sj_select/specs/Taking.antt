@@ -6,8 +6,8 @@ use Rattle.sj_func.specs.declared.context.Outcome.{Outcome}
 use Rattle.sj_func.specs.declared.context.Outcome.TheVariants.{Raised}
 use Rattle.sj_build.specs.Held.{StandsForValues, StandsForFields}
 use Rattle.sj_build.specs.declared.field.Field.{Field}
-use Rattle.sj_bind.specs.Bound as b
-use Rattle.sj_bind.specs.View.{value_of}
+use Rattle.sj_bound.specs.Bound as b
+use Rattle.sj_bound.specs.View.{value_of}
 use Rattle.sj_select.specs.Aggregates.{Aggregate, array_of, object_of, values_over, members_over}
 use Rattle.sj_select.specs.Line.{Line}
 use Rattle.sj_select.specs.Operations.{steps_of, steps_to}

@@ -18,8 +18,8 @@ use Rattle.sj_func.specs.declared.context.Outcome.{Outcome}
 use Rattle.sj_func.specs.declared.context.Outcome.TheVariants.{Value, Raised}
 use Rattle.sj_build.specs.Constructors.{array_value, object_value}
 use Rattle.sj_build.specs.declared.field.Field.{Field}
-use Rattle.sj_bind.specs.Bound as b
-use Rattle.sj_bind.specs.Bound.{PathWith}
+use Rattle.sj_bound.specs.Bound as b
+use Rattle.sj_bound.specs.Bound.{PathWith}
 use Rattle.sj_json.specs.UniqueKeys.{has_unique_keys}
 use Rattle.sj_select.specs.Line.{Line, context, tree_of}
 

@@ -1,15 +1,15 @@
 // The operations of a statement.
 ghost use Rattle.std.specs.Prelude.{◌≡◌, ◌≤◌, ◌<◌, ◌+◌, ◌++◌, ◌∷◌, [], length, IfOk, OnOk};
-ghost use Rattle.sj_bind.specs.View.{bound_of, items_of, value_of, values_of, members_of, path_with_of};
+ghost use Rattle.sj_bound.specs.View.{bound_of, items_of, value_of, values_of, members_of, path_with_of};
 ghost use Rattle.sj_select.specs.Operations.{steps_of, steps_to, steps_to_values, steps_to_members, steps_to_all, value_count, member_count, path_with};
 ghost use Rattle.sj_select.specs.Rows.{values_in};
 
 use crate::operation::{ExistsCall, Operation, QueryCall, ValueCall};
 use sj_base::Memory;
-use sj_bind::{Bound, BoundItem, BoundMembers, BoundPath, BoundValue, BoundValues};
+use sj_bound::{Bound, BoundItem, BoundMembers, BoundPath, BoundValue, BoundValues};
 use sj_cursor::Cursor;
 use sj_item::Item;
-use sj_path::{Path, Vars};
+use sj_path_tree::{Path, Vars};
 use std::alloc::Global;
 
 /// The operations that find the values of a statement's SELECT list. The cursors of its paths take their memory here.

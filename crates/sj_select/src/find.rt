@@ -14,7 +14,7 @@ use crate::stack::Stack;
 use sj_base::{Ledger, Memory, State, Steps, Text};
 use sj_doc::Doc;
 use sj_func::{Outcome, is_json};
-use sj_path::Literal;
+use sj_path_tree::Literal;
 use sj_sql_grammar::IsJsonCall;
 use sj_value::{SqlValue, copy};
 use std::alloc::Global;

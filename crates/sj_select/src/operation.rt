@@ -1,7 +1,7 @@
 // The operations by which values are found.
 
 use sj_cursor::Cursor;
-use sj_path::Literal;
+use sj_path_tree::Literal;
 use sj_sql_grammar::IsJsonCall;
 use sj_value::{ExistsAction, Nulls, QuerySpec, ValueSpec};
 

@@ -2,9 +2,9 @@
 ghost use Rattle.std.specs.Prelude.{◌≡◌, [], All, IfOk};
 ghost use Rattle.sj_value.specs.Values.{IsPrintable};
 ghost use Rattle.sj_table.specs.Takes.{Spends};
-ghost use Rattle.sj_bind.specs.Bound as b;
-ghost use Rattle.sj_bind.specs.Sound.{IsSound};
-ghost use Rattle.sj_bind.specs.View.{bound_of};
+ghost use Rattle.sj_bound.specs.Bound as b;
+ghost use Rattle.sj_bound.specs.Sound.{IsSound};
+ghost use Rattle.sj_bound.specs.View.{bound_of};
 ghost use Rattle.sj_select.specs.Line.{line_of};
 ghost use Rattle.sj_select.specs.Rows.{statement_rows, statement_cost};
 ghost use Rattle.sj_select.specs.Seen.{Gives};
@@ -15,7 +15,7 @@ use crate::line::LineDoc;
 use crate::source::{Found, RowSource};
 use crate::stack::Stack;
 use sj_base::{Ledger, Memory, State, Steps};
-use sj_bind::Bound;
+use sj_bound::Bound;
 use sj_value::SqlValue;
 use std::alloc::Global;
 use std::marker::Model;
@@ -138,7 +138,7 @@ impl<'d> Model for RowsOf<'d> {
 
     ghost coded = { seen_code };
 
-    ghost use Rattle.sj_bind.specs.View.{bound_of};
+    ghost use Rattle.sj_bound.specs.View.{bound_of};
     ghost use Rattle.sj_select.specs.Line.{line_of};
     ghost use Rattle.sj_select.specs.Sources.{IsFor, IsReadySource, source_left, source_due};
     ghost use Rattle.sj_select.specs.Stages.{left_at, due_at};

@@ -10,9 +10,9 @@ use Rattle.sj_sql_grammar.specs.Reading.{list_from, values_from, member_at, memb
 use Rattle.sj_sql_grammar.proofs.ReadTokens.{bind_is, bind_none, some_on, none_on}
 use Rattle.sj_sql.specs.declared.refusal.Refusal.{Refusal}
 use Rattle.sj_sql.specs.declared.refusal.Refusal.TheVariants as refusal
-use Rattle.sj_sql.specs.declared.tree.SValue.{SValue}
-use Rattle.sj_sql.specs.declared.tree.TItem.{TItem}
-use Rattle.sj_sql.specs.View.{svalue_of, plain_of, item_of, items_of}
+use Rattle.sj_sql_tree.specs.declared.tree.SValue.{SValue}
+use Rattle.sj_sql_tree.specs.declared.tree.TItem.{TItem}
+use Rattle.sj_sql_tree.specs.View.{svalue_of, plain_of, item_of, items_of}
 use Rattle.sj_sql.specs.Cells.{onto, fronted, listed, more_members}
 use Rattle.sj_sql.specs.Gives.{Fails}
 

@@ -9,9 +9,9 @@ use Rattle.sj_sql.specs.declared.answer.Refused.{Refused}
 use Rattle.sj_sql.specs.declared.answer.Refused.TheVariants.{For}
 use Rattle.sj_sql.specs.declared.file.NextStatement.{NextStatement}
 use Rattle.sj_sql.specs.declared.file.NextStatement.TheVariants as first
-use Rattle.sj_sql.specs.declared.tree.Statement.{Statement}
+use Rattle.sj_sql_tree.specs.declared.tree.Statement.{Statement}
 use Rattle.sj_sql.specs.File.{EndsBy, IsFirst, IsLeft, IsNext, RefusesFirst}
-use Rattle.sj_sql.specs.View.{statement_of}
+use Rattle.sj_sql_tree.specs.View.{statement_of}
 use Rattle.sj_sql.proofs.Files.{first_read, none_read}
 
 -- these statements were read from the front of the file, and this is left

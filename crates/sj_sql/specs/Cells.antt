@@ -4,8 +4,8 @@ use Rattle.std.specs.declared.alloc.Global.{Global}
 use Rattle.sj_path_grammar.specs.Tree.{Path}
 use Rattle.sj_sql_grammar.specs.Tree as t
 use Rattle.sj_sql.specs.declared.member.Member.{Member}
-use Rattle.sj_sql.specs.declared.tree.Column.{Column}
-use Rattle.sj_sql.specs.View.{column_of}
+use Rattle.sj_sql_tree.specs.declared.tree.Column.{Column}
+use Rattle.sj_sql_tree.specs.View.{column_of}
 
 -- the cells of a list, and what follows them
 abbrev pub onto : {A L : Type 0} → (A → L → L) → List A → L → L

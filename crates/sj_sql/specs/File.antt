@@ -8,14 +8,14 @@ use Rattle.sj_sql_grammar.specs.declared.refusal.FileKind.{FileKind}
 use Rattle.sj_sql_grammar.specs.Phrases.{Tokens}
 use Rattle.sj_sql_grammar.specs.Tree as t
 use Rattle.sj_sql_grammar.specs.Answers.{Ending, closed, cut_off, broken, pieces, Accepted, Forbids, IsScript}
-use Rattle.sj_sql.specs.declared.tree.Statement.{Statement}
+use Rattle.sj_sql_tree.specs.declared.tree.Statement.{Statement}
 use Rattle.sj_sql.specs.declared.answer.Refused.{Refused}
 use Rattle.sj_sql.specs.declared.answer.Refused.TheVariants as refused
 use Rattle.sj_sql.specs.declared.file.NextStatement.{NextStatement}
 use Rattle.sj_sql.specs.declared.file.NextStatement.TheVariants as first
 use Rattle.sj_sql.specs.declared.file.Gathered.{Gathered}
 use Rattle.sj_sql.specs.declared.file.Gathered.TheVariants as gathered
-use Rattle.sj_sql.specs.View.{statement_of}
+use Rattle.sj_sql_tree.specs.View.{statement_of}
 
 -- the answer of one statement, unless memory ran out
 abbrev pub IsAnswered : Tokens → Result Statement Refused → Type 0

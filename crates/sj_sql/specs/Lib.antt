@@ -1,4 +1,3 @@
-pub mod View
 pub mod Gives
 pub mod Noted
 pub mod Cells
@@ -7,4 +6,3 @@ pub mod Script
 pub mod Nests
 pub mod Plans
 pub mod Words
-pub mod Split

@@ -10,11 +10,11 @@ use Rattle.sj_sql_grammar.specs.Tree.{Value}
 use Rattle.sj_sql_grammar.specs.Reading.{value_at, columns_at, plan_expr_at}
 use Rattle.sj_sql.specs.declared.faults.Faults.{Faults}
 use Rattle.sj_sql.specs.declared.refusal.Refusal.{Refusal}
-use Rattle.sj_sql.specs.declared.tree.Columns.{Columns}
-use Rattle.sj_sql.specs.declared.tree.NamedPlan.{NamedPlan}
+use Rattle.sj_sql_tree.specs.declared.tree.Columns.{Columns}
+use Rattle.sj_sql_tree.specs.declared.tree.NamedPlan.{NamedPlan}
 use Rattle.sj_sql.specs.Gives.{Gives}
 use Rattle.sj_sql.specs.Noted.{faults_of}
-use Rattle.sj_sql.specs.View.{columns_of, plan_of}
+use Rattle.sj_sql_tree.specs.View.{columns_of, plan_of}
 
 -- it reads the values of a SELECT list, seen by view
 pub record Nests {V : Type 0} (view : V → Value Path) (source : Source) (depth : ℕ) (pre : Global → ℕ → Faults → Bor Tokens → Type 0)

@@ -1,8 +1,8 @@
 -- What the parser has noted, as the definitions of statements have it.
 use Rattle.std.specs.Prelude.{◌≡◌, Option, Some, Result, Ok, Err}
 use Rattle.sj_path_grammar.specs.Tree as g
-use Rattle.sj_path.specs.declared.tree.Path.{Path}
-use Rattle.sj_path.specs.Tree.{path_of}
+use Rattle.sj_path_tree.specs.declared.tree.Path.{Path}
+use Rattle.sj_path_tree.specs.Tree.{path_of}
 use Rattle.std.specs.Borrow.{Bor}
 use Rattle.sj_sql_grammar.specs.Answers as a
 use Rattle.sj_sql_grammar.specs.Faults as f

@@ -6,8 +6,8 @@ use crate::depth::too_deep;
 use crate::refusal::Refusal;
 use crate::select::select;
 use crate::single::Tokens;
-use crate::tree::Statement;
 use sj_sql_grammar::FileKind;
+use sj_sql_tree::Statement;
 use std::alloc::Global;
 
 /// Why a statement is not taken.

@@ -5,7 +5,7 @@ ghost use Rattle.sj_sql_grammar.specs.Faults.{parsing};
 ghost use Rattle.sj_sql_grammar.specs.Reading as reading;
 ghost use Rattle.sj_sql.specs.Gives.{Gives};
 ghost use Rattle.sj_sql.specs.Noted.{faults_of};
-ghost use Rattle.sj_sql.specs.View.{svalue_of};
+ghost use Rattle.sj_sql_tree.specs.View.{svalue_of};
 
 use crate::common::common;
 use crate::faults::Faults;
@@ -13,9 +13,9 @@ use crate::optional::value_action;
 use crate::phrase::{exists_clause, query_clause, quotes_clause, returning, wrapper};
 use crate::refusal::Refusal;
 use crate::single::{Tokens, close, open};
-use crate::tree::{ExistsCall, QueryCall, SValue, ValueCall};
 use sj_sql_grammar::{Quotes, TypeName};
 use sj_sql_token::Keyword;
+use sj_sql_tree::{ExistsCall, QueryCall, SValue, ValueCall};
 use sj_value::{ExistsAction, QueryAction, SqlType, Wrapper};
 use std::alloc::Global;
 

@@ -8,7 +8,7 @@ ghost use Rattle.sj_sql.specs.Cells.{onto, boxed_column_of};
 ghost use Rattle.sj_sql.specs.Gives.{Gives};
 ghost use Rattle.sj_sql.specs.Nests.{ColumnNests};
 ghost use Rattle.sj_sql.specs.Noted.{faults_of};
-ghost use Rattle.sj_sql.specs.View.{column_of, columns_of};
+ghost use Rattle.sj_sql_tree.specs.View.{column_of, columns_of};
 
 use crate::faults::Faults;
 use crate::optional::{name_of_path, value_action};
@@ -19,12 +19,11 @@ use crate::phrase::{
     type_name, wrapper,
 };
 use crate::refusal::Refusal;
-use crate::seq::Seq;
 use crate::single::{Rest, Tokens, close, comma, name, open, word};
-use crate::tree::{Column, Columns, FormattedColumn, RegularColumn};
 use sj_base::{Memory, Text};
 use sj_sql_grammar::{Encoding, Quotes};
 use sj_sql_token::Keyword;
+use sj_sql_tree::{Column, Columns, FormattedColumn, RegularColumn, Seq};
 use sj_value::{ExistsAction, QueryAction, Wrapper};
 use std::alloc::Global;
 

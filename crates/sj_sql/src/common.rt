@@ -5,7 +5,7 @@ ghost use Rattle.sj_sql_grammar.specs.Faults.{parsing};
 ghost use Rattle.sj_sql_grammar.specs.Reading as reading;
 ghost use Rattle.sj_sql.specs.Gives.{Gives};
 ghost use Rattle.sj_sql.specs.Noted.{faults_of};
-ghost use Rattle.sj_sql.specs.View.{common_of};
+ghost use Rattle.sj_sql_tree.specs.View.{common_of};
 
 use crate::document::document;
 use crate::faults::Faults;
@@ -14,8 +14,8 @@ use crate::passing::passing;
 use crate::path::path;
 use crate::refusal::Refusal;
 use crate::single::{Tokens, comma, string};
-use crate::tree::Common;
 use sj_base::Text;
+use sj_sql_tree::Common;
 use std::alloc::Global;
 
 /// Those of a function.

@@ -7,18 +7,18 @@ ghost use Rattle.sj_sql_grammar.specs.Reading as reading;
 ghost use Rattle.sj_sql_grammar.specs.Tree as t;
 ghost use Rattle.sj_sql.specs.Gives.{Gives};
 ghost use Rattle.sj_sql.specs.Noted.{faults_of};
-ghost use Rattle.sj_sql.specs.View.{svalue_of, svalues_of, smembers_of};
+ghost use Rattle.sj_sql_tree.specs.View.{svalue_of, svalues_of, smembers_of};
 
 use crate::call::{exists, query, value};
 use crate::document::is_json;
 use crate::faults::Faults;
 use crate::refusal::Refusal;
 use crate::single::{Tokens, word};
-use crate::tree::{SMembers, SValue, SValues};
 use crate::value::Level;
 use crate::value_tree::ValueTree;
 use sj_path::Literal;
 use sj_sql_token::Keyword;
+use sj_sql_tree::{SMembers, SValue, SValues};
 use sj_value::Nulls;
 use std::alloc::Global;
 

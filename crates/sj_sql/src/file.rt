@@ -4,10 +4,10 @@ ghost use Rattle.std.specs.Prelude.{◌≡◌, IfOk};
 ghost use Rattle.sj_sql.specs.File.{IsGathered, IsNext, is_semicolon};
 
 use crate::answer::{Refused, answer};
-use crate::tree::Statement;
 use sj_base::Memory;
 use sj_sql_grammar::FileKind;
 use sj_sql_token::{Next, Token, next_token};
+use sj_sql_tree::Statement;
 use std::alloc::Global;
 
 /// What a file begins with.

@@ -5,7 +5,7 @@ ghost use Rattle.sj_sql_grammar.specs.Faults.{parsing};
 ghost use Rattle.sj_sql_grammar.specs.Reading as reading;
 ghost use Rattle.sj_sql.specs.Gives.{Gives};
 ghost use Rattle.sj_sql.specs.Noted.{faults_of};
-ghost use Rattle.sj_sql.specs.View.{svalue_of, item_of, plain_of, items_of};
+ghost use Rattle.sj_sql_tree.specs.View.{svalue_of, item_of, plain_of, items_of};
 
 use crate::document_value::document_value;
 use crate::faults::Faults;
@@ -14,11 +14,10 @@ use crate::passing::put;
 use crate::phrase::{nulls_clause, unique_clause};
 use crate::refusal::Refusal;
 use crate::row_value::row_value;
-use crate::seq::Seq;
 use crate::single::{Rest, Tokens, close, comma, open, word};
-use crate::tree::{SValue, TItem};
 use crate::value::Level;
 use sj_sql_token::Keyword;
+use sj_sql_tree::{SValue, Seq, TItem};
 use sj_value::Nulls;
 use std::alloc::Global;
 

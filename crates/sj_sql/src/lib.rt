@@ -27,22 +27,17 @@ mod refusal;
 mod row_value;
 mod script;
 mod select;
-mod seq;
 mod single;
 mod table;
-mod tree;
 mod value;
 mod value_tree;
 
 pub use answer::Refused;
 pub use file::{NextStatement, next_statement};
 pub use script::{FileFault, Script, Statements, parse_file};
-pub use seq::Seq;
-pub use sj_sql_grammar::{
-    BindKind, Encoding, FileKind, InOut, IsJsonCall, Passed, Quotes, Siblings, TypeName, ValueDo,
-};
-pub use tree::{
-    Column, Columns, Common, ExistsCall, FormattedColumn, NamedPlan, PlanTree, QueryCall,
-    RegularColumn, SMembers, SValue, SValues, Statement, TItem, TMembers, TValue, TValues, Table,
-    ValueCall,
+pub use sj_sql_tree::{
+    BindKind, Column, Columns, Common, Encoding, ExistsCall, FileKind, FormattedColumn, InOut,
+    IsJsonCall, NamedPlan, Passed, PlanTree, QueryCall, Quotes, RegularColumn, SMembers, SValue,
+    SValues, Seq, Siblings, Statement, TItem, TMembers, TValue, TValues, Table, TypeName,
+    ValueCall, ValueDo,
 };

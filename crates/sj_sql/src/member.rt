@@ -4,9 +4,9 @@ ghost use Rattle.std.specs.Prelude.{◌≡◌, IfOk, map};
 ghost use Rattle.sj_sql_grammar.specs.Tree as t;
 ghost use Rattle.sj_sql.specs.Cells.{onto, member_of, more_members};
 
-use crate::seq::Seq;
 use crate::value_tree::ValueTree;
 use sj_base::Memory;
+use sj_sql_tree::Seq;
 use std::alloc::Global;
 
 /// A member of JSON_OBJECT, or of JSON_OBJECTAGG, in boxes: each is given up by one call, and the cells take them as they are.

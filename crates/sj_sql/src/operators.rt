@@ -2,9 +2,9 @@
 
 ghost use Rattle.std.specs.Prelude.{◌≡◌, ◌-◌, ◌≤◌, nat_le, Some, None, if◌then◌else◌};
 ghost use Rattle.sj_sql_grammar.specs.Grammar.{operators};
-ghost use Rattle.sj_sql.specs.View.{plan_of};
+ghost use Rattle.sj_sql_tree.specs.View.{plan_of};
 
-use crate::tree::NamedPlan;
+use sj_sql_tree::NamedPlan;
 
 /// Operators that a plan may have.
 const MAX_OPERATORS: u32 = 63;

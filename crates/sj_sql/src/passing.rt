@@ -7,11 +7,11 @@ ghost use Rattle.sj_sql.specs.Gives.{Gives};
 
 use crate::literal::passed;
 use crate::refusal::Refusal;
-use crate::seq::Seq;
 use crate::single::{Rest, Tokens, comma, word};
 use sj_base::Memory;
 use sj_sql_grammar::Passed;
 use sj_sql_token::Keyword;
+use sj_sql_tree::Seq;
 use std::alloc::Global;
 
 /// Puts a value at the end.

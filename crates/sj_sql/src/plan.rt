@@ -7,16 +7,16 @@ ghost use Rattle.sj_sql_grammar.specs.Tree as t;
 ghost use Rattle.sj_sql.specs.Gives.{Gives};
 ghost use Rattle.sj_sql.specs.Nests.{PlanNests};
 ghost use Rattle.sj_sql.specs.Plans as plans;
-ghost use Rattle.sj_sql.specs.View.{plan_of, plan_tree_of};
+ghost use Rattle.sj_sql_tree.specs.View.{plan_of, plan_tree_of};
 
 use crate::meaning::meant;
 use crate::operators::has_few_operators;
 use crate::refusal::Refusal;
 use crate::single::{Rest, Tokens, close, comma, name, open, word};
-use crate::tree::{NamedPlan, PlanTree};
 use sj_base::{Memory, Text};
 use sj_sql_grammar::{InOut, Siblings};
 use sj_sql_token::Keyword;
+use sj_sql_tree::{NamedPlan, PlanTree};
 use std::alloc::Global;
 
 fn union_of(alloc: Global, a: NamedPlan, b: NamedPlan) -> Result<NamedPlan, Memory>

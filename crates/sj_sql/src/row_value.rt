@@ -7,15 +7,15 @@ ghost use Rattle.sj_sql_grammar.specs.Reading as reading;
 ghost use Rattle.sj_sql_grammar.specs.Tree as t;
 ghost use Rattle.sj_sql.specs.Gives.{Gives};
 ghost use Rattle.sj_sql.specs.Noted.{faults_of};
-ghost use Rattle.sj_sql.specs.View.{tvalue_of, tvalues_of, tmembers_of};
+ghost use Rattle.sj_sql_tree.specs.View.{tvalue_of, tvalues_of, tmembers_of};
 
 use crate::faults::Faults;
 use crate::refusal::Refusal;
 use crate::single::{Tokens, name};
-use crate::tree::{TMembers, TValue, TValues};
 use crate::value::Level;
 use crate::value_tree::ValueTree;
 use sj_path::Literal;
+use sj_sql_tree::{TMembers, TValue, TValues};
 use sj_value::Nulls;
 use std::alloc::Global;
 

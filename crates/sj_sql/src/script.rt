@@ -5,13 +5,13 @@ ghost use Rattle.std.specs.Option.{option_copied};
 ghost use Rattle.sj_sql_token.specs.Tokens.{lexed};
 ghost use Rattle.sj_sql_grammar.specs.Answers.{IsFile, max_file};
 ghost use Rattle.sj_sql.specs.Script.{fault_of};
-ghost use Rattle.sj_sql.specs.View.{statement_of};
+ghost use Rattle.sj_sql_tree.specs.View.{statement_of};
 
 use crate::answer::Refused;
 use crate::file::{NextStatement, next_statement};
-use crate::tree::Statement;
 use sj_base::Memory;
 use sj_sql_grammar::FileKind;
+use sj_sql_tree::Statement;
 use std::alloc::Global;
 use std::collections::VecDeque;
 use std::marker::Model;
@@ -25,8 +25,8 @@ pub struct Statements {
 impl Model for Statements {
     ghost use Rattle.std.specs.Prelude.{List, length, ◌<◌, ◌^◌};
     ghost use Rattle.std.specs.Coded.{codes};
-    ghost use Rattle.sj_sql.specs.declared.tree.Statement.{Statement};
-    ghost use Rattle.sj_sql.specs.contracts.tree.Statement as statement;
+    ghost use Rattle.sj_sql_tree.specs.declared.tree.Statement.{Statement};
+    ghost use Rattle.sj_sql_tree.specs.contracts.tree.Statement as statement;
 
     ghost Value = { List Statement };
 

@@ -5,7 +5,7 @@ ghost use Rattle.sj_sql_grammar.specs.Faults.{parsing, nothing_noted};
 ghost use Rattle.sj_sql_grammar.specs.Reading as reading;
 ghost use Rattle.sj_sql.specs.Gives.{Gives};
 ghost use Rattle.sj_sql.specs.Noted.{faults_of};
-ghost use Rattle.sj_sql.specs.View.{statement_of};
+ghost use Rattle.sj_sql_tree.specs.View.{statement_of};
 ghost use Rattle.sj_sql.specs.Words as words;
 
 use crate::faults::Faults;
@@ -13,8 +13,8 @@ use crate::item::{listed_items, plain_items};
 use crate::refusal::Refusal;
 use crate::single::{Tokens, same, star, word};
 use crate::table::table;
-use crate::tree::Statement;
 use sj_sql_token::{Keyword, Token};
+use sj_sql_tree::Statement;
 use std::alloc::Global;
 
 /// Whether a token is the word FROM.

@@ -5,7 +5,7 @@ ghost use Rattle.sj_sql_grammar.specs.Faults.{parsing};
 ghost use Rattle.sj_sql_grammar.specs.Reading as reading;
 ghost use Rattle.sj_sql.specs.Gives.{Gives};
 ghost use Rattle.sj_sql.specs.Noted.{faults_of};
-ghost use Rattle.sj_sql.specs.View.{table_of};
+ghost use Rattle.sj_sql_tree.specs.View.{table_of};
 
 use crate::column::columns;
 use crate::common::row_path;
@@ -15,8 +15,8 @@ use crate::phrase::table_clause;
 use crate::plan::plan;
 use crate::refusal::Refusal;
 use crate::single::{Tokens, close, open, word};
-use crate::tree::Table;
 use sj_sql_token::Keyword;
+use sj_sql_tree::Table;
 use sj_value::TableAction;
 use std::alloc::Global;
 

@@ -14,10 +14,10 @@ use crate::member::{Member, member_cells, value_cells};
 use crate::passing::put;
 use crate::phrase::{nulls_clause, unique_clause};
 use crate::refusal::Refusal;
-use crate::seq::Seq;
 use crate::single::{Rest, Tokens, close, colon, comma, open, word};
 use crate::value_tree::ValueTree;
 use sj_sql_token::Keyword;
+use sj_sql_tree::Seq;
 use sj_value::Nulls;
 use std::alloc::Global;
 

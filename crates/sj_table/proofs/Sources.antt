@@ -1,9 +1,9 @@
 -- The source of a path, by its number among paths as they lie in memory.
 use Rattle.std.proofs.Common.{◌≡◌, ℕ, List, map, Some, option_map, slice_get, ap, sym, ◌∙◌}
 use Rattle.std.proofs.lemmas.Option.{slice_get-map}
-use Rattle.sj_path.specs.Tree.{path_of}
-use Rattle.sj_path.specs.declared.tree.Path.{Path}
-use Rattle.sj_path.specs.Vars.{Variables}
+use Rattle.sj_path_tree.specs.Tree.{path_of}
+use Rattle.sj_path_tree.specs.declared.tree.Path.{Path}
+use Rattle.sj_path_tree.specs.Vars.{Variables}
 use Rattle.sj_table.specs.Rows.{source, source_of}
 
 pub source_named : (paths : List Path) (vars : Variables) (n : ℕ) (path : Path)

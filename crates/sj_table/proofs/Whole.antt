@@ -2,7 +2,7 @@
 use Rattle.std.proofs.Common.{◌≡◌, ℕ, List, ap, ◌∙◌}
 use Rattle.sj_item.specs.Items.{ItemValue}
 use Rattle.sj_path_grammar.specs.Tree.{Path}
-use Rattle.sj_path.specs.Vars.{Variables}
+use Rattle.sj_path_tree.specs.Vars.{Variables}
 use Rattle.sj_value.specs.Plans.{PlanTree}
 use Rattle.sj_value.specs.declared.clauses.TableAction.{TableAction}
 use Rattle.sj_table.specs.Rows.{PlanRows, SourcePlan, rows, cost, sourced, plan_rows, plan_cost}

@@ -6,7 +6,7 @@ use Rattle.sj_item.specs.Items.{ItemValue, item_value}
 use Rattle.sj_item.specs.declared.item.Item.{Item}
 use Rattle.sj_path_grammar.specs.Tree as g
 use Rattle.sj_step.specs.Trace.{Trace, stop, items, visits, fault_of}
-use Rattle.sj_path.specs.Vars.{Variables}
+use Rattle.sj_path_tree.specs.Vars.{Variables}
 use Rattle.sj_cursor.specs.Meaning.{path_trace}
 use Rattle.sj_value.specs.Plans.{PlanTree, path_rows, outer_join, inner_join, union_of, cross_of}
 use Rattle.sj_value.specs.declared.clauses.TableAction.{TableAction}

@@ -4,9 +4,9 @@ use Rattle.std.specs.Prelude.{ℕ, List, refl}
 use Rattle.std.specs.Coded.{Coded, code_by, coded×, coded_ℕ, coded_list}
 use Rattle.sj_item.specs.Items.{ItemValue}
 use Rattle.sj_item.specs.Coding.{item_code}
-use Rattle.sj_path.specs.declared.tree.Path.{Path}
-use Rattle.sj_path.specs.contracts.tree.Path as path
-use Rattle.sj_path.specs.Vars.{Variables}
+use Rattle.sj_path_tree.specs.declared.tree.Path.{Path}
+use Rattle.sj_path_tree.specs.contracts.tree.Path as path
+use Rattle.sj_path_tree.specs.Vars.{Variables}
 use Rattle.sj_cursor.specs.Sequel.{variables_code}
 use Rattle.sj_value.specs.declared.plan.Plan.{Plan}
 use Rattle.sj_value.specs.contracts.plan.Plan as plan

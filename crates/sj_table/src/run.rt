@@ -2,7 +2,7 @@
 ghost use Rattle.std.specs.Prelude.{◌≡◌, ◌≤◌, true, IfOk};
 ghost use Rattle.sj_base.specs.Outside.{raised};
 ghost use Rattle.sj_item.specs.Items.{item_value, pull_value};
-ghost use Rattle.sj_path.specs.Tree.{path_of};
+ghost use Rattle.sj_path_tree.specs.Tree.{path_of};
 ghost use Rattle.sj_step.specs.Trace.{visits, fault_of};
 ghost use Rattle.sj_cursor.specs.Draws.{Draws};
 ghost use Rattle.sj_cursor.specs.FaultFree.{fault_free};
@@ -12,7 +12,7 @@ ghost use Rattle.sj_table.specs.declared.run.Faults.TheVariants.{Never};
 use sj_base::{Ledger, Memory, State, Steps};
 use sj_cursor::{Cursor, is_fault_free};
 use sj_item::{Item, Pull};
-use sj_path::{Path, Vars};
+use sj_path_tree::{Path, Vars};
 use std::alloc::Global;
 
 /// Whether a path may end in a fault.

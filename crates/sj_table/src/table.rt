@@ -6,7 +6,7 @@ use crate::cells::Cell;
 use crate::pull::RowPull;
 use sj_base::{Ledger, Memory, Steps};
 use sj_item::Item;
-use sj_path::{Path, Vars};
+use sj_path_tree::{Path, Vars};
 use sj_value::{Plan, TableAction};
 use std::alloc::Global;
 use std::marker::Model;
@@ -52,7 +52,7 @@ impl<'d> Model for TableCursor<'d> {
     ghost coded = { table_code };
 
     ghost use Rattle.sj_item.specs.Items.{item_value};
-    ghost use Rattle.sj_path.specs.Tree.{path_of};
+    ghost use Rattle.sj_path_tree.specs.Tree.{path_of};
     ghost use Rattle.sj_value.specs.Plans.{plan_tree};
     ghost use Rattle.sj_table.specs.Cells.{core, rows_left, rows_due, row_of, answered_left, answered_row, answered_due};
     ghost use Rattle.sj_table.specs.Rows.{sourced};
@@ -64,7 +64,7 @@ impl<'d> Model for TableCursor<'d> {
 
 impl<'d> TableCursor<'d> {
     ghost use Rattle.sj_item.specs.Items.{item_value};
-    ghost use Rattle.sj_path.specs.Tree.{path_of};
+    ghost use Rattle.sj_path_tree.specs.Tree.{path_of};
     ghost use Rattle.sj_value.specs.Plans.{plan_tree, IsPlanOver};
     ghost use Rattle.sj_table.specs.Rows.{entry, entry_value, plan_rows, plan_cost};
     ghost use Rattle.sj_table.specs.Takes.{Advances};

@@ -10,9 +10,9 @@ use Rattle.sj_base.specs.Outside.{raised}
 use Rattle.sj_json.specs.Tree.{Tree}
 use Rattle.sj_json.specs.Document.{document}
 use Rattle.sj_json.specs.Keys.{HasUniqueKeys}
-use Rattle.sj_bind.specs.Bound.{Bound}
-use Rattle.sj_bind.specs.View.{bound_of}
-use Rattle.sj_bind.specs.declared.bound.Bound.{Bound as BoundHeld}
+use Rattle.sj_bound.specs.Bound.{Bound}
+use Rattle.sj_bound.specs.View.{bound_of}
+use Rattle.sj_bound.specs.declared.bound.Bound.{Bound as BoundHeld}
 use Rattle.sj_json.specs.UniqueKeys.{has_unique_keys}
 use Rattle.sj_json.proofs.Distinct.{unique_from, unique_to}
 use Rattle.sj_select.specs.Line.{Line}

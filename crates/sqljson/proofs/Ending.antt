@@ -4,7 +4,7 @@ use Rattle.std.proofs.lemmas.List.{take-append-drop, append-nil}
 use Rattle.std.specs.Io.KnownBytes.{Consumes, IsAtEnd}
 use Rattle.sj_base.specs.Outside.{Files, HasFile, Rose, raised}
 use Rattle.sj_sql_grammar.specs.declared.refusal.FileKind.{FileKind}
-use Rattle.sj_bind.specs.Bound.{Bound}
+use Rattle.sj_bound.specs.Bound.{Bound}
 use Rattle.sj_generated.specs.Lines.{generated}
 use Rattle.sj_page.specs.Sides.{OutputSide, Grew}
 use Rattle.sj_page.specs.Pages.{PageSeen, PrintState}

@@ -2,9 +2,9 @@
 use Rattle.std.proofs.Common.{◌≡◌, ◌≢◌, ◌⊎◌, inl, inr, ℕ, ◌≤◌, List, [], ◌∷◌, ◌++◌, length, map, Option, None, Some, Result, Ok, Err, IsOk, codes, decimal, refl, sym, ◌∙◌, ap, subst, arith}
 use Rattle.std.proofs.lemmas.List.{append-nil, length-map}
 use Rattle.sj_base.specs.Outside.{raised}
-use Rattle.sj_bind.specs.Bound.{Bound}
-use Rattle.sj_bind.specs.View.{bound_of}
-use Rattle.sj_bind.specs.declared.bound.Bound.{Bound as BoundHeld}
+use Rattle.sj_bound.specs.Bound.{Bound}
+use Rattle.sj_bound.specs.View.{bound_of}
+use Rattle.sj_bound.specs.declared.bound.Bound.{Bound as BoundHeld}
 use Rattle.sj_generated.specs.Lines.{most_lines, generated}
 use Rattle.sj_generated.proofs.Lengths.{generated_short}
 use Rattle.sj_page.specs.Sides.{OutputSide, Grew, Wrote, joined}

@@ -6,7 +6,7 @@ use Rattle.sj_base.specs.declared.state.State.{State}
 use Rattle.sj_value.specs.declared.value.SqlValue.{SqlValue}
 use Rattle.sj_table.specs.Series.{Series, done, raises, more, first, rest}
 use Rattle.sj_table.specs.Takes.{Spends}
-use Rattle.sj_bind.specs.Bound.{Bound}
+use Rattle.sj_bound.specs.Bound.{Bound}
 use Rattle.sj_select.specs.Line.{Line}
 use Rattle.sj_select.specs.Rows.{statement_rows, statement_cost}
 use Rattle.sj_select.specs.Seen.{Seen, turn_of, Gives}

@@ -2,7 +2,7 @@
 use Rattle.std.proofs.Common.{◌≡◌, ℕ, suc, ◌+◌, List, [], ◌∷◌, ◌++◌, length, Bor, Option, None, Some, Result, Ok, Err, refl, sym, ◌∙◌, ap, subst, arith, add-one, append_assoc, length-append}
 use Rattle.std.proofs.lemmas.List.{append-nil}
 use Rattle.sj_path_grammar.specs.Tree.{Path}
-use Rattle.sj_bind.specs.Bound.{Bound}
+use Rattle.sj_bound.specs.Bound.{Bound}
 use Rattle.sj_sql_token.specs.Tokens.{lexed}
 use Rattle.sj_sql_grammar.specs.declared.refusal.BindKind.{BindKind}
 use Rattle.sj_sql_grammar.specs.declared.refusal.FileKind.{FileKind}
@@ -15,16 +15,16 @@ use Rattle.sj_sql.specs.declared.answer.Refused.{Refused as RefusedTree}
 use Rattle.sj_sql.specs.declared.answer.Refused.TheVariants as no
 use Rattle.sj_sql.specs.declared.file.NextStatement.{NextStatement}
 use Rattle.sj_sql.specs.declared.file.NextStatement.TheVariants as tree
-use Rattle.sj_sql.specs.declared.tree.Statement.{Statement as StatementHeld}
-use Rattle.sj_sql.specs.View.{statement_of}
+use Rattle.sj_sql_tree.specs.declared.tree.Statement.{Statement as StatementHeld}
+use Rattle.sj_sql_tree.specs.View.{statement_of}
 use Rattle.sj_sql.specs.File.{EndsBy, IsFirst, IsNext, RefusesFirst}
 use Rattle.sj_sql.proofs.Files.{first_read, none_read}
 use Rattle.sj_bind.specs.Meaning.{bound}
 use Rattle.sj_bind.specs.Rules.{bind_fault}
 use Rattle.sj_bind.specs.Answer.{Binds}
-use Rattle.sj_bind.specs.Sound.{IsSound}
-use Rattle.sj_bind.specs.View.{bound_of}
-use Rattle.sj_bind.specs.declared.bound.Bound.{Bound as BoundHeld}
+use Rattle.sj_bound.specs.Sound.{IsSound}
+use Rattle.sj_bound.specs.View.{bound_of}
+use Rattle.sj_bound.specs.declared.bound.Bound.{Bound as BoundHeld}
 use Rattle.sj_bind.specs.declared.refusal.BindRefusal.{BindRefusal}
 use Rattle.sj_bind.specs.declared.refusal.BindRefusal.TheVariants as bind
 use Rattle.sqljson.specs.Verdict.{unless_fault, before_others, judged, IsVerdict, Accepts, Refuses}

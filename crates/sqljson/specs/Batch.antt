@@ -5,8 +5,8 @@ use Rattle.sj_rows.specs.Lines.{is_blank_byte}
 use Rattle.sj_rows.specs.Held.{Held}
 use Rattle.sj_json.specs.Tree.{Tree}
 use Rattle.sj_json.specs.Document.{document}
-use Rattle.sj_bind.specs.Bound.{Bound}
-use Rattle.sj_bind.specs.View.{bound_of}
+use Rattle.sj_bound.specs.Bound.{Bound}
+use Rattle.sj_bound.specs.View.{bound_of}
 use Rattle.sj_json.specs.UniqueKeys.{has_unique_keys}
 use Rattle.sj_select.specs.Line.{Line, not_json, repeated, json}
 use Rattle.sj_select.specs.Seen.{Seen}

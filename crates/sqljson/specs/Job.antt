@@ -1,9 +1,9 @@
 -- What is run over the lines of an input.
 use Rattle.std.specs.Prelude.{ℕ, ◌<◌, ◌^◌, List, length, map, All}
-use Rattle.sj_bind.specs.Bound.{Bound}
-use Rattle.sj_bind.specs.Sound.{IsSound}
-use Rattle.sj_bind.specs.View.{bound_of}
-use Rattle.sj_bind.specs.declared.bound.Bound.{Bound as BoundHeld}
+use Rattle.sj_bound.specs.Bound.{Bound}
+use Rattle.sj_bound.specs.Sound.{IsSound}
+use Rattle.sj_bound.specs.View.{bound_of}
+use Rattle.sj_bound.specs.declared.bound.Bound.{Bound as BoundHeld}
 use Rattle.sqljson.specs.declared.job.Keys.{Keys}
 use Rattle.sqljson.specs.declared.job.Job.{Job as JobHeld}
 

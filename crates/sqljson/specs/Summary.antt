@@ -1,6 +1,6 @@
 -- What `selfrun` tells of a run over generated lines.
 use Rattle.std.specs.Prelude.{ℕ, ◌-◌, ◌^◌, min, List, [], ◌∷◌, length, codes, decimal}
-use Rattle.sj_bind.specs.Bound.{Bound}
+use Rattle.sj_bound.specs.Bound.{Bound}
 use Rattle.sj_generated.specs.Lines.{generated}
 use Rattle.sj_page.specs.Sides.{joined}
 use Rattle.sqljson.specs.declared.job.Keys.TheVariants.{Any}

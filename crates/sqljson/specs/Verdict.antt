@@ -7,7 +7,7 @@ use Rattle.sj_sql_grammar.specs.declared.refusal.FileKind.{FileKind}
 use Rattle.sj_sql_grammar.specs.declared.refusal.FileKind.TheVariants.{Bind}
 use Rattle.sj_sql_grammar.specs.Tree.{Statement}
 use Rattle.sj_sql_grammar.specs.Answers.{IsFile}
-use Rattle.sj_bind.specs.Bound.{Bound}
+use Rattle.sj_bound.specs.Bound.{Bound}
 use Rattle.sj_bind.specs.Meaning.{bound}
 use Rattle.sj_bind.specs.Rules.{bind_fault}
 

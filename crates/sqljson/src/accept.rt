@@ -1,6 +1,6 @@
 // The statements of the file that the words name.
 ghost use Rattle.std.specs.Prelude.{◌<◌, length, map, IfOk, MatchResult};
-ghost use Rattle.sj_bind.specs.View.{bound_of};
+ghost use Rattle.sj_bound.specs.View.{bound_of};
 ghost use Rattle.sqljson.specs.File.{shelf_at};
 ghost use Rattle.sqljson.specs.Job.{AreSound, statement_limit};
 ghost use Rattle.sqljson.specs.Ran.{Accepted, AcceptedSoMany, IsUnaccepted};

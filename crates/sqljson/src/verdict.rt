@@ -1,6 +1,6 @@
 // What is made of a file of statements, which are read and bound one after the other.
 ghost use Rattle.std.specs.Prelude.{◌≡◌, ◌<◌, ◌≤◌, length, map, IfOk, IfErr};
-ghost use Rattle.sj_bind.specs.View.{bound_of};
+ghost use Rattle.sj_bound.specs.View.{bound_of};
 ghost use Rattle.sj_sql_grammar.specs.Answers.{max_file};
 ghost use Rattle.sqljson.specs.Job.{AreSound, statement_limit};
 ghost use Rattle.sqljson.specs.Verdict.{Accepts};

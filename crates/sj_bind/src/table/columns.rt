@@ -1,19 +1,19 @@
 //! The paths and columns of a table, taken from its tree.
 
 ghost use Rattle.std.specs.Prelude.{◌≡◌, ◌+◌, ◌<◌, ◌≤◌, ◌-◌, ◌^◌, ◌++◌, ◌∷◌, [], length, OnOk, IfOk};
-ghost use Rattle.sj_path.specs.Tree.{path_of};
-ghost use Rattle.sj_sql.specs.View.{columns_of, column_of, regular_of, formatted_of};
+ghost use Rattle.sj_path_tree.specs.Tree.{path_of};
+ghost use Rattle.sj_sql_tree.specs.View.{columns_of, column_of, regular_of, formatted_of};
 ghost use Rattle.sj_bind.specs.Tables.{names_in, names_below};
 ghost use Rattle.sj_bind.specs.Taken.{CanTake, CanTakeIn, taken_paths, taken_paths_in, taken_columns, taken_columns_in};
-ghost use Rattle.sj_bind.specs.View as bound;
+ghost use Rattle.sj_bound.specs.View as bound;
 ghost use Rattle.sj_bind.specs.Meaning.{column_under};
 ghost use Rattle.sj_sql_grammar.specs.Tree as t;
 
-use crate::bound::BoundColumn;
 use crate::clauses::{query_clauses, value_clauses};
 use sj_base::Memory;
-use sj_path::Path;
-use sj_sql::{Column, Columns, FormattedColumn, RegularColumn, Seq};
+use sj_bound::BoundColumn;
+use sj_path_tree::Path;
+use sj_sql_tree::{Column, Columns, FormattedColumn, RegularColumn, Seq};
 use std::alloc::Global;
 
 /// What is taken from a table: its paths, and its columns, each with the number of its path.

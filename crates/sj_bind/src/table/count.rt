@@ -1,14 +1,14 @@
 //! How many columns and paths a table has.
 
 ghost use Rattle.std.specs.Prelude.{◌≡◌, length};
-ghost use Rattle.sj_sql.specs.View.{table_of, columns_of, column_of};
+ghost use Rattle.sj_sql_tree.specs.View.{table_of, columns_of, column_of};
 ghost use Rattle.sj_bind.specs.Tables as spec;
 ghost use Rattle.sj_bind.specs.Tables.{names_in, names_below};
 ghost use Rattle.sj_bind.specs.Paths.{paths_in, paths_below};
 ghost use Rattle.sj_bind.specs.Counts.{Adds};
 
 use super::counts::{Counts, MOST_COLUMNS, MOST_PATHS};
-use sj_sql::{Column, Columns, Table};
+use sj_sql_tree::{Column, Columns, Table};
 
 /// Whether the table has too many columns or paths.
 pub fn has_too_many(table: &Table) -> bool

@@ -1,7 +1,7 @@
 //! Whether a plan with names matches the paths of its table.
 
 ghost use Rattle.std.specs.Prelude.{◌≡◌, ℕ, ◌+◌, ◌-◌, ◌<◌, ◌≤◌, ◌^◌, ◌&&◌, false, min, length};
-ghost use Rattle.sj_sql.specs.View.{table_of, columns_of, column_of, plan_of};
+ghost use Rattle.sj_sql_tree.specs.View.{table_of, columns_of, column_of, plan_of};
 ghost use Rattle.sj_bind.specs.Tables.{has_too_many};
 ghost use Rattle.sj_bind.specs.Paths.{paths_below, children_in, children, table_paths};
 ghost use Rattle.sj_bind.specs.Plans as spec;
@@ -9,7 +9,7 @@ ghost use Rattle.sj_bind.specs.Plans.{standing, each_once, name_count};
 
 use super::paths::{Place, find_path, has_nested};
 use sj_base::Text;
-use sj_sql::{Column, Columns, NamedPlan, PlanTree, Table};
+use sj_sql_tree::{Column, Columns, NamedPlan, PlanTree, Table};
 
 /// Whether the table has a plan with names that does not match its paths.
 pub fn has_plan_mismatch(table: &Table) -> bool

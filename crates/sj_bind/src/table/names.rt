@@ -1,14 +1,14 @@
 //! Names that stand twice in a table.
 
 ghost use Rattle.std.specs.Prelude.{◌≡◌, false, ◌++◌, ◌∷◌, [], IfOk};
-ghost use Rattle.sj_sql.specs.View.{table_of, columns_of, column_of};
+ghost use Rattle.sj_sql_tree.specs.View.{table_of, columns_of, column_of};
 ghost use Rattle.sj_bind.specs.Tables as spec;
 ghost use Rattle.sj_bind.specs.Tables.{names_in, names_below, path_names_in, path_names_below, has_twice};
 ghost use Rattle.sj_bind.specs.Names.{names_of};
 
 use crate::name_set::NameSet;
 use sj_base::Memory;
-use sj_sql::{Column, Columns, Table};
+use sj_sql_tree::{Column, Columns, Table};
 use std::alloc::Global;
 
 /// Whether two columns have equal names. The names are kept in a set, which takes memory.

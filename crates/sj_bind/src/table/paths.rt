@@ -1,14 +1,14 @@
 //! The nested paths of a table.
 
 ghost use Rattle.std.specs.Prelude.{◌≡◌, ℕ, ◌+◌, ◌<◌, ◌≤◌, ◌^◌, not, length, IfSome, option_map};
-ghost use Rattle.sj_sql.specs.View.{table_of, columns_of, column_of};
+ghost use Rattle.sj_sql_tree.specs.View.{table_of, columns_of, column_of};
 ghost use Rattle.sj_bind.specs.Tables as spec;
 ghost use Rattle.sj_bind.specs.Tables.{lacks_name_in, lacks_name_below};
 ghost use Rattle.sj_bind.specs.Paths.{paths_in, paths_below, children_in, children};
 ghost use Rattle.sj_bind.specs.Plans.{is_nil, path_named};
 ghost use Rattle.sj_bind.specs.Places.{child_of};
 
-use sj_sql::{Column, Columns, PlanTree, Table};
+use sj_sql_tree::{Column, Columns, PlanTree, Table};
 
 /// A nested path: its number and its columns.
 #[derive(Clone, Copy)]

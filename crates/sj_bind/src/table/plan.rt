@@ -2,7 +2,7 @@
 
 ghost use Rattle.std.specs.Prelude.{◌≡◌, ◌+◌, ◌<◌, ◌≤◌, ◌^◌, ◌∷◌, [], true, false, length, option_map, None, IfOk};
 ghost use Rattle.sj_value.specs.Plans.{plan_tree, outer_join, inner_join, union_of, cross_of, IsPlanOver};
-ghost use Rattle.sj_sql.specs.View.{table_of, columns_of, column_of, plan_of, plan_tree_of};
+ghost use Rattle.sj_sql_tree.specs.View.{table_of, columns_of, column_of, plan_of, plan_tree_of};
 ghost use Rattle.sj_bind.specs.Tables.{has_too_many, has_path_name_twice};
 ghost use Rattle.sj_bind.specs.Paths.{paths_in, paths_below, children, row_path, table_paths};
 ghost use Rattle.sj_bind.specs.Plans as spec;
@@ -11,8 +11,8 @@ ghost use Rattle.sj_bind.specs.Grown.{one_more, grown_in, grown_below};
 
 use super::paths::{count_paths_in, find_path};
 use sj_base::Memory;
-use sj_sql::{Column, Columns, NamedPlan, PlanTree, Table};
 use sj_sql_grammar::{InOut, Siblings};
+use sj_sql_tree::{Column, Columns, NamedPlan, PlanTree, Table};
 use sj_value::Plan;
 use std::alloc::Global;
 

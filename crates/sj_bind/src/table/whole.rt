@@ -2,25 +2,25 @@
 
 ghost use Rattle.std.specs.Prelude.{◌≡◌, ◌+◌, ◌<◌, ◌≤◌, ◌^◌, ◌∷◌, false, length, IfOk};
 ghost use Rattle.std.specs.List.{list_any};
-ghost use Rattle.sj_path.specs.Tree.{path_of};
-ghost use Rattle.sj_sql.specs.View.{table_of, columns_of};
+ghost use Rattle.sj_path_tree.specs.Tree.{path_of};
+ghost use Rattle.sj_sql_tree.specs.View.{table_of, columns_of};
 ghost use Rattle.sj_bind.specs.Tables as spec;
 ghost use Rattle.sj_bind.specs.Tables.{names_below, columns_below};
 ghost use Rattle.sj_bind.specs.Paths.{paths_below};
 ghost use Rattle.sj_bind.specs.Plans.{has_plan_mismatch};
 ghost use Rattle.sj_bind.specs.Rules.{passes_twice, column_default_fails, all_columns, paths_alone};
-ghost use Rattle.sj_bind.specs.Sound.{IsBindableTable};
+ghost use Rattle.sj_bind.specs.Bindable.{IsBindableTable};
 ghost use Rattle.sj_bind.specs.Meaning.{bound_table, bound_columns};
 ghost use Rattle.sj_bind.specs.Taken.{CanTake};
-ghost use Rattle.sj_bind.specs.View as bound;
+ghost use Rattle.sj_bound.specs.View as bound;
 
 use super::columns::{Taken, put_path, take_columns};
 use super::plan::table_plan;
-use crate::bound::BoundTable;
 use crate::variables::passed_vars;
 use sj_base::Memory;
-use sj_path::Path;
-use sj_sql::{Columns, Common, Seq, Table};
+use sj_bound::BoundTable;
+use sj_path_tree::Path;
+use sj_sql_tree::{Columns, Common, Seq, Table};
 use std::alloc::Global;
 
 /// The table, bound.

@@ -1,5 +1,5 @@
 use Rattle.std.proofs.Common.{sym, ◌∙◌}
-use Rattle.sj_sql.specs.View.{table_of}
+use Rattle.sj_sql_tree.specs.View.{table_of}
 use Rattle.sj_bind.proofs.UnbrokenRules.{clean_all}
 use Rattle.sj_bind.proofs.binding.bind_all.Goals as goal
 

@@ -1,10 +1,10 @@
 use Rattle.std.proofs.Common.{◌≡◌, ◌+◌, ◌++◌, length}
 use Rattle.std.specs.Vec.Iter.{into_iter_items}
-use Rattle.sj_sql.specs.View.{items_of}
+use Rattle.sj_sql_tree.specs.View.{items_of}
 use Rattle.sj_bind.specs.Fits.{AreItemsNamed}
 use Rattle.sj_bind.specs.Meaning.{bound_items}
 use Rattle.sj_bind.specs.Names.{names_of}
-use Rattle.sj_bind.specs.View as view
+use Rattle.sj_bound.specs.View as view
 use Rattle.sj_bind.proofs.binding.bind_items.Given as goal
 
 -- the items so far, and those that are left

@@ -1,6 +1,6 @@
 use Rattle.std.proofs.Common.{ap}
 use Rattle.std.specs.Vec.Iter.{into_iter_items}
-use Rattle.sj_bind.specs.Bound as b
+use Rattle.sj_bound.specs.Bound as b
 use Rattle.sj_bind.proofs.Listed.{value_step}
 use Rattle.sj_bind.proofs.binding.bind_list.Goals as goal
 

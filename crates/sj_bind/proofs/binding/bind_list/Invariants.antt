@@ -1,9 +1,9 @@
 use Rattle.std.proofs.Common.{◌≡◌, ◌+◌, ◌++◌, length}
 use Rattle.std.specs.Vec.Iter.{into_iter_items}
-use Rattle.sj_sql.specs.View.{plain_of}
+use Rattle.sj_sql_tree.specs.View.{plain_of}
 use Rattle.sj_bind.specs.Fits.{AreListFit}
 use Rattle.sj_bind.specs.Meaning.{bound_list}
-use Rattle.sj_bind.specs.View as view
+use Rattle.sj_bound.specs.View as view
 use Rattle.sj_bind.proofs.binding.bind_list.Given as goal
 
 -- the items so far, and the values that are left

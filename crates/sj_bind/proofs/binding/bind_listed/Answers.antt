@@ -1,5 +1,5 @@
 use Rattle.std.proofs.Common.{sym, ◌∙◌, arith}
-use Rattle.sj_sql.specs.View.{items_of, table_of}
+use Rattle.sj_sql_tree.specs.View.{items_of, table_of}
 use Rattle.sj_bind.proofs.UnbrokenRules.{clean_list}
 use Rattle.sj_bind.proofs.Groups.{length-items_of}
 use Rattle.sj_bind.proofs.binding.bind_listed.Goals as goal

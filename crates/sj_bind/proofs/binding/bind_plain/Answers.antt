@@ -1,5 +1,5 @@
 use Rattle.std.proofs.Common.{sym, ◌∙◌, arith}
-use Rattle.sj_sql.specs.View.{plain_of}
+use Rattle.sj_sql_tree.specs.View.{plain_of}
 use Rattle.sj_bind.proofs.UnbrokenRules.{clean_plain}
 use Rattle.sj_bind.proofs.Groups.{length-plain_of}
 use Rattle.sj_bind.proofs.binding.bind_plain.Goals as goal

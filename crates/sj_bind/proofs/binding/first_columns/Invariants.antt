@@ -1,6 +1,6 @@
 use Rattle.std.proofs.Common.{◌≡◌, length}
 use Rattle.sj_bind.specs.Meaning.{columns_below}
-use Rattle.sj_bind.specs.View as view
+use Rattle.sj_bound.specs.View as view
 use Rattle.sj_bind.proofs.binding.first_columns.Given as goal
 
 -- the columns so far

@@ -1,7 +1,7 @@
 use Rattle.std.proofs.Common.{subst, sym}
 use Rattle.sj_bind.specs.declared.parts.Call.{Call}
 use Rattle.sj_bind.specs.PartsView.{call_of}
-use Rattle.sj_bind.specs.Sound.{IsBindableCall}
+use Rattle.sj_bind.specs.Bindable.{IsBindableCall}
 use Rattle.sj_bind.proofs.IndexedParts.{call_at}
 use Rattle.sj_bind.proofs.calls.some_default_fails.Goals as goal
 

@@ -1,6 +1,6 @@
 use Rattle.std.proofs.Common.{◌≡◌, vec_len}
-use Rattle.sj_bind.specs.Bound.{NoMembers}
-use Rattle.sj_bind.specs.View.{members_of}
+use Rattle.sj_bound.specs.Bound.{NoMembers}
+use Rattle.sj_bound.specs.View.{members_of}
 use Rattle.sj_bind.specs.Chains.{chained_members}
 use Rattle.sj_bind.proofs.chains.chain_members.Given as goal
 

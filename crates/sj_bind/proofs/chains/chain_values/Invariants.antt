@@ -1,6 +1,6 @@
 use Rattle.std.proofs.Common.{◌≡◌, vec_len}
-use Rattle.sj_bind.specs.Bound.{NoValues}
-use Rattle.sj_bind.specs.View.{values_of}
+use Rattle.sj_bound.specs.Bound.{NoValues}
+use Rattle.sj_bound.specs.View.{values_of}
 use Rattle.sj_bind.specs.Chains.{chained}
 use Rattle.sj_bind.proofs.chains.chain_values.Given as goal
 

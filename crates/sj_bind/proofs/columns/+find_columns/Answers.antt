@@ -1,6 +1,6 @@
 use Rattle.std.proofs.Common.{arith, rules}
 use Rattle.std.proofs.lemmas.Grind.{common_steps}
-use Rattle.sj_sql.specs.declared.tree.Column.TheViews.{the_lemmas}
+use Rattle.sj_sql_tree.specs.declared.tree.Column.TheViews.{the_lemmas}
 use Rattle.sj_bind.proofs.Found.{found}
 use Rattle.sj_bind.proofs.LeafLists.{listed}
 use Rattle.sj_bind.proofs.columns.+find_columns.Goals as goal

@@ -1,6 +1,6 @@
 use Rattle.std.proofs.Common.{◌≡◌, ◌++◌, ◌≤◌}
-use Rattle.sj_sql.specs.declared.tree.Columns.{size-Columns}
-use Rattle.sj_sql.specs.View.{columns_of}
+use Rattle.sj_sql_tree.specs.declared.tree.Columns.{size-Columns}
+use Rattle.sj_sql_tree.specs.View.{columns_of}
 use Rattle.sj_bind.specs.Leaves.{leaves}
 use Rattle.sj_bind.specs.PartsView.{columns_at, paths_at}
 use Rattle.sj_bind.specs.Paths.{paths_below}

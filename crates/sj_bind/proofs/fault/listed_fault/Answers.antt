@@ -1,4 +1,4 @@
-use Rattle.sj_sql.specs.View.{items_of, table_of}
+use Rattle.sj_sql_tree.specs.View.{items_of, table_of}
 use Rattle.sj_bind.proofs.Groups.{listed_stops}
 use Rattle.sj_bind.proofs.fault.listed_fault.Goals as goal
 

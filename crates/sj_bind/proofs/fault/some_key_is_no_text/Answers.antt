@@ -1,7 +1,7 @@
 use Rattle.std.proofs.Common.{List, ap, subst, ◌∙◌}
 use Rattle.sj_path_grammar.specs.Tree.{Path}
 use Rattle.sj_sql_grammar.specs.Tree.{ColumnOf}
-use Rattle.sj_sql.specs.View.{table_of}
+use Rattle.sj_sql_tree.specs.View.{table_of}
 use Rattle.sj_bind.specs.Names.{names_of}
 use Rattle.sj_bind.specs.PartsView.{columns_at, row_keys_of}
 use Rattle.sj_bind.specs.Rules.{all_columns, text_names}

@@ -1,6 +1,6 @@
 use Rattle.std.proofs.Common.{◌≡◌, drop}
 use Rattle.std.specs.List.{list_any}
-use Rattle.sj_sql.specs.View.{items_of}
+use Rattle.sj_sql_tree.specs.View.{items_of}
 use Rattle.sj_bind.specs.Rules.{is_aggregate}
 use Rattle.sj_bind.proofs.items.some_is_aggregate.Given as goal
 

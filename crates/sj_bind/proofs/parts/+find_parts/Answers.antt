@@ -1,6 +1,6 @@
 use Rattle.std.proofs.Common.{arith, rules}
 use Rattle.std.proofs.lemmas.Grind.{common_steps}
-use Rattle.sj_sql.specs.declared.tree.SMembers.TheViews.{the_lemmas}
+use Rattle.sj_sql_tree.specs.declared.tree.SMembers.TheViews.{the_lemmas}
 use Rattle.sj_bind.proofs.Found.{found}
 use Rattle.sj_bind.proofs.parts.+find_parts.Goals as goal
 

@@ -1,7 +1,7 @@
 use Rattle.std.proofs.Common.{◌≡◌, ◌++◌, ◌≤◌}
-use Rattle.sj_sql.specs.declared.tree.SMembers.{size-SMembers}
-use Rattle.sj_sql.specs.declared.tree.SValues.{size-SValues}
-use Rattle.sj_sql.specs.View.{svalues_of, smembers_of}
+use Rattle.sj_sql_tree.specs.declared.tree.SMembers.{size-SMembers}
+use Rattle.sj_sql_tree.specs.declared.tree.SValues.{size-SValues}
+use Rattle.sj_sql_tree.specs.View.{svalues_of, smembers_of}
 use Rattle.sj_bind.specs.Parts.{calls_in_values, calls_in_members, keys_in_values, keys_in_members}
 use Rattle.sj_bind.specs.PartsView.{calls_of, keys_of}
 use Rattle.sj_bind.proofs.parts.+find_parts.Given as goal

@@ -1,5 +1,5 @@
 use Rattle.std.proofs.Common.{◌≡◌, ◌++◌, drop}
-use Rattle.sj_sql.specs.View.{plain_of}
+use Rattle.sj_sql_tree.specs.View.{plain_of}
 use Rattle.sj_bind.specs.Parts.{calls_in_list, keys_in_list}
 use Rattle.sj_bind.specs.PartsView.{calls_of, keys_of}
 use Rattle.sj_bind.proofs.parts.find_all.Given as goal

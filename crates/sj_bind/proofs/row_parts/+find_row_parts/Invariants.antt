@@ -1,7 +1,7 @@
 use Rattle.std.proofs.Common.{◌≡◌, ◌++◌, ◌≤◌}
-use Rattle.sj_sql.specs.declared.tree.TMembers.{size-TMembers}
-use Rattle.sj_sql.specs.declared.tree.TValues.{size-TValues}
-use Rattle.sj_sql.specs.View.{tvalues_of, tmembers_of}
+use Rattle.sj_sql_tree.specs.declared.tree.TMembers.{size-TMembers}
+use Rattle.sj_sql_tree.specs.declared.tree.TValues.{size-TValues}
+use Rattle.sj_sql_tree.specs.View.{tvalues_of, tmembers_of}
 use Rattle.sj_bind.specs.Parts.{names_in_values, names_in_members, keys_in_values, keys_in_members}
 use Rattle.sj_bind.specs.PartsView.{texts_of, row_keys_of}
 use Rattle.sj_bind.proofs.row_parts.+find_row_parts.Given as goal

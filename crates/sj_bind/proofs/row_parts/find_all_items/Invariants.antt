@@ -1,5 +1,5 @@
 use Rattle.std.proofs.Common.{◌≡◌, ◌++◌, drop}
-use Rattle.sj_sql.specs.View.{items_of}
+use Rattle.sj_sql_tree.specs.View.{items_of}
 use Rattle.sj_bind.specs.Parts.{names_in_items, keys_in_items}
 use Rattle.sj_bind.specs.PartsView.{texts_of, row_keys_of}
 use Rattle.sj_bind.proofs.row_parts.find_all_items.Given as goal

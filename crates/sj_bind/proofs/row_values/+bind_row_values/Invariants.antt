@@ -1,7 +1,7 @@
 use Rattle.std.proofs.Common.{◌≡◌, ◌≤◌}
-use Rattle.sj_sql.specs.declared.tree.TMembers.{size-TMembers}
-use Rattle.sj_sql.specs.declared.tree.TValues.{size-TValues}
-use Rattle.sj_sql.specs.View.{tvalues_of, tmembers_of}
+use Rattle.sj_sql_tree.specs.declared.tree.TMembers.{size-TMembers}
+use Rattle.sj_sql_tree.specs.declared.tree.TValues.{size-TValues}
+use Rattle.sj_sql_tree.specs.View.{tvalues_of, tmembers_of}
 use Rattle.sj_bind.specs.Chains.{chained, chained_members}
 use Rattle.sj_bind.specs.Names.{names_of}
 use Rattle.sj_bind.specs.Fits.{AreAllNamed, AreMembersNamed}

@@ -1,7 +1,7 @@
 use Rattle.std.proofs.Common.{subst, sym, Bor}
-use Rattle.sj_sql.specs.declared.tree.Column.{Column}
-use Rattle.sj_sql.specs.View.{column_of}
-use Rattle.sj_bind.specs.Sound.{IsBindableColumn}
+use Rattle.sj_sql_tree.specs.declared.tree.Column.{Column}
+use Rattle.sj_sql_tree.specs.View.{column_of}
+use Rattle.sj_bind.specs.Bindable.{IsBindableColumn}
 use Rattle.sj_bind.proofs.IndexedParts.{column_at}
 use Rattle.sj_bind.proofs.table_rules.some_column_default_fails.Goals as goal
 

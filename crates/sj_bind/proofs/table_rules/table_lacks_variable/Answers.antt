@@ -1,6 +1,6 @@
 use Rattle.std.proofs.Common.{List, subst, arith}
 use Rattle.std.proofs.lemmas.Grind.{common_steps}
-use Rattle.sj_sql.specs.View.{table_of}
+use Rattle.sj_sql_tree.specs.View.{table_of}
 use Rattle.sj_sql_grammar.specs.declared.clauses.Passed.{Passed}
 use Rattle.sj_bind.specs.Names.{names_of}
 use Rattle.sj_bind.specs.Rules.{all_paths, all_columns}

@@ -1,7 +1,7 @@
 use Rattle.std.proofs.Common.{◌≡◌, ◌≤◌, []}
-use Rattle.sj_sql.specs.declared.tree.SMembers.{size-SMembers}
-use Rattle.sj_sql.specs.declared.tree.SValues.{size-SValues}
-use Rattle.sj_sql.specs.View.{svalues_of, smembers_of}
+use Rattle.sj_sql_tree.specs.declared.tree.SMembers.{size-SMembers}
+use Rattle.sj_sql_tree.specs.declared.tree.SValues.{size-SValues}
+use Rattle.sj_sql_tree.specs.View.{svalues_of, smembers_of}
 use Rattle.sj_bind.specs.Chains.{chained, chained_members}
 use Rattle.sj_bind.specs.Fits.{AreFit, AreFitMembers}
 use Rattle.sj_bind.specs.Meaning.{bound_values, bound_members}

@@ -1,6 +1,6 @@
 use Rattle.std.proofs.Common.{◌≡◌, ℕ, List, ◌||◌, length}
 use Rattle.sj_base.specs.Names.{is_among}
-use Rattle.sj_path.specs.Vars.{has_name}
+use Rattle.sj_path_tree.specs.Vars.{has_name}
 use Rattle.sj_bind.specs.Clauses.{passed}
 use Rattle.sj_bind.specs.Names.{names_of}
 use Rattle.sj_bind.proofs.variables.variable_names.Given as goal

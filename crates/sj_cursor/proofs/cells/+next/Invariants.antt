@@ -1,6 +1,6 @@
 use Rattle.std.proofs.Common.{◌≡◌, ◌+◌, ◌*◌}
 use Rattle.sj_item.specs.Pairs.{items_compare}
-use Rattle.sj_path.specs.Nodes.{expr_nodes, sub_nodes, subs_nodes, pred_nodes}
+use Rattle.sj_path_tree.specs.Nodes.{expr_nodes, sub_nodes, subs_nodes, pred_nodes}
 use Rattle.sj_step.specs.Trace.{count}
 use Rattle.sj_cursor.specs.Cells.{env_value, beside_truth}
 use Rattle.sj_cursor.specs.Draws.{Approaches}

@@ -1,7 +1,7 @@
 use Rattle.std.proofs.Common.{ap, sym, ◌∙◌}
 use Rattle.sj_path_grammar.specs.Tree as t
 use Rattle.sj_doc.specs.Slots.{texts}
-use Rattle.sj_path.specs.Tree.{expr_of, step_of}
+use Rattle.sj_path_tree.specs.Tree.{expr_of, step_of}
 use Rattle.sj_cursor.specs.Chains.{accessed}
 use Rattle.sj_cursor.proofs.Chains.{key_behind}
 use Rattle.sj_cursor.proofs.chain.+collect.Goals as goal

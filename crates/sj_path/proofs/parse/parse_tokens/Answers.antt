@@ -3,7 +3,7 @@ use Rattle.std.proofs.lemmas.Result.{err_from_is_err_and}
 use Rattle.sj_path_grammar.specs.Misplaced.{misplaced_expr}
 use Rattle.sj_path_grammar.proofs.Paths.{refused, spelled, finishes}
 use Rattle.sj_path.specs.Raw as raw
-use Rattle.sj_path.specs.Tree.{path_of}
+use Rattle.sj_path_tree.specs.Tree.{path_of}
 use Rattle.sj_path.proofs.parse.parse_tokens.Goals as goal
 
 pub returns-in_err-path : goal.returns-in_err-path

@@ -1,9 +1,9 @@
 use Rattle.std.proofs.Common.{◌≡◌, ◌++◌, ◌∷◌, [], Vec, Global, refl, sym, ap, subst, ◌∙◌}
 use Rattle.std.specs.List.{All}
 use Rattle.std.proofs.lemmas.List.{append-nil}
-use Rattle.sj_bind.specs.View.{item_of, items_of, value_of}
-use Rattle.sj_bind.specs.declared.bound.BoundValue.{BoundValue}
-use Rattle.sj_bind.specs.declared.bound.BoundItem.{BoundItem}
+use Rattle.sj_bound.specs.View.{item_of, items_of, value_of}
+use Rattle.sj_bound.specs.declared.bound.BoundValue.{BoundValue}
+use Rattle.sj_bound.specs.declared.bound.BoundItem.{BoundItem}
 use Rattle.sj_select.specs.Aggregates.{aggregates_in, array_of, object_of}
 use Rattle.sj_select.specs.Operations.{steps_to}
 use Rattle.sj_select.specs.Performing.{CanBeGiven}

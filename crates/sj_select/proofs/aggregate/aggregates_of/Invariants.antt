@@ -1,6 +1,6 @@
 use Rattle.std.proofs.Common.{◌≡◌, ◌++◌, map, drop}
 use Rattle.std.specs.List.{All}
-use Rattle.sj_bind.specs.View.{items_of}
+use Rattle.sj_bound.specs.View.{items_of}
 use Rattle.sj_select.specs.Aggregates.{aggregates_in}
 use Rattle.sj_select.specs.Taking.{aggregate_of, IsReady}
 use Rattle.sj_select.proofs.aggregate.aggregates_of.Given as goal

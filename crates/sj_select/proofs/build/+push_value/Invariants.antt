@@ -1,7 +1,7 @@
 use Rattle.std.proofs.Common.{◌≡◌, ◌++◌, ◌≤◌, ◌+◌, length}
-use Rattle.sj_bind.specs.declared.bound.BoundMembers.{size-BoundMembers}
-use Rattle.sj_bind.specs.declared.bound.BoundValues.{size-BoundValues}
-use Rattle.sj_bind.specs.View.{values_of, members_of}
+use Rattle.sj_bound.specs.declared.bound.BoundMembers.{size-BoundMembers}
+use Rattle.sj_bound.specs.declared.bound.BoundValues.{size-BoundValues}
+use Rattle.sj_bound.specs.View.{values_of, members_of}
 use Rattle.sj_select.specs.Operations.{steps_of, steps_to_values, steps_to_members, value_count, member_count}
 use Rattle.sj_select.proofs.build.+push_value.Given as goal
 

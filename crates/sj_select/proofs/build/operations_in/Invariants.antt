@@ -1,5 +1,5 @@
 use Rattle.std.proofs.Common.{◌≡◌, ◌++◌, drop}
-use Rattle.sj_bind.specs.View.{items_of}
+use Rattle.sj_bound.specs.View.{items_of}
 use Rattle.sj_select.specs.Operations.{steps_of, steps_to_all}
 use Rattle.sj_select.specs.Rows.{values_in}
 use Rattle.sj_select.proofs.build.operations_in.Given as goal

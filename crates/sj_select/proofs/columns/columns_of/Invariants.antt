@@ -1,5 +1,5 @@
 use Rattle.std.proofs.Common.{◌≡◌, ◌++◌, map, drop}
-use Rattle.sj_bind.specs.View as bound
+use Rattle.sj_bound.specs.View as bound
 use Rattle.sj_select.specs.Columns.{with_variables}
 use Rattle.sj_select.specs.Filling.{column_of}
 use Rattle.sj_select.proofs.columns.columns_of.Given as goal

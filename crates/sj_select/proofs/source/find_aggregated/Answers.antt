@@ -1,5 +1,5 @@
 use Rattle.std.proofs.Common.{[], map, sym, ap, ◌∙◌}
-use Rattle.sj_bind.specs.View.{table_of}
+use Rattle.sj_bound.specs.View.{table_of}
 use Rattle.sj_select.specs.Line.{line_of}
 use Rattle.sj_select.specs.Rows.{one_row, aggregated}
 use Rattle.sj_select.specs.Sources.{HasTakenRows}

@@ -2,8 +2,8 @@ use Rattle.std.proofs.Common.{◌≡◌, ◌≤◌, ℕ, ◌+◌, ◌∙◌, Ok,
 use Rattle.sj_base.specs.Outside.{raised}
 use Rattle.sj_table.specs.Series.{more}
 use Rattle.sj_table.specs.Takes.{Spends}
-use Rattle.sj_bind.specs.View.{table_of}
-use Rattle.sj_bind.specs.declared.bound.BoundTable.{BoundTable}
+use Rattle.sj_bound.specs.View.{table_of}
+use Rattle.sj_bound.specs.declared.bound.BoundTable.{BoundTable}
 use Rattle.sj_select.specs.Columns.{columns_of, columns_given, columns_cost}
 use Rattle.sj_select.specs.Line.{line_of}
 use Rattle.sj_select.specs.Rows.{listed_cost}

@@ -3,8 +3,8 @@ use Rattle.std.specs.List.{All}
 use Rattle.std.proofs.lemmas.List.Elements.{All-nil}
 use Rattle.sj_value.specs.Values.{IsPrintable}
 use Rattle.sj_table.specs.Series.{size}
-use Rattle.sj_bind.specs.View.{table_of}
-use Rattle.sj_bind.specs.declared.bound.BoundTable.{BoundTable}
+use Rattle.sj_bound.specs.View.{table_of}
+use Rattle.sj_bound.specs.declared.bound.BoundTable.{BoundTable}
 use Rattle.sj_select.specs.Tables.{plan_left}
 use Rattle.sj_select.proofs.TakingRows.{come_end, come_raised, come_within, come_row_within, come_stop, come_more}
 use Rattle.sj_select.proofs.source.take_rows.Goals as goal

@@ -3,7 +3,7 @@ use Rattle.std.specs.List.{All}
 use Rattle.sj_base.specs.Outside.{raised}
 use Rattle.sj_value.specs.Values.{IsPrintable}
 use Rattle.sj_table.specs.Series.{size}
-use Rattle.sj_bind.specs.View.{table_of}
+use Rattle.sj_bound.specs.View.{table_of}
 use Rattle.sj_select.specs.Line.{line_of}
 use Rattle.sj_select.specs.Rows.{aggregated, aggregated_cost}
 use Rattle.sj_select.specs.Tables.{IsPlaced, plan_left, plan_due}

@@ -4,7 +4,7 @@ use Rattle.sj_sql_grammar.specs.Reading.{select_at}
 use Rattle.sj_sql_grammar.proofs.Verdicts.{no_tree, path_fault, lacking, clean}
 use Rattle.sj_sql.specs.Gives.{Fails}
 use Rattle.sj_sql.specs.Noted.{faults_of}
-use Rattle.sj_sql.specs.View.{statement_of}
+use Rattle.sj_sql_tree.specs.View.{statement_of}
 use Rattle.sj_sql.proofs.answer.answer.Goals as goal
 
 pub returns-in-Some : goal.returns-in-Some

@@ -1,5 +1,5 @@
 use Rattle.std.proofs.Common.{map}
-use Rattle.sj_bind.specs.View.{bound_of}
+use Rattle.sj_bound.specs.View.{bound_of}
 use Rattle.sqljson.proofs.Ending.{streamed_not_before}
 use Rattle.sqljson.proofs.Telling.{over_lines, lines_stopped}
 use Rattle.sqljson.proofs.generate.run_generated.Goals as goal

@@ -1,6 +1,6 @@
 use Rattle.std.proofs.Common.{rules, ◌≡◌, ◌+◌, ◌<◌, ◌≤◌, ◌∙◌, ap, arith, length, get_or, refl}
 use Rattle.sj_base.specs.Outside.{raised}
-use Rattle.sj_bind.specs.View.{bound_of}
+use Rattle.sj_bound.specs.View.{bound_of}
 use Rattle.sj_select.specs.Line.{line_of}
 use Rattle.sj_page.specs.Pages.{print_state, Printed, Stopped}
 use Rattle.sj_page.proofs.Printing.{printing_starts, printing_more, printing_stops}

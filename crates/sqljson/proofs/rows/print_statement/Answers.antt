@@ -1,5 +1,5 @@
 use Rattle.std.proofs.Common.{rules, ap, arith, sym, ◌∙◌}
-use Rattle.sj_bind.specs.View.{bound_of}
+use Rattle.sj_bound.specs.View.{bound_of}
 use Rattle.sj_select.specs.Line.{line_of}
 use Rattle.sj_page.proofs.Printing.{printing_more, printing_done, printing_ends, printing_stops, printing_memory}
 use Rattle.sj_page.specs.Pages.{followed_by, row_print}

@@ -1,5 +1,5 @@
 use Rattle.std.proofs.Common.{◌≡◌, map, take}
-use Rattle.sj_bind.specs.View.{bound_of}
+use Rattle.sj_bound.specs.View.{bound_of}
 use Rattle.sqljson.specs.Batch.{bounds_in}
 use Rattle.sqljson.proofs.rows.rows_of.Given as goal
 

@@ -1,5 +1,5 @@
 use Rattle.std.proofs.Common.{◌+◌, arith}
-use Rattle.sj_bind.specs.View.{bound_of}
+use Rattle.sj_bound.specs.View.{bound_of}
 use Rattle.sqljson.proofs.Verdicts.{none_counted, one_counted, all_counted, refused_counted, bound_so, end_so}
 use Rattle.sqljson.proofs.verdict.count_of.Goals as goal
 

@@ -1,7 +1,7 @@
 use Rattle.std.proofs.Common.{Err, refl, sym, subst}
 use Rattle.sj_sql_grammar.specs.declared.refusal.BindKind.{BindKind}
 use Rattle.sj_sql_grammar.specs.declared.refusal.FileKind.TheVariants.{Bind}
-use Rattle.sj_sql.specs.View.{statement_of}
+use Rattle.sj_sql_tree.specs.View.{statement_of}
 use Rattle.sj_bind.proofs.Bindable.{IsBindableNext, next_bindable}
 use Rattle.sqljson.specs.Refusals.{IsVerdictFrom}
 use Rattle.sqljson.proofs.Verdicts.{first_so, broken_so, rule_broken, refused_so}

@@ -1,10 +1,10 @@
 use Rattle.std.proofs.Common.{◌≡◌, suc, [], ◌∷◌, ◌++◌, List, length, map, sym, ap, subst, ◌∙◌, arith, length-append}
 use Rattle.std.proofs.lemmas.List.{length-map, map-append}
 use Rattle.std.proofs.lemmas.List.Elements.{All-append, All-nil, All-cons}
-use Rattle.sj_bind.specs.Bound.{Bound}
-use Rattle.sj_bind.specs.Sound.{IsSound}
-use Rattle.sj_bind.specs.View.{bound_of}
-use Rattle.sj_bind.specs.declared.bound.Bound.{Bound as BoundHeld}
+use Rattle.sj_bound.specs.Bound.{Bound}
+use Rattle.sj_bound.specs.Sound.{IsSound}
+use Rattle.sj_bound.specs.View.{bound_of}
+use Rattle.sj_bound.specs.declared.bound.Bound.{Bound as BoundHeld}
 use Rattle.sqljson.specs.Job.{AreSound}
 use Rattle.sqljson.proofs.Verdicts.{IsTakenTo, one_taken, all_taken, one_refused, bound_so, end_so}
 use Rattle.sqljson.proofs.verdict.statements_of.Goals as goal

@@ -1,5 +1,5 @@
 use Rattle.std.proofs.Common.{◌≡◌, suc, ◌+◌, ◌≤◌, length, map}
-use Rattle.sj_bind.specs.View.{bound_of}
+use Rattle.sj_bound.specs.View.{bound_of}
 use Rattle.sqljson.specs.Job.{AreSound}
 use Rattle.sqljson.proofs.Verdicts.{IsTakenTo}
 use Rattle.sqljson.proofs.verdict.statements_of.Given as goal

@@ -1,9 +1,9 @@
 use Rattle.std.proofs.Common.{◌≡◌, ◌+◌, ◌≤◌, ◌++◌, length}
-use Rattle.sj_sql.specs.declared.tree.Columns.{size-Columns}
-use Rattle.sj_sql.specs.View.{columns_of}
+use Rattle.sj_sql_tree.specs.declared.tree.Columns.{size-Columns}
+use Rattle.sj_sql_tree.specs.View.{columns_of}
 use Rattle.sj_bind.specs.Tables.{names_below}
 use Rattle.sj_bind.specs.Taken.{CanTake, taken_paths, taken_columns}
-use Rattle.sj_bind.specs.View as bound
+use Rattle.sj_bound.specs.View as bound
 use Rattle.sj_bind.proofs.table.columns.+take_columns.Given as goal
 
 abbrev pub decreases-take_column : goal.decreases-take_column

@@ -1,6 +1,6 @@
 use Rattle.std.proofs.Common.{◌≡◌, length, ◌+◌, ◌≤◌}
-use Rattle.sj_sql.specs.declared.tree.Columns.{size-Columns}
-use Rattle.sj_sql.specs.View.{columns_of}
+use Rattle.sj_sql_tree.specs.declared.tree.Columns.{size-Columns}
+use Rattle.sj_sql_tree.specs.View.{columns_of}
 use Rattle.sj_bind.specs.Tables.{names_below}
 use Rattle.sj_bind.specs.Paths.{paths_below}
 use Rattle.sj_bind.proofs.table.count.+counts.Given as goal

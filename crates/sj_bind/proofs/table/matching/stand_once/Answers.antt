@@ -1,5 +1,5 @@
 use Rattle.std.proofs.Common.{rules, sym, ◌∙◌}
-use Rattle.sj_sql.specs.View.{columns_of, column_of, plan_of}
+use Rattle.sj_sql_tree.specs.View.{columns_of, column_of, plan_of}
 use Rattle.sj_bind.specs.Plans.{standing}
 use Rattle.sj_bind.proofs.PathLists.{once_step}
 use Rattle.sj_bind.proofs.table.matching.stand_once.Goals as goal

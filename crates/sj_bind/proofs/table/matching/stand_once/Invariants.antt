@@ -1,5 +1,5 @@
 use Rattle.std.proofs.Common.{◌≡◌, ℕ}
-use Rattle.sj_sql.specs.View.{columns_of, plan_of}
+use Rattle.sj_sql_tree.specs.View.{columns_of, plan_of}
 use Rattle.sj_bind.specs.Paths.{children}
 use Rattle.sj_bind.specs.Plans.{standing, each_once}
 use Rattle.sj_bind.proofs.table.matching.stand_once.Given as goal

@@ -1,6 +1,6 @@
 use Rattle.std.proofs.Common.{◌≡◌, false, ◌++◌, ◌≤◌}
-use Rattle.sj_sql.specs.declared.tree.Columns.{size-Columns}
-use Rattle.sj_sql.specs.View.{columns_of}
+use Rattle.sj_sql_tree.specs.declared.tree.Columns.{size-Columns}
+use Rattle.sj_sql_tree.specs.View.{columns_of}
 use Rattle.sj_bind.specs.Tables.{names_below, has_twice}
 use Rattle.sj_bind.specs.Names.{names_of}
 use Rattle.sj_bind.proofs.table.names.+note_columns.Given as goal

@@ -1,6 +1,6 @@
 use Rattle.std.proofs.Common.{◌≡◌, false, ◌++◌, ◌≤◌}
-use Rattle.sj_sql.specs.declared.tree.Columns.{size-Columns}
-use Rattle.sj_sql.specs.View.{columns_of}
+use Rattle.sj_sql_tree.specs.declared.tree.Columns.{size-Columns}
+use Rattle.sj_sql_tree.specs.View.{columns_of}
 use Rattle.sj_bind.specs.Tables.{has_twice, path_names_below}
 use Rattle.sj_bind.specs.Names.{names_of}
 use Rattle.sj_bind.proofs.table.names.+note_paths.Given as goal

@@ -1,5 +1,5 @@
 use Rattle.std.proofs.Common.{◌≡◌, ◌+◌, length}
-use Rattle.sj_sql.specs.View.{columns_of}
+use Rattle.sj_sql_tree.specs.View.{columns_of}
 use Rattle.sj_bind.specs.Paths.{paths_below, children}
 use Rattle.sj_bind.specs.Plans.{path_named}
 use Rattle.sj_bind.proofs.table.paths.find_path.Given as goal

@@ -1,5 +1,5 @@
 use Rattle.std.proofs.Common.{◌≡◌, ℕ}
-use Rattle.sj_sql.specs.View.{columns_of}
+use Rattle.sj_sql_tree.specs.View.{columns_of}
 use Rattle.sj_bind.specs.Paths.{children}
 use Rattle.sj_bind.specs.Plans.{is_nil}
 use Rattle.sj_bind.proofs.table.paths.has_nested.Given as goal

@@ -1,7 +1,7 @@
 use Rattle.std.proofs.Common.{◌≡◌, ◌≤◌, ◌+◌, length, option_map, None}
 use Rattle.sj_value.specs.Plans.{plan_tree}
-use Rattle.sj_sql.specs.declared.tree.Columns.{size-Columns}
-use Rattle.sj_sql.specs.View.{columns_of}
+use Rattle.sj_sql_tree.specs.declared.tree.Columns.{size-Columns}
+use Rattle.sj_sql_tree.specs.View.{columns_of}
 use Rattle.sj_bind.specs.Paths.{paths_below}
 use Rattle.sj_bind.specs.Grown.{grown_below}
 use Rattle.sj_bind.proofs.table.plan.+defaults.Given as goal

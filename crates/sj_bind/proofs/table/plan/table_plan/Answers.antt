@@ -1,5 +1,5 @@
 use Rattle.std.proofs.Common.{length}
-use Rattle.sj_sql.specs.View.{table_of}
+use Rattle.sj_sql_tree.specs.View.{table_of}
 use Rattle.sj_bind.specs.Paths.{table_paths}
 use Rattle.sj_bind.specs.Plans.{table_plan}
 use Rattle.sj_bind.proofs.PlansOver.{plan_over, over_ok}

@@ -1,4 +1,4 @@
-use Rattle.sj_sql.specs.View.{columns_of}
+use Rattle.sj_sql_tree.specs.View.{columns_of}
 use Rattle.sj_bind.proofs.TakenColumns.{can_take}
 use Rattle.sj_bind.proofs.table.whole.bind_table.Goals as goal
 

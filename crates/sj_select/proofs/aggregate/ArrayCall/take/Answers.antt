@@ -1,5 +1,5 @@
 use Rattle.std.proofs.Common.{◌∙◌, sym, ap}
-use Rattle.sj_bind.specs.View.{value_of}
+use Rattle.sj_bound.specs.View.{value_of}
 use Rattle.sj_select.specs.Aggregates.{array_over}
 use Rattle.sj_select.specs.Line.{line_of}
 use Rattle.sj_select.specs.Values.{given}

@@ -1,5 +1,5 @@
 use Rattle.std.proofs.Common.{◌∙◌, sym, ap}
-use Rattle.sj_bind.specs.View.{value_of}
+use Rattle.sj_bound.specs.View.{value_of}
 use Rattle.sj_select.specs.Aggregates.{object_over}
 use Rattle.sj_select.specs.Line.{line_of}
 use Rattle.sj_select.proofs.Aggregating.{object_taken, object_refused, members-raised, key_raised, value_raised}

@@ -1,5 +1,5 @@
 use Rattle.std.proofs.Common.{◌-◌, take, sym, ap, ◌∙◌, arith}
-use Rattle.sj_bind.specs.View.{value_of}
+use Rattle.sj_bound.specs.View.{value_of}
 use Rattle.sj_func.specs.declared.context.Outcome.TheVariants as outcome
 use Rattle.sj_select.specs.Line.{line_of}
 use Rattle.sj_select.specs.Operations.{steps_of}

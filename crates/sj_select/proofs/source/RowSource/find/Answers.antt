@@ -1,6 +1,6 @@
 use Rattle.std.proofs.Common.{◌≡◌, ℕ, ◌+◌, ◌∙◌, [], IfOk, Option, nat_eq, map, sym, ap, subst}
 use Rattle.sj_table.specs.Takes.{Spends}
-use Rattle.sj_bind.specs.View.{table_of}
+use Rattle.sj_bound.specs.View.{table_of}
 use Rattle.sj_select.specs.Aggregates.{aggregates_in}
 use Rattle.sj_select.specs.Line.{line_of}
 use Rattle.sj_select.specs.Operations.{steps_of}

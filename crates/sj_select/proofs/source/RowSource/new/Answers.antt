@@ -2,8 +2,8 @@ use Rattle.std.proofs.Common.{List, Option, sym, subst}
 use Rattle.std.specs.List.{All}
 use Rattle.std.proofs.lemmas.List.Elements.{All-nil}
 use Rattle.sj_value.specs.Values.{IsPrintable}
-use Rattle.sj_bind.specs.View.{bound_of, items_of}
-use Rattle.sj_bind.specs.declared.bound.BoundItem.{BoundItem}
+use Rattle.sj_bound.specs.View.{bound_of, items_of}
+use Rattle.sj_bound.specs.declared.bound.BoundItem.{BoundItem}
 use Rattle.sj_select.specs.Performing.{CanBeGiven}
 use Rattle.sj_select.specs.Sources.{IsPlacedIfAny}
 use Rattle.sj_select.specs.Taking.{CanTake}

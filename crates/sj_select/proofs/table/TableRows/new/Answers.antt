@@ -2,7 +2,7 @@ use Rattle.std.proofs.Common.{◌∙◌, sym, subst}
 use Rattle.std.specs.List.{All}
 use Rattle.std.proofs.lemmas.List.Elements.{All-nil}
 use Rattle.sj_value.specs.Values.{IsPrintable}
-use Rattle.sj_bind.specs.View.{table_of}
+use Rattle.sj_bound.specs.View.{table_of}
 use Rattle.sj_select.proofs.SoundOperations.{sound_columns}
 use Rattle.sj_select.proofs.table.TableRows.new.Goals as goal
 

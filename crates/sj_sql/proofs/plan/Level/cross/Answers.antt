@@ -1,5 +1,5 @@
 use Rattle.sj_sql_grammar.specs.Reading.{plan_expr_at}
-use Rattle.sj_sql.specs.View.{plan_of}
+use Rattle.sj_sql_tree.specs.View.{plan_of}
 use Rattle.sj_sql.proofs.Plans.{cross_turn, cross_ends}
 use Rattle.sj_sql.proofs.plan.Level.cross.Goals as goal
 

@@ -1,6 +1,6 @@
 use Rattle.std.proofs.Common.{◌≡◌, ◌-◌, length}
 use Rattle.sj_sql_grammar.specs.Reading.{plan_expr_at, cross_from}
-use Rattle.sj_sql.specs.View.{plan_of}
+use Rattle.sj_sql_tree.specs.View.{plan_of}
 use Rattle.sj_sql.proofs.plan.Level.cross.Given as goal
 
 abbrev pub invariant-loop-turn : goal.invariant-loop-turn

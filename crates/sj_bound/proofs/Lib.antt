@@ -1,0 +1,2 @@
+-- for `Bound::width`
+pub mod ViewLists

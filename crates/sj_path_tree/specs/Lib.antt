@@ -1,0 +1,4 @@
+pub mod Tree
+pub mod Nodes
+pub mod Vars
+pub mod Member

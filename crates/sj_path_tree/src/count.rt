@@ -1,0 +1,84 @@
+//! How many nodes a path has.
+
+ghost use Rattle.std.specs.Prelude.{◌≡◌, ◌+◌, ◌-◌, ◌^◌, min};
+ghost use Rattle.sj_path_tree.specs.Nodes as spec;
+ghost use Rattle.sj_path_tree.specs.Tree.{path_of, expr_of, step_of, sub_of, subs_of, pred_of};
+
+use crate::tree::{Expr, Path, Pred, Step, Sub, Subs};
+
+#[cycle(nodes)]
+fn expr_nodes(e: &Expr) -> u64
+    ensures { result ≡ min (spec.expr_nodes (expr_of e.now)) (2 ^ 64 - 1) }
+{
+    match e {
+        Expr::Root | Expr::Var(_) | Expr::Context | Expr::Last | Expr::Lit(_) => 1,
+        Expr::Access(e, step) => one_and_two(expr_nodes(e), step_nodes(step)),
+        Expr::Plus(e) | Expr::Minus(e) => one_and(expr_nodes(e)),
+        Expr::Binary(_, a, b) => one_and_two(expr_nodes(a), expr_nodes(b)),
+    }
+}
+
+#[cycle(nodes)]
+fn step_nodes(step: &Step) -> u64
+    ensures { result ≡ min (spec.step_nodes (step_of step.now)) (2 ^ 64 - 1) }
+{
+    match step {
+        Step::Member(_) | Step::AllMembers | Step::AllElements | Step::Method(_) => 1,
+        Step::Elements(subs) => one_and(subs_nodes(subs)),
+        Step::Filter(p) => one_and(pred_nodes(p)),
+    }
+}
+
+#[cycle(nodes)]
+fn sub_nodes(sub: &Sub) -> u64
+    ensures { result ≡ min (spec.sub_nodes (sub_of sub.now)) (2 ^ 64 - 1) }
+{
+    match sub {
+        Sub::One(e) => one_and(expr_nodes(e)),
+        Sub::Range(from, to) => one_and_two(expr_nodes(from), expr_nodes(to)),
+    }
+}
+
+#[cycle(nodes)]
+fn subs_nodes(subs: &Subs) -> u64
+    ensures { result ≡ min (spec.subs_nodes (subs_of subs.now)) (2 ^ 64 - 1) }
+{
+    match subs {
+        Subs::Only(sub) => sub_nodes(sub),
+        Subs::More(sub, others) => sub_nodes(sub).saturating_add(subs_nodes(others)),
+    }
+}
+
+#[cycle(nodes)]
+fn pred_nodes(p: &Pred) -> u64
+    ensures { result ≡ min (spec.pred_nodes (pred_of p.now)) (2 ^ 64 - 1) }
+{
+    match p {
+        Pred::Compare(_, a, b) => one_and_two(expr_nodes(a), expr_nodes(b)),
+        Pred::And(p, q) | Pred::Or(p, q) => one_and_two(pred_nodes(p), pred_nodes(q)),
+        Pred::Not(p) | Pred::IsUnknown(p) => one_and(pred_nodes(p)),
+        Pred::Exists(e) | Pred::StartsWith(e, _) => one_and(expr_nodes(e)),
+    }
+}
+
+/// A node with `below` nodes below it.
+fn one_and(below: u64) -> u64
+    ensures { result ≡ min (1 + below) (2 ^ 64 - 1) }
+{
+    below.saturating_add(1)
+}
+
+/// A node with two parts below it.
+fn one_and_two(first: u64, second: u64) -> u64
+    ensures { result ≡ min (1 + first + second) (2 ^ 64 - 1) }
+{
+    one_and(first).saturating_add(second)
+}
+
+/// Counts the expressions, accessors, subscripts and predicates of a path. The count stays at
+/// `2^64 - 1`.
+pub fn nodes(path: &Path) -> u64
+    ensures { result ≡ min (spec.nodes (path_of path.now)) (2 ^ 64 - 1) }
+{
+    expr_nodes(&path.expr)
+}
