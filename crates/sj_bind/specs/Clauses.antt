@@ -3,10 +3,9 @@
 use Rattle.std.specs.Prelude.{ℕ, Bool, true, false, ◌&&◌, List, [], ◌∷◌, is_err, unwrap_or}
 use Rattle.std.specs.Result.{result_ok}
 use Rattle.sj_path_grammar.specs.declared.tree.Literal.{Literal}
-use Rattle.sj_path_grammar.specs.declared.tree.Literal.TheVariants as literal
 use Rattle.sj_path_grammar.specs.Tree.{Path}
 use Rattle.sj_path_tree.specs.Vars.{Variables}
-use Rattle.sj_item.specs.Items.{ItemValue, made_text, made_number, made_truth, made_null}
+use Rattle.sj_step.specs.Literals.{literal_item}
 use Rattle.sj_sql_grammar.specs.declared.clauses.Passed.{Passed}
 use Rattle.sj_sql_grammar.specs.declared.clauses.Quotes.{Quotes}
 use Rattle.sj_sql_grammar.specs.declared.clauses.Quotes.TheVariants as quotes
@@ -63,13 +62,6 @@ names_text Approximate = false
 names_text Datetime = false
 
 -- ---- DEFAULT
-
--- a literal as an item
-abbrev pub literal_item : Literal → ItemValue
-literal_item (literal.Text s) = made_text s
-literal_item (literal.Num d) = made_number d
-literal_item (literal.Bool b) = made_truth b
-literal_item literal.Null = made_null
 
 abbrev pub literal_cast : Literal → SqlType → Cast
 literal_cast x ty = cast_of (literal_item x) ty

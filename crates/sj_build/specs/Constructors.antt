@@ -6,7 +6,7 @@ use Rattle.sj_base.specs.declared.state.State.{State}
 use Rattle.sj_base.specs.declared.state.State.TheVariants.{S22004, S22030}
 use Rattle.sj_base.specs.Names.{is_among}
 use Rattle.sj_decimal.specs.Text.{decimal_text}
-use Rattle.sj_json.specs.Printing.{printed_string}
+use Rattle.sj_json.specs.Printing.{printed_string, truth_text}
 use Rattle.sj_value.specs.declared.clauses.Nulls.{Nulls}
 use Rattle.sj_value.specs.declared.clauses.Nulls.TheVariants as choices
 use Rattle.sj_value.specs.declared.value.SqlValue.{SqlValue}
@@ -14,10 +14,6 @@ use Rattle.sj_value.specs.declared.value.SqlValue.TheVariants.{Null, Text, Num, 
 use Rattle.sj_build.specs.declared.field.Field.{Field}
 
 -- ---- values
-
-abbrev pub truth_text : Logical → List ℕ
-truth_text true = codes "true"
-truth_text false = codes "false"
 
 -- A value as JSON text. A number has its plain text, whatever decimals it is to print.
 abbrev pub value_text : SqlValue → List ℕ

@@ -14,7 +14,8 @@ use Rattle.sj_step.specs.Reach.{reach, by_key, all_members, all_elements, unwrap
 use Rattle.sj_step.specs.Walk.{walk_left}
 use Rattle.sj_method.specs.Methods.{method_of, sign_of}
 use Rattle.sj_method.specs.Pairs.{pairs_left}
-use Rattle.sj_cursor.specs.Meaning.{Env, literal_value, variable, takes_arrays}
+use Rattle.sj_cursor.specs.Meaning.{Env, variable, takes_arrays}
+use Rattle.sj_step.specs.Literals.{literal_item}
 use Rattle.sj_cursor.specs.Rows.{ItemTruth}
 use Rattle.sj_cursor.specs.declared.env.Env.{Env as EnvHeld}
 use Rattle.sj_cursor.specs.declared.row.Beside.{Beside}
@@ -39,7 +40,7 @@ abbrev pub source_value : Source → Env → ItemValue
 source_value sources.Root env = env.root
 source_value sources.Context env = env.context
 source_value sources.Last env = made_number (env.last, 0)
-source_value (sources.Lit l) env = literal_value l.now
+source_value (sources.Lit l) env = literal_item l.now
 source_value (sources.Var name) env = variable env name.now
 
 abbrev pub source_expr : Source → t.Expr

@@ -6,15 +6,15 @@ use Rattle.sj_path_grammar.specs.declared.tree.Mode.{Mode}
 use Rattle.sj_path_grammar.specs.declared.tree.Method.{Method}
 use Rattle.sj_path_grammar.specs.declared.tree.Method.TheVariants as methods
 use Rattle.sj_path_grammar.specs.declared.tree.Literal.{Literal}
-use Rattle.sj_path_grammar.specs.declared.tree.Literal.TheVariants as literals
 use Rattle.sj_path_grammar.specs.declared.tree.Initial.{Initial}
 use Rattle.sj_path_grammar.specs.declared.tree.Initial.TheVariants as initials
 use Rattle.sj_path_grammar.specs.Tree.{Path, Expr, Root, Var, Context, Last, Lit, Access, Plus, Minus, Binary, Step, Member, AllMembers, AllElements, Elements, Filter, Call, Double, Datetime, DatetimeBy, Sub, One, Range, Subs, Only, More, Pred, Compares, And, Or, Not, IsUnknown, Exists, StartsWith, LikeRegex, LikeRegexBy}
-use Rattle.sj_item.specs.Items.{ItemValue, made_number, made_text, made_truth, made_null}
+use Rattle.sj_item.specs.Items.{ItemValue, made_number, made_text, made_null}
 use Rattle.sj_item.specs.Pairs.{items_compare, item_starts_with}
 use Rattle.sj_item.specs.declared.truth.Truth.TheVariants.{Unknown}
 use Rattle.sj_path_tree.specs.Vars.{Variables}
 use Rattle.sj_step.specs.Trace.{Trace, stop, fail, only, join, each}
+use Rattle.sj_step.specs.Literals.{literal_item}
 use Rattle.sj_step.specs.Reach.{reach, by_key, all_members, all_elements, spread, last}
 use Rattle.sj_method.specs.Methods.{method_of, sign_of}
 use Rattle.sj_cursor.specs.Numbers.{binary_trace, element_part, range_part}
@@ -37,15 +37,9 @@ at_item env x = record { mode = env.mode; vars = env.vars; root = env.root; cont
 abbrev pub at_last : Env → ℤ → Env
 at_last env n = record { mode = env.mode; vars = env.vars; root = env.root; context = env.context; last = n }
 
-abbrev pub literal_value : Literal → ItemValue
-literal_value (literals.Text s) = made_text s
-literal_value (literals.Num d) = made_number d
-literal_value (literals.Bool b) = made_truth b
-literal_value literals.Null = made_null
-
 -- a path is evaluated with a value for each of its variables
 abbrev pub variable_value : Option Literal → ItemValue
-variable_value (Some l) = literal_value l
+variable_value (Some l) = literal_item l
 variable_value None = made_null
 
 abbrev pub variable_of : Variables → List ℕ → ItemValue
@@ -86,7 +80,7 @@ abbrev mutual
   meaning Context env = only env.context
   meaning (Var name) env = only (variable env name)
   meaning Last env = only (made_number (env.last, 0))
-  meaning (Lit l) env = only (literal_value l)
+  meaning (Lit l) env = only (literal_item l)
   meaning (Access e s) env = step_on s (meaning e env) env
   meaning (Plus e) env = each (spread env.mode (meaning e env)) (sign_of false)
   meaning (Minus e) env = each (spread env.mode (meaning e env)) (sign_of true)

@@ -5,7 +5,8 @@ ghost use Rattle.sj_item.specs.Items.{item_value};
 ghost use Rattle.sj_step.specs.Answers.{answer_value};
 ghost use Rattle.sj_step.specs.Trace.{first, rest};
 ghost use Rattle.sj_cursor.specs.Cells.{env_value, source_value, one_left, source_expr};
-ghost use Rattle.sj_cursor.specs.Meaning.{literal_value, variable_of, initial_value};
+ghost use Rattle.sj_step.specs.Literals.{literal_item as item_of};
+ghost use Rattle.sj_cursor.specs.Meaning.{variable_of, initial_value};
 
 use crate::cells::{One, Source};
 use crate::env::Env;
@@ -28,7 +29,7 @@ impl<'d> Source<'d> {
 }
 
 fn literal_item<'d>(literal: &'d Literal) -> Item<'d>
-    ensures { item_value result ≡ literal_value literal.now }
+    ensures { item_value result ≡ item_of literal.now }
 {
     match literal {
         Literal::Text(text) => Item::Text(text.as_str()),

@@ -8,7 +8,7 @@ use Rattle.sj_base.specs.declared.state.State.TheVariants.{S22003, S2203F, S2203
 use Rattle.sj_decimal.specs.Rounding.{rounded}
 use Rattle.sj_json.specs.Tree.{Number, exact, wide, Tree, null, truth, string, number, array, object}
 use Rattle.sj_json.specs.Numbers.{number_of}
-use Rattle.sj_json.specs.Printing.{printed_number}
+use Rattle.sj_json.specs.Printing.{printed_number, truth_text}
 
 -- ---- numbers
 
@@ -61,13 +61,9 @@ truth_cast (object ms) = Err S2203F
 
 -- ---- texts
 
-abbrev pub word : Bool → List ℕ
-word true = codes "true"
-word false = codes "false"
-
 unfoldable pub text_cast : Tree → Result (List ℕ) State
 text_cast null = Err S2203G
-text_cast (truth b) = Ok (word b)
+text_cast (truth b) = Ok (truth_text b)
 text_cast (string s) = Ok s
 text_cast (number n) = Ok (printed_number n)
 text_cast (array ts) = Err S2203F

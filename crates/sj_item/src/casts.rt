@@ -3,10 +3,11 @@ ghost use Rattle.std.specs.Prelude.{◌≡◌, ◌≤ℤ◌, IfOk};
 ghost use Rattle.sj_decimal.specs.Rounding.{rounded};
 ghost use Rattle.sj_decimal.specs.Text.{decimal_text};
 ghost use Rattle.sj_json.specs.Numbers.{number_of};
+ghost use Rattle.sj_json.specs.Printing.{truth_text};
 ghost use Rattle.sj_doc.specs.Listed.{node_tree};
 ghost use Rattle.sj_item.specs.Held.{short_text};
 ghost use Rattle.sj_item.specs.Items.{item_value, item_tree};
-ghost use Rattle.sj_item.specs.Scalars.{spelled_number, number_cast, whole_within, whole_cast, word_truth, truth_cast, word as word_of, text_cast};
+ghost use Rattle.sj_item.specs.Scalars.{spelled_number, number_cast, whole_within, whole_cast, word_truth, truth_cast, text_cast};
 ghost use Rattle.sj_item.specs.Operands.{CastsAs};
 ghost use Rattle.sj_item.specs.Answers.{IsText, values, made_texts};
 
@@ -183,7 +184,7 @@ fn word_truth(string: &str) -> Result<bool, State>
 }
 
 fn word(truth: bool) -> &'static str
-    ensures { result.now ≡ word_of truth }
+    ensures { result.now ≡ truth_text truth }
 {
     if truth { "true" } else { "false" }
 }

@@ -1,5 +1,5 @@
 -- The text of a tree without white space.
-use Rattle.std.specs.Prelude.{ℕ, ◌/◌, ◌%◌, ◌==◌, nat_lt, cond, List, [], ◌∷◌, ◌++◌, true, false, codes, ⊤}
+use Rattle.std.specs.Prelude.{ℕ, ◌/◌, ◌%◌, ◌==◌, nat_lt, cond, List, [], ◌∷◌, ◌++◌, Bool, true, false, codes, ⊤}
 use Rattle.std.specs.List.{AllByRecursion, flat_map}
 use Rattle.std.specs.Char.{digit_char}
 use Rattle.sj_decimal.specs.Normal.{IsDecimal}
@@ -22,11 +22,15 @@ printed_byte b =
 abbrev pub printed_string : List ℕ → List ℕ
 printed_string s = 34 ∷ flat_map printed_byte s ++ 34 ∷ []
 
+-- the two words, in lower case
+abbrev pub truth_text : Bool → List ℕ
+truth_text true = codes "true"
+truth_text false = codes "false"
+
 abbrev mutual
   pub printed : Tree → List ℕ
   printed null = codes "null"
-  printed (truth true) = codes "true"
-  printed (truth false) = codes "false"
+  printed (truth b) = truth_text b
   printed (string s) = printed_string s
   printed (number v) = printed_number v
   printed (array ts) = 91 ∷ printed_items ts ++ 93 ∷ []

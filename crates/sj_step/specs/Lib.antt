@@ -4,3 +4,4 @@ pub mod Answers
 pub mod Reach
 pub mod Walk
 pub mod Coding
+pub mod Literals
