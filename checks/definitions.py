@@ -34,11 +34,6 @@ LAWS = {
     ("sj_json/specs/Numbers.antt", "number_of"): ("sj_value/src/law.rt", "one_number"),
     ("sj_json/specs/UniqueKeys.antt", "has_unique_keys"): ("sj_json/src/lib.rt", "unique_keys"),
 }
-# Definitions that stand in two crates, each with its reason.
-KNOWN_TWINS = {
-    ("sj_bind/specs/Clauses literal_item", "sj_cursor/specs/Meaning literal_value"),  # no crate below both knows items and literals
-    ("sj_build/specs/Constructors truth_text", "sj_item/specs/Scalars word"),  # what is printed, and what a path gives
-}
 NUMBER = re.compile(r"(?:pub )?@0 : \S*ℕ\n@0 = \d+")  # a limit: that two have one value is chance
 INTRODUCTION = """# The definitions behind the contract of `run`
 
@@ -255,8 +250,7 @@ def check_definitions(tally, top):
     lines, views = sum(it.found.values()), sorted({file for file, _ in it.found if Path(file).stem in VIEWS})
     tally.check("views among the definitions to believe", ", ".join(views))
     tally.check("the definitions to believe", None if lines <= MOST_LINES else f"they have {lines} lines, and {MOST_LINES} are the most")
-    new = [places for places in twins(top) if places not in KNOWN_TWINS]
-    tally.check("definitions that stand in two crates", "; ".join(" and ".join(places) for places in new))
+    tally.check("definitions that stand in two crates", "; ".join(" and ".join(places) for places in twins(top)))
     differs = (top / PAGE).read_text(encoding="utf-8") != page(top)
     tally.check(PAGE, f"it is not what the sources say: make it anew by `python3 -m checks.definitions > {PAGE}`" if differs else None)
 
