@@ -44,13 +44,20 @@ class Proofs:
     def __init__(self):
         stands_on = listed(TOP)
         self.below = {crate: below(crate, stands_on) for crate in [*below(PROGRAM, stands_on), PROGRAM]}
+        self.behind = self.longest_behind(stands_on)
         self.left, self.running, self.done = self.in_turn(), {}, set()
 
+    def longest_behind(self, stands_on):
+        """How much text each crate has on the longest chain from it up to the program."""
+        found = {}
+        for crate in sorted(self.below, key=lambda it: -len(self.below[it])):
+            above = [found[it] for it in found if crate in stands_on[it]]
+            found[crate] = size(crate) + max(above, default=0)
+        return found
+
     def in_turn(self):
-        """The libraries, those first that most text waits for."""
-        sizes = {crate: size(crate) for crate in self.below}
-        waiting = {crate: sum(sizes[it] for it in self.below if it == crate or crate in self.below[it]) for crate in self.below}
-        return sorted((it for it in self.below if it != PROGRAM), key=lambda it: -waiting[it])
+        """The libraries, those first that the longest chain waits for."""
+        return sorted((it for it in self.below if it != PROGRAM), key=lambda it: -self.behind[it])
 
     def make(self):
         """Proves each library once those below it are."""
@@ -72,10 +79,10 @@ class Proofs:
         return [it for it in self.left if self.done.issuperset(self.below[it])]
 
     def start(self, crate):
-        """Starts the proof of a crate: with all processors where it is alone until it ends, or else with half of them."""
-        is_alone = not self.running and self.ready() == [crate]
+        """Starts the proof of a crate: with all processors if the longest chain waits for it, else with half of them."""
+        is_next = all(self.behind[it] <= self.behind[crate] for it in self.running)
         self.left.remove(crate)
-        self.running[crate] = Room(crate, self.below[crate], processors() if is_alone else max(1, processors() // 2))
+        self.running[crate] = Room(crate, self.below[crate], processors() if is_next else max(1, processors() // 2))
 
     def end(self, crate, room):
         close(crate)
