@@ -54,6 +54,7 @@ impl Decimal {
     ///
     /// # Errors
     /// `Range` exactly where the rounded number times 10^s reaches 10^p in magnitude.
+    #[inline]
     pub fn round_to(self, p: u32, s: u32) -> Result<Decimal, NumFault>
         requires some_digits { 1 ≤ p }
         requires digits { p ≤ 38 }
@@ -69,6 +70,18 @@ impl Decimal {
                 Err(NumFault::Range)
             };
         }
+        self.cut_to(p, s)
+    }
+
+    // The same, where some decimals are cut off.
+    #[inline(never)]
+    fn cut_to(self, p: u32, s: u32) -> Result<Decimal, NumFault>
+        requires fewer { s < self.1 }
+        requires digits { p ≤ 38 }
+        requires decimals { s ≤ p }
+        ensures value { result ≡ rounded_within p s self }
+        ensures decimal { IfOk result IsDecimal }
+    {
         let magnitude = rounded_magnitude(self.magnitude, self.scale, s);
         if magnitude >= power_of_ten(p) {
             return Err(NumFault::Range);
