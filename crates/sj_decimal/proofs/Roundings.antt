@@ -1,13 +1,15 @@
 -- Quotients cut, raised and rounded.
-use Rattle.std.proofs.Common.{◌≡◌, ℕ, zero, suc, ◌+◌, ◌-◌, ◌*◌, ◌/◌, ◌%◌, ◌^◌, ◌<◌, ◌≤◌, Bool, true, false, not, pos, neg_ℤ, refl, sym, ap, ap₂, ◌∙◌, arith, add-one, mul_assoc, add-mul, one-mul, mul_left_comm, pow-add, div-add-mod', mod-lt, mul-le-mul, le_refl, le-ltb, nat_lt, unsigned_abs, Err}
-use Rattle.std.proofs.lemmas.Bool.{cond-false}
+use Rattle.std.proofs.Common.{◌≡◌, ℕ, zero, suc, ◌+◌, ◌-◌, ◌*◌, ◌/◌, ◌%◌, ◌^◌, ◌<◌, ◌≤◌, Bool, true, false, not, pos, neg_ℤ, refl, sym, ap, ap₂, ◌∙◌, arith, add-one, mul_assoc, add-mul, one-mul, mul_left_comm, pow-add, div-add-mod', mod-lt, mul-le-mul, le_refl, lt-ltb, le-ltb, nat_lt, mul-lt-mul_of_pos_right, Ok, Err}
+use Rattle.std.proofs.lemmas.Bool.{cond-true, cond-false}
 use Rattle.std.proofs.Math.Nat.{mul-div-mul_right, div-eq_of_lt-le, add-div_right, zero-div, div-eq_of_lt}
 use Rattle.std.specs.Int.{int_div_euclid}
-use Rattle.sj_decimal.specs.Signed.{signed, is_negative, unsigned_abs-signed}
+use Rattle.sj_decimal.specs.Signed.{signed, IsSignOf, is_negative-signed, unsigned_abs-signed}
+use Rattle.sj_decimal.specs.Normal.{normal, IsDecimal}
 use Rattle.sj_decimal.specs.Rounding.{rounded, rounded_within}
 use Rattle.sj_decimal.specs.Magnitudes.{quotient_toward}
 use Rattle.sj_decimal.specs.declared.arithmetic.NumFault.TheVariants.{Range}
 use Rattle.sj_decimal.proofs.Powers.{power_pos, power_le}
+use Rattle.sj_decimal.proofs.NormalForm.{signed-mul, normal-scaled, normal_decimal}
 use Rattle.sj_decimal.proofs.Operations.{signed-not}
 
 raised : (n p : ℕ) → 0 < p → (suc n + (p - 1)) / p ≡ suc (n / p)
@@ -92,10 +94,40 @@ raised_even m p some even =
     let next : (m / p + 1) * p ≡ m / p * p + p = add-mul (m / p) 1 p ∙ ap (λ e. m / p * p + e) (one-mul p) in
     sym (div-eq_of_lt-le {k = m / p} p {m = m + (p - 1)} (omega (arith, parts, even)) (omega (arith, next, parts, even, some)))
 
-pub rounded_range : (b : Bool) (m k p s : ℕ) → p ≤ 38 → ((2 * (m * 10 ^ s) + 10 ^ k) / (2 * 10 ^ k) < 10 ^ 38 → ⊥) → rounded_within p s (signed b m, k) ≡ Err Range
-rounded_range b m k p s few over =
-    let r : ℕ = (2 * (m * 10 ^ s) + 10 ^ k) / (2 * 10 ^ k) in
-    let size : unsigned_abs (rounded s (signed b m, k)) ≡ r =
-    unsigned_abs-signed (is_negative (signed b m)) _ ∙ ap (λ n. (2 * (n * 10 ^ s) + 10 ^ k) / (2 * 10 ^ k)) (unsigned_abs-signed b m) in
-    let bound : 10 ^ p ≤ 10 ^ 38 = power_le p 38 few in
-    cond-false _ _ _ (ap (λ n. nat_lt n (10 ^ p)) size ∙ le-ltb r (10 ^ p) (omega (arith, bound, over)))
+-- ---- the rounded number, against the digits that it may have
+
+rounded_signed : (b : Bool) (m k s : ℕ) → IsSignOf b m → rounded s (signed b m, k) ≡ signed b ((2 * (m * 10 ^ s) + 10 ^ k) / (2 * 10 ^ k))
+rounded_signed b m k s sign =
+    ap₂ (λ (d : Bool) (n : ℕ). signed d ((2 * (n * 10 ^ s) + 10 ^ k) / (2 * 10 ^ k))) (is_negative-signed b m sign) (unsigned_abs-signed b m)
+
+pub rounded_within_digits : (b : Bool) (m k p s n : ℕ) → IsSignOf b m → n ≡ (2 * (m * 10 ^ s) + 10 ^ k) / (2 * 10 ^ k) → n < 10 ^ p
+    → rounded_within p s (signed b m, k) ≡ Ok (normal (signed b n, s))
+rounded_within_digits b m k p s n sign is few =
+    let same : rounded s (signed b m, k) ≡ signed b n = rounded_signed b m k s sign ∙ ap (signed b) (sym is) in
+    rw same (cond-true _ _ _ (ap (λ x. nat_lt x (10 ^ p)) (unsigned_abs-signed b n) ∙ lt-ltb n (10 ^ p) few))
+
+pub rounded_past_digits : (b : Bool) (m k p s n : ℕ) → IsSignOf b m → n ≡ (2 * (m * 10 ^ s) + 10 ^ k) / (2 * 10 ^ k) → 10 ^ p ≤ n
+    → rounded_within p s (signed b m, k) ≡ Err Range
+rounded_past_digits b m k p s n sign is many =
+    let same : rounded s (signed b m, k) ≡ signed b n = rounded_signed b m k s sign ∙ ap (signed b) (sym is) in
+    rw same (cond-false _ _ _ (ap (λ x. nat_lt x (10 ^ p)) (unsigned_abs-signed b n) ∙ le-ltb n (10 ^ p) many))
+
+-- ---- a number of at most s decimals is its own rounding
+
+digits_split : (p s k : ℕ) → k ≤ s → s ≤ p → 10 ^ p ≡ 10 ^ (p - s + k) * 10 ^ (s - k)
+digits_split p s k more within = ap (λ e. 10 ^ e) (omega (arith, more, within)) ∙ pow-add 10 (p - s + k) (s - k)
+
+pub kept_within_digits : (b : Bool) (m k p s : ℕ) → IsSignOf b m → IsDecimal (signed b m, k) → k ≤ s → s ≤ p → m < 10 ^ (p - s + k)
+    → rounded_within p s (signed b m, k) ≡ Ok (signed b m, k)
+kept_within_digits b m k p s sign number more within few =
+    let below : m * 10 ^ (s - k) < 10 ^ (p - s + k) * 10 ^ (s - k) = mul-lt-mul_of_pos_right {m = m} {n = 10 ^ (p - s + k)} {k = 10 ^ (s - k)} few (power_pos (s - k)) in
+    rounded_within_digits b m k p s (m * 10 ^ (s - k)) sign (sym (rounded_more m k s more)) (rw (digits_split p s k more within) below)
+    ∙ ap (λ t. Ok (normal (signed b (m * 10 ^ (s - k)), t))) (omega (arith, more))
+    ∙ ap (λ c. Ok (normal (c, k + (s - k)))) (sym (signed-mul b m (10 ^ (s - k))))
+    ∙ ap Ok (normal-scaled (signed b m) k (s - k) ∙ normal_decimal (signed b m, k) number)
+
+pub kept_past_digits : (b : Bool) (m k p s : ℕ) → IsSignOf b m → k ≤ s → s ≤ p → 10 ^ (p - s + k) ≤ m
+    → rounded_within p s (signed b m, k) ≡ Err Range
+kept_past_digits b m k p s sign more within many =
+    let above : 10 ^ (p - s + k) * 10 ^ (s - k) ≤ m * 10 ^ (s - k) = mul-le-mul many (le_refl (10 ^ (s - k))) in
+    rounded_past_digits b m k p s (m * 10 ^ (s - k)) sign (sym (rounded_more m k s more)) (rw (digits_split p s k more within) above)

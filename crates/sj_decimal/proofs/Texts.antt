@@ -1,9 +1,8 @@
 -- The text of a decimal, and that it spells the decimal.
-use Rattle.std.proofs.Common.{◌≡◌, ℕ, zero, suc, ◌+◌, ◌-◌, ◌*◌, ◌/◌, ◌%◌, ◌^◌, ◌<◌, ◌≤◌, Bool, true, false, List, [], ◌∷◌, ◌++◌, length, decimal, refl, sym, ap, ap₂, ◌∙◌, arith, lit<, pow-suc, length-append, append_assoc, pow-add, div-le_self}
-use Rattle.std.specs.Fmt.{sign_text}
-use Rattle.std.proofs.lemmas.Fmt.{decimal_digit, decimal_step_wide, length-decimal-le_wide}
-use Rattle.std.proofs.lemmas.Nat.{mod-mul-add, div-mul-add, div_below}
-use Rattle.std.proofs.Math.Arith.{mod-mul}
+use Rattle.std.proofs.Common.{◌≡◌, ℕ, zero, suc, ◌+◌, ◌-◌, ◌*◌, ◌/◌, ◌%◌, ◌^◌, ◌<◌, ◌≤◌, List, [], ◌∷◌, ◌++◌, length, decimal, refl, sym, ap, ap₂, ◌∙◌, arith, lit<, pow-suc, length-append, append_assoc, append-nil, take, drop}
+use Rattle.std.proofs.lemmas.Fmt.{decimal_digit, decimal_step_wide}
+use Rattle.std.proofs.Math.Seq.{take-append_seam, drop-append_seam}
+use Rattle.std.proofs.Math.Nat.{div-div-eq-div-mul, div-eq_of_lt, pow-succ'}
 use Rattle.sj_decimal.specs.Text.{last_digits, decimals_text}
 use Rattle.sj_decimal.proofs.Powers.{power_pos, power_le}
 
@@ -40,19 +39,6 @@ decimal_after_one (suc k) f few small =
     ∙ ap (λ (xs : List ℕ). xs ++ ((48 + f % 10) ∷ [])) (decimal_after_one k (f / 10) (omega arith) tenth)
     ∙ ap (λ (xs : List ℕ). 49 ∷ xs) (sym (last_digits_more k f))
 
--- the last k digits are those of the remainder
-pub last_digits-mod : (k n : ℕ) → last_digits k (n % 10 ^ k) ≡ last_digits k n
-last_digits-mod zero n = last_digits_none (n % 10 ^ 0) ∙ sym (last_digits_none n)
-last_digits-mod (suc k) n =
-    let parts : n % 10 ^ suc k ≡ n / 10 % 10 ^ k * 10 + n % 10 = rw pow-suc (mod-mul n {m = 10 ^ k} {c = 10} (power_pos k) (lit< tt)) in
-    let small : n % 10 < 10 = omega arith in
-    let front : n % 10 ^ suc k / 10 ≡ n / 10 % 10 ^ k = ap (λ (x : ℕ). x / 10) parts ∙ div-mul-add (n / 10 % 10 ^ k) 10 (n % 10) small in
-    let last : n % 10 ^ suc k % 10 ≡ n % 10 = ap (λ (x : ℕ). x % 10) parts ∙ mod-mul-add (n / 10 % 10 ^ k) 10 (n % 10) small in
-    last_digits_more k (n % 10 ^ suc k)
-    ∙ ap₂ (λ (q r : ℕ). last_digits k q ++ ((48 + r) ∷ [])) front last
-    ∙ ap (λ (xs : List ℕ). xs ++ ((48 + n % 10) ∷ [])) (last_digits-mod k (n / 10))
-    ∙ sym (last_digits_more k n)
-
 -- what the code writes with a one before it
 pub digits_after_one : (k rest p : ℕ) (text : List ℕ) → k ≤ 38 → rest < 10 ^ k → p ≡ 10 ^ k → text ≡ decimal (p + rest) → text ≡ 49 ∷ last_digits k rest
 digits_after_one k rest p text few small power is =
@@ -62,47 +48,48 @@ pub decimals_text-positive : (s m : ℕ) → 0 < s → decimals_text s m ≡ 46 
 decimals_text-positive zero m h = absurd (omega arith)
 decimals_text-positive (suc s) m h = refl
 
--- the decimals are those of the remainder
-pub decimals_text-mod : (s m : ℕ) → decimals_text s (m % 10 ^ s) ≡ decimals_text s m
-decimals_text-mod zero m = refl
-decimals_text-mod (suc s) m = ap (λ (xs : List ℕ). 46 ∷ xs) (last_digits-mod (suc s) m)
+-- the digits of a number are those of its whole part and its decimals
+decimal_parts : (s m : ℕ) → 10 ^ s ≤ m → m < 10 ^ 38 → decimal m ≡ decimal (m / 10 ^ s) ++ last_digits s m
+decimal_parts zero m some small = ap decimal (omega arith) ∙ sym (append-nil (decimal (m / 10 ^ 0))) ∙ ap (λ (xs : List ℕ). decimal (m / 10 ^ 0) ++ xs) (sym (last_digits_none m))
+decimal_parts (suc s) m some small =
+    let power : 10 ^ suc s ≡ 10 ^ s * 10 = pow-suc 10 s in
+    let least : 1 ≤ 10 ^ s = power_pos s in
+    let tenth : 10 ^ s ≤ m / 10 = omega (arith, power, some) in
+    let quotient : m / 10 / 10 ^ s ≡ m / 10 ^ suc s = div-div-eq-div-mul m 10 (10 ^ s) ∙ ap (λ (p : ℕ). m / p) (sym (pow-succ' 10 s)) in
+    decimal_step_wide m (omega (arith, power, some, least)) (omega (arith, small))
+    ∙ ap (λ (xs : List ℕ). xs ++ ((48 + m % 10) ∷ [])) (decimal_parts s (m / 10) tenth (omega (arith, small)) ∙ ap (λ (q : ℕ). decimal q ++ last_digits s (m / 10)) quotient)
+    ∙ append_assoc (decimal (m / 10 ^ suc s)) (last_digits s (m / 10)) ((48 + m % 10) ∷ [])
+    ∙ ap (λ (xs : List ℕ). decimal (m / 10 ^ suc s) ++ xs) (sym (last_digits_more s m))
 
--- the whole part and the decimals, by the quotient and the rest of the division that the code makes
-pub whole_written : (m p s whole : ℕ) (text : List ℕ) → p ≡ 10 ^ s → whole ≡ m / p → text ≡ decimal whole → text ≡ decimal (m / 10 ^ s)
-whole_written m p s whole text power quotient is = is ∙ ap decimal (quotient ∙ ap (λ (x : ℕ). m / x) power)
+-- ---- what the code appends
 
-pub decimals_written : (m p s rest : ℕ) → p ≡ 10 ^ s → rest ≡ m % p → decimals_text s rest ≡ decimals_text s m
-decimals_written m p s rest power remainder =
-    ap (decimals_text s) (remainder ∙ ap (λ (x : ℕ). m % x) power) ∙ decimals_text-mod s m
+-- the digits, cut before the last s
+pub cut_digits : (s m : ℕ) (digits : List ℕ) → 10 ^ s ≤ m → m < 10 ^ 38 → digits ≡ decimal m
+    → (s ≤ length digits) × (take (length digits - s) digits ≡ decimal (m / 10 ^ s)) × (drop (length digits - s) digits ≡ last_digits s m)
+cut_digits s m digits some small is =
+    let whole : List ℕ = decimal (m / 10 ^ s) in
+    let parts : digits ≡ whole ++ last_digits s m = is ∙ decimal_parts s m some small in
+    let total : length digits ≡ length whole + s = ap length parts ∙ length-append whole (last_digits s m) ∙ ap (λ (n : ℕ). length whole + n) (length-last_digits s m) in
+    let cut : length digits - s ≡ length whole = omega (arith, total) in (
+      omega (arith, total),
+      ap₂ (λ (n : ℕ) (xs : List ℕ). take n xs) cut parts ∙ take-append_seam whole (last_digits s m),
+      ap₂ (λ (n : ℕ) (xs : List ℕ). drop n xs) cut parts ∙ drop-append_seam whole (last_digits s m),
+    )
 
-pub length-decimals_text : (s m : ℕ) → length (decimals_text s m) ≤ s + 1
-length-decimals_text zero m = omega arith
-length-decimals_text (suc s) m = omega (arith, length-last_digits (suc s) m)
+-- the whole part, a point and the decimals, one after the other
+pub digits_pushed : (s m : ℕ) (old front point text whole decimals : List ℕ) → 0 < s → front ≡ old ++ whole → point ≡ front ++ (46 ∷ []) → text ≡ point ++ decimals
+    → whole ≡ decimal (m / 10 ^ s) → decimals ≡ last_digits s m → text ≡ old ++ (decimal (m / 10 ^ s) ++ decimals_text s m)
+digits_pushed s m old front point text whole decimals some first second third is are =
+    third ∙ ap (λ (x : List ℕ). x ++ decimals) (second ∙ ap (λ (x : List ℕ). x ++ (46 ∷ [])) first)
+    ∙ append_assoc (old ++ whole) (46 ∷ []) decimals
+    ∙ append_assoc old whole (46 ∷ decimals)
+    ∙ ap₂ (λ (x y : List ℕ). old ++ (x ++ y)) is (ap (λ (x : List ℕ). 46 ∷ x) are ∙ sym (decimals_text-positive s m some))
 
--- the whole part and the decimals have 40 bytes at most
-pub text_fits : (m s : ℕ) → m < 10 ^ 38 → s ≤ 38 → length (decimal (m / 10 ^ s)) + length (decimals_text s m) ≤ 47
-text_fits m s small few =
-    let k : ℕ = 39 - s in
-    let power : 10 ^ 38 ≤ 10 ^ (k + s) = power_le 38 (k + s) (omega arith) in
-    let split : 10 ^ (k + s) ≡ 10 ^ k * 10 ^ s = pow-add 10 k s in
-    let bound : m < 10 ^ k * 10 ^ s = rw (← split) (omega (arith, power, small)) in
-    let whole : m / 10 ^ s < 10 ^ k = div_below m (10 ^ s) (10 ^ k) (power_pos s) bound in
-    let least : m / 10 ^ s ≤ m = div-le_self m (10 ^ s) in
-    let wide : m / 10 ^ s < 10 ^ 64 = omega (arith, least, small) in
-    let front : length (decimal (m / 10 ^ s)) ≤ k = length-decimal-le_wide k (m / 10 ^ s) (omega arith) whole wide in
-    omega (arith, front, length-decimals_text s m)
-
--- a point and the decimals, pushed one after the other
-pub decimals_pushed : (s m : ℕ) (text point digits : List ℕ) → 0 < s → point ≡ text ++ (46 ∷ []) → digits ≡ last_digits s m → point ++ digits ≡ text ++ decimals_text s m
-decimals_pushed s m text point digits some front back =
-    ap₂ (λ (x y : List ℕ). x ++ y) front back ∙ append_assoc text (46 ∷ []) (last_digits s m) ∙ ap (λ (x : List ℕ). text ++ x) (sym (decimals_text-positive s m some))
-
-pub decimals_fit : (s m : ℕ) (text point digits : List ℕ) → 0 < s → point ≡ text ++ (46 ∷ []) → digits ≡ last_digits s m
-    → length text + length (decimals_text s m) ≤ 48 → length point + length digits ≤ 48
-decimals_fit s m text point digits some front back room =
-    let joined : length (point ++ digits) ≡ length (text ++ decimals_text s m) = ap length (decimals_pushed s m text point digits some front back) in
-    omega (arith, joined, room, length-append point digits, length-append text (decimals_text s m))
-
-pub length-sign_text : (b : Bool) → length (sign_text b) ≤ 1
-length-sign_text true = omega arith
-length-sign_text false = omega arith
+-- a zero, a point and the decimals
+pub fraction_pushed : (s m : ℕ) (old point text decimals : List ℕ) → 0 < s → m < 10 ^ s → point ≡ old ++ (48 ∷ 46 ∷ []) → text ≡ point ++ decimals
+    → decimals ≡ last_digits s m → text ≡ old ++ (decimal (m / 10 ^ s) ++ decimals_text s m)
+fraction_pushed s m old point text decimals some below first second are =
+    let zero : decimal (m / 10 ^ s) ≡ 48 ∷ [] = ap decimal (div-eq_of_lt below) ∙ decimal_digit 0 (lit< tt) in
+    second ∙ ap (λ (x : List ℕ). x ++ decimals) first
+    ∙ append_assoc old (48 ∷ 46 ∷ []) decimals
+    ∙ ap₂ (λ (x y : List ℕ). old ++ (x ++ y)) (sym zero) (ap (λ (x : List ℕ). 46 ∷ x) are ∙ sym (decimals_text-positive s m some))

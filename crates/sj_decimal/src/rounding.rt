@@ -1,6 +1,5 @@
 //! Whole numbers near a decimal, and rounding.
 ghost use Rattle.std.specs.Prelude.{◌≡◌, ◌<◌, ◌≤◌, ◌^◌, ◌+◌, ◌*◌, ◌/◌, IfOk};
-ghost use Rattle.std.specs.Option.{SomeIff};
 ghost use Rattle.sj_decimal.specs.Signed.{signed};
 ghost use Rattle.sj_decimal.specs.Normal.{IsDecimal};
 ghost use Rattle.sj_decimal.specs.Rounding.{floor_of, ceiling_of, whole_of, rounded_within};
@@ -8,7 +7,7 @@ ghost use Rattle.sj_decimal.specs.Magnitudes.{quotient_toward};
 
 use crate::arithmetic::NumFault;
 use crate::decimal::Decimal;
-use crate::magnitude::{divided, power_of_ten, scaled};
+use crate::magnitude::{divided, power_of_ten};
 
 impl Decimal {
     /// The greatest whole number that is not above this one (ISO/IEC 9075-2, 6.30, numeric value function).
@@ -55,6 +54,7 @@ impl Decimal {
     ///
     /// # Errors
     /// `Range` exactly where the rounded number times 10^s reaches 10^p in magnitude.
+    #[inline]
     pub fn round_to(self, p: u32, s: u32) -> Result<Decimal, NumFault>
         requires some_digits { 1 ≤ p }
         requires digits { p ≤ 38 }
@@ -62,16 +62,31 @@ impl Decimal {
         ensures value { result ≡ rounded_within p s self }
         ensures decimal { IfOk result IsDecimal }
     {
-        let Some(magnitude) = rounded_magnitude(self.magnitude, self.scale, s) else {
-            return Err(NumFault::Range);
-        };
+        if self.scale <= s {
+            // Nothing is cut off, so the number stays as it is.
+            return if self.magnitude < power_of_ten(p - s + self.scale) {
+                Ok(self)
+            } else {
+                Err(NumFault::Range)
+            };
+        }
+        self.cut_to(p, s)
+    }
+
+    // The same, where some decimals are cut off.
+    #[inline(never)]
+    fn cut_to(self, p: u32, s: u32) -> Result<Decimal, NumFault>
+        requires fewer { s < self.1 }
+        requires digits { p ≤ 38 }
+        requires decimals { s ≤ p }
+        ensures value { result ≡ rounded_within p s self }
+        ensures decimal { IfOk result IsDecimal }
+    {
+        let magnitude = rounded_magnitude(self.magnitude, self.scale, s);
         if magnitude >= power_of_ten(p) {
             return Err(NumFault::Range);
         }
-        match Decimal::normalized(self.negative, magnitude, s) {
-            Some(number) => Ok(number),
-            None => Err(NumFault::Range),
-        }
+        Decimal::limited(self.negative, magnitude, s)
     }
 }
 
@@ -86,20 +101,19 @@ fn whole_magnitude(magnitude: u128, scale: u32, away: bool) -> u128
     if away && rest != 0 { whole + 1 } else { whole }
 }
 
-/// `magnitude / 10^scale * 10^places` rounded half up, where that is below the limit.
-fn rounded_magnitude(magnitude: u128, scale: u32, places: u32) -> Option<u128>
+/// `magnitude / 10^scale * 10^places` rounded half up, where some decimals are cut off.
+fn rounded_magnitude(magnitude: u128, scale: u32, places: u32) -> u128
     requires magnitude { magnitude < 10 ^ 38 }
     requires scale { scale ≤ 38 }
-    ensures { SomeIff result ((2 * (magnitude * 10 ^ places) + 10 ^ scale) / (2 * 10 ^ scale) < 10 ^ 38) ((2 * (magnitude * 10 ^ places) + 10 ^ scale) / (2 * 10 ^ scale)) }
+    requires fewer { places < scale }
+    ensures value { result ≡ (2 * (magnitude * 10 ^ places) + 10 ^ scale) / (2 * 10 ^ scale) }
+    ensures bound { result < 10 ^ 38 }
 {
-    if places >= scale {
-        return scaled(magnitude, places - scale);
-    }
     let power = power_of_ten(scale - places);
     let (whole, rest) = divided(magnitude, power);
-    Some(if rest >= power - rest {
+    if rest >= power - rest {
         whole + 1
     } else {
         whole
-    })
+    }
 }

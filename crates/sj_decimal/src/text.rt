@@ -8,7 +8,7 @@ ghost use Rattle.sj_decimal.specs.Text.{decimal_text, decimals_text, with_places
 ghost use Rattle.arrayvec.specs.ArrayString.{array_string_len};
 
 use crate::decimal::Decimal;
-use crate::magnitude::{divided, power_of_ten};
+use crate::magnitude::power_of_ten;
 use arrayvec::ArrayString;
 use itoa::Buffer;
 use std::fmt;
@@ -69,25 +69,41 @@ fn written(negative: bool, magnitude: u128, scale: u32) -> ArrayString<48>
     let mut text = sign(negative);
     if scale == 0 {
         text.push_str(Buffer::new().format(magnitude));
-        return text;
+    } else if magnitude < power_of_ten(scale) {
+        push_fraction(&mut text, magnitude, scale);
+    } else {
+        push_digits(&mut text, magnitude, scale);
     }
-    let (whole, rest) = divided(magnitude, power_of_ten(scale));
-    text.push_str(Buffer::new().format(whole));
-    push_decimals(&mut text, rest, scale);
     text
 }
 
-/// Appends a point and so many decimals, whose number is `rest`.
-fn push_decimals(text: &mut ArrayString<48>, rest: u128, scale: u32)
+/// Appends a zero, a point and so many decimals, whose number is `magnitude`.
+fn push_fraction(text: &mut ArrayString<48>, magnitude: u128, scale: u32)
     requires some { 0 < scale }
     requires scale { scale ≤ 38 }
-    requires rest { rest < 10 ^ scale }
-    requires room { array_string_len text.old + length (decimals_text scale rest) ≤ 48 }
-    ensures { text.new.bytes ≡ text.old.bytes ++ decimals_text scale rest }
+    requires magnitude { magnitude < 10 ^ scale }
+    requires room { array_string_len text.old ≤ 1 }
+    ensures { text.new.bytes ≡ text.old.bytes ++ (decimal (magnitude / 10 ^ scale) ++ decimals_text scale magnitude) }
 {
-    text.push('.');
+    text.push_str("0.");
     // A one before the decimals keeps their zeros.
     let mut buffer = Buffer::new();
-    let digits = buffer.format(power_of_ten(scale) + rest);
+    let digits = buffer.format(power_of_ten(scale) + magnitude);
     text.push_str(&digits[1..]);
+}
+
+/// Appends the digits of `magnitude`, with a point before the last `scale` of them.
+fn push_digits(text: &mut ArrayString<48>, magnitude: u128, scale: u32)
+    requires some { 0 < scale }
+    requires whole { 10 ^ scale ≤ magnitude }
+    requires magnitude { magnitude < 10 ^ 38 }
+    requires room { array_string_len text.old ≤ 1 }
+    ensures { text.new.bytes ≡ text.old.bytes ++ (decimal (magnitude / 10 ^ scale) ++ decimals_text scale magnitude) }
+{
+    let mut buffer = Buffer::new();
+    let digits = buffer.format(magnitude);
+    let (whole, decimals) = digits.split_at(digits.len() - scale as usize);
+    text.push_str(whole);
+    text.push('.');
+    text.push_str(decimals);
 }
