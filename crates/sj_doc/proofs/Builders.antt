@@ -22,7 +22,9 @@ use Rattle.sj_json.specs.Links.{ups, laid_ups}
 use Rattle.sj_json.proofs.Links.{ups-put, ups-empty, ups-put_key, ups-close}
 use Rattle.sj_doc.specs.Nodes.{spelled, text_in, cell_of, entry_of, entries, links, IsSpan, IsNumeral, IsBody, IsNode, IsDoc}
 use Rattle.sj_doc.specs.declared.builder.OpenTree.{OpenTree}
-use Rattle.sj_doc.specs.Builders.{Building, built, node_total, IsBuilder, IsOpenTree, built_tree, HasRoom, IsBetween, IsEmpty, Adds, Stays}
+use Rattle.sj_doc.specs.declared.builder.Innermost.{Innermost}
+use Rattle.sj_doc.specs.declared.builder.Innermost.TheVariants as innermost
+use Rattle.sj_doc.specs.Builders.{Building, built, node_total, IsBuilder, IsOpenTree, built_tree, innermost_of, innermost_opened, IsInside, Opens, Tells, HasRoom, IsBetween, IsEmpty, Adds, Stays}
 
 pub all_push : {X : Type 0} (P : X → Type 0) (xs : List X) (x : X) → AllByRecursion P xs → P x → AllByRecursion P (xs ++ x ∷ [])
 all_push P [] x h p = (p, tt)
@@ -293,7 +295,25 @@ scalar_alone a (Opened kind parent n) v e = cc
 
 -- the fields of a builder with this text, whose line has k bytes, stand for b
 abbrev pub Stands : List ℕ → ℕ → OpenTree → Building → Type 0
-Stands a k t b = (IsOpenTree a t × (k ≤ length a)) × (◌≡◌ {A = Building} (built_tree a t, take k a) b)
+Stands a k t b = (IsOpenTree a t × (k ≤ length a) × IsInside a t) × (◌≡◌ {A = Building} (built_tree a t, take k a) b)
+
+-- what the innermost container is follows from what is seen
+inside_seen : {i j : Innermost} {x s : State} → i ≡ j → j ≡ innermost_of s.0 → x ≡ s → i ≡ innermost_of x.0
+inside_seen e f g = e ∙ f ∙ ap (λ (y : State). innermost_of y.0) (sym g)
+
+inside-put : (t : Tree) (p : Part) → innermost_of p ≡ innermost_of (put t p)
+inside-put t (top o) = refl
+inside-put t (elements ts) = refl
+inside-put t (pairs ms k) = refl
+
+inside-put_key : (x : List ℕ) (p : Part) → innermost_of p ≡ innermost_of (put_key x p)
+inside-put_key x (top o) = refl
+inside-put_key x (elements ts) = refl
+inside-put_key x (pairs ms k) = refl
+
+inside-empty : (kind : Bool) → innermost_opened kind ≡ innermost_of (empty kind)
+inside-empty false = refl
+inside-empty true = refl
 
 -- the value v came, or nothing changed
 abbrev pub Comes : List ℕ → ℕ → OpenTree → Building → Tree → {E : Type 0} → Result (Unit {0}) E → Type 0
@@ -304,23 +324,29 @@ module _ (a : List ℕ) (k : ℕ) (t : OpenTree) (b : Building) (now : Stands a 
   text_stored x new e small =
       let g = text_comes a t.nodes.items t.key t.inner t.count t.depth now.0.0 x new e small in
       let line = line_kept a x new k now.0.1 e in
-      ((g.0, line.1), both_seen (g.1 ∙ state_seen now.1) (line.0 ∙ line_seen now.1))
+      ((g.0, line.1, inside_seen refl now.0.2 g.1), both_seen (g.1 ∙ state_seen now.1) (line.0 ∙ line_seen now.1))
 
   pub line_narrow : length b.1 < 2 ^ 32
   line_narrow = line_room a b.1 k (line_seen now.1) now.0.1 now.0.0.narrow
+
+  inside_now : t.innermost ≡ innermost_of b.0.0
+  inside_now = now.0.2 ∙ ap (λ (y : State). innermost_of y.0) (state_seen now.1)
 
   -- what stands in the line from the one place up to the other
   pub line_range : (from to : ℕ) → (from ≤ to) × (to ≤ length b.1) → IsUtf8 (between b.1 from to) → (s : Span) → IsBetween from to s → IsSpan a s × (text_in a s ≡ between b.1 from to)
   line_range from to within good s ends = line_span a b.1 k from to s (line_seen now.1) now.0.1 within.0 within.1 ends.start ends.len good
 
   pub key_given : (s : Span) → TakesKey b.0.0 → IsSpan a s → (x : List ℕ) → text_in a s ≡ x
-      → (IsBuilder a t.nodes.items (Some s) t.inner t.count t.depth × (k ≤ length a)) × (◌≡◌ {A = Building} (built a t.nodes.items (Some s), take k a) (with_key x b.0, b.1))
+      → (IsBuilder a t.nodes.items (Some s) t.inner t.count t.depth × (k ≤ length a) × (t.innermost ≡ innermost_of (built a t.nodes.items (Some s)).0)) × (◌≡◌ {A = Building} (built a t.nodes.items (Some s), take k a) (with_key x b.0, b.1))
   key_given s wanted good x same =
       let g = key_comes a t.nodes.items t.key t.inner t.count t.depth now.0.0 b.0 (state_seen now.1) s wanted good in
-      ((g.0, now.0.1), both_seen (g.1 ∙ ap (λ (y : List ℕ). with_key y b.0) same) (line_seen now.1))
+      let view = g.1 ∙ ap (λ (y : List ℕ). with_key y b.0) same in
+      ((g.0, now.0.1, inside_seen (inside_now) (inside-put_key x b.0.0) view), both_seen view (line_seen now.1))
 
   stays : (u : OpenTree) → Stays t u → Stands a k u b
-  stays u h = same_fields (λ ns l i n d. (IsBuilder a ns l i n d × (k ≤ length a)) × (◌≡◌ {A = Building} (built a ns l, take k a) b)) u t.nodes.items t.key t.inner t.count t.depth h.nodes_are h.key_is h.inner_is h.count_is h.depth_is now
+  stays u h =
+      let p = same_fields (λ ns l i n d. (IsBuilder a ns l i n d × (k ≤ length a)) × (◌≡◌ {A = Building} (built a ns l, take k a) b)) u t.nodes.items t.key t.inner t.count t.depth h.nodes_are h.key_is h.inner_is h.count_is h.depth_is ((now.0.0, now.0.1), now.1) in
+      ((p.0.0, p.0.1, inside_seen h.innermost_is inside_now (state_seen p.1)), p.1)
 
   module _ (room : node_total b.0 < 2 ^ 25) where
     pub has_room : HasRoom t
@@ -337,22 +363,25 @@ module _ (a : List ℕ) (k : ℕ) (t : OpenTree) (b : Building) (now : Stands a 
     scalar_added wanted body good v is u (Ok x) h =
         let alone = scalar_alone a body v is in
         let p = value_comes a t.nodes.items t.key t.inner t.count t.depth now.0.0 b.0 (state_seen now.1) v body wanted room alone.0 alone.1 good (length t.nodes.items - t.inner) refl _ refl in
-        same_fields (λ ns l i n d. (IsBuilder a ns l i n d × (k ≤ length a)) × (◌≡◌ {A = Building} (built a ns l, take k a) (with_value v b.0, b.1))) u _ None t.inner (t.count + 1) t.depth h.nodes_are h.key_is h.inner_is h.count_is h.depth_is
-        ((p.0, now.0.1), both_seen p.1 (line_seen now.1))
+        let q = same_fields (λ ns l i n d. (IsBuilder a ns l i n d × (k ≤ length a)) × (◌≡◌ {A = Building} (built a ns l, take k a) (with_value v b.0, b.1))) u _ None t.inner (t.count + 1) t.depth h.nodes_are h.key_is h.inner_is h.count_is h.depth_is
+        ((p.0, now.0.1), both_seen p.1 (line_seen now.1)) in
+        ((q.0.0, q.0.1, inside_seen (h.innermost_is ∙ inside_now) (inside-put v b.0.0) (state_seen q.1)), q.1)
     scalar_added wanted body good v is u (Err e) h = stays u h
 
     -- a container was added, and is the innermost one
     pub container_opened : TakesValue b.0.0 → (kind : Bool) → (u : OpenTree) → Adds t (Opened kind t.inner t.count) u → (at : ℕ) → at ≡ length t.nodes.items
-        → (IsBuilder a u.nodes.items u.key at 0 (u.depth + 1) × (k ≤ length a)) × (◌≡◌ {A = Building} (built_tree a u, take k a) (with_open kind b.0, b.1))
-    container_opened wanted kind u h at here =
+        → (i : Innermost) → i ≡ innermost_opened kind
+        → (IsBuilder a u.nodes.items u.key at 0 (u.depth + 1) × (k ≤ length a) × (i ≡ innermost_of (built_tree a u).0)) × (◌≡◌ {A = Building} (built_tree a u, take k a) (with_open kind b.0, b.1))
+    container_opened wanted kind u h at here inner inner_is =
         let p = opens a t.nodes.items t.key t.inner t.count t.depth now.0.0 b.0 (state_seen now.1) kind wanted room (length t.nodes.items - t.inner) refl u.nodes.items h.nodes_are in
         let P = λ (l : Option Span) (i d : ℕ). (IsBuilder a u.nodes.items l i 0 d × (k ≤ length a)) × (◌≡◌ {A = Building} (built a u.nodes.items l, take k a) (with_open kind b.0, b.1)) in
-        subst (λ (l : Option Span). P l at (u.depth + 1)) (sym h.key_is)
+        let q = subst (λ (l : Option Span). P l at (u.depth + 1)) (sym h.key_is)
         (subst (λ (i : ℕ). P None i (u.depth + 1)) (sym here)
-        (subst (λ (d : ℕ). P None (length t.nodes.items) (d + 1)) (sym h.depth_is) ((p.0, now.0.1), both_seen p.1 (line_seen now.1))))
+        (subst (λ (d : ℕ). P None (length t.nodes.items) (d + 1)) (sym h.depth_is) ((p.0, now.0.1), both_seen p.1 (line_seen now.1)))) in
+        ((q.0.0, q.0.1, inside_seen inner_is (inside-empty kind) (state_seen q.1)), q.1)
 
 module _ {E : Type 0} (a : List ℕ) (k : ℕ) (u : OpenTree) (b : Building) (v : Tree) where
-  pub kept : (r : Result (Unit {0}) E) → Comes a k u b v r → IsOpenTree a u × (k ≤ length a)
+  pub kept : (r : Result (Unit {0}) E) → Comes a k u b v r → IsOpenTree a u × (k ≤ length a) × IsInside a u
   kept (Ok x) h = h.0
   kept (Err e) h = h.0
 
@@ -366,7 +395,7 @@ module _ {E : Type 0} (a : List ℕ) (k : ℕ) (u : OpenTree) (b : Building) (v 
 
 -- ---- a new builder
 
-pub starts : (a : List ℕ) (ns : List Node) (t : OpenTree) → IsEmpty ns t → ns ≡ [] → length a < 2 ^ 32 → IsOpenTree a t × (built_tree a t ≡ fresh)
+pub starts : (a : List ℕ) (ns : List Node) (t : OpenTree) → IsEmpty ns t → ns ≡ [] → length a < 2 ^ 32 → IsOpenTree a t × (built_tree a t ≡ fresh) × IsInside a t
 starts a ns t h e small =
     let none : IsBuilder a [] None 0 0 0 = record {
       part = top None;
@@ -383,7 +412,8 @@ starts a ns t h e small =
       small = omega arith;
       narrow = small;
     } in
-    same_fields (λ ns l i n d. IsBuilder a ns l i n d × (built a ns l ≡ fresh)) t [] None 0 0 0 (h.nodes_are ∙ e) h.key_is h.inner_is h.count_is h.depth_is (none, refl)
+    let p = same_fields (λ ns l i n d. IsBuilder a ns l i n d × (built a ns l ≡ fresh)) t [] None 0 0 0 (h.nodes_are ∙ e) h.key_is h.inner_is h.count_is h.depth_is (none, refl) in
+    (p.0, p.1, inside_seen h.innermost_is refl p.1)
 
 -- ---- a container closes
 
@@ -580,35 +610,30 @@ finishes a ns key inner count depth b s view wanted =
 
 -- ---- what is wanted
 
-want_first : (p : Part) (qs : List Part) → IsState p qs → length qs ≡ 0 → length (part_kids p) ≡ 0 → wants.Value ≡ want_of p
-want_first (top None) qs h e f = refl
-want_first (top (Some t)) qs h e f = absurd (omega arith)
-want_first (elements ts) [] h e f = absurd h
-want_first (pairs ms k) [] h e f = absurd h
-want_first (elements ts) (q ∷ qs) h e f = absurd (omega arith)
-want_first (pairs ms k) (q ∷ qs) h e f = absurd (omega arith)
+want_first : (p : Part) → innermost.Top ≡ innermost_of p → length (part_kids p) ≡ 0 → wants.Value ≡ want_of p
+want_first (top None) e f = refl
+want_first (top (Some t)) e f = absurd (omega arith)
+want_first (elements ts) e f = cc
+want_first (pairs ms k) e f = cc
 
-want_nothing : (p : Part) (qs : List Part) → IsState p qs → length qs ≡ 0 → 0 < length (part_kids p) → wants.Nothing ≡ want_of p
-want_nothing (top None) qs h e f = absurd (omega arith)
-want_nothing (top (Some t)) qs h e f = refl
-want_nothing (elements ts) [] h e f = absurd h
-want_nothing (pairs ms k) [] h e f = absurd h
-want_nothing (elements ts) (q ∷ qs) h e f = absurd (omega arith)
-want_nothing (pairs ms k) (q ∷ qs) h e f = absurd (omega arith)
+want_nothing : (p : Part) → innermost.Top ≡ innermost_of p → 0 < length (part_kids p) → wants.Nothing ≡ want_of p
+want_nothing (top None) e f = absurd (omega arith)
+want_nothing (top (Some t)) e f = refl
+want_nothing (elements ts) e f = cc
+want_nothing (pairs ms k) e f = cc
 
-want_items : (p : Part) (qs : List Part) → IsState p qs → 0 < length qs → is_object p ≡ false → wants.ValueOrClose ≡ want_of p
-want_items (top o) [] h e f = absurd (omega arith)
-want_items (top o) (q ∷ qs) h e f = absurd h
-want_items (elements ts) qs h e f = refl
-want_items (pairs ms k) qs h e f = cc
+want_items : (p : Part) → innermost.Array ≡ innermost_of p → wants.ValueOrClose ≡ want_of p
+want_items (top o) e = cc
+want_items (elements ts) e = refl
+want_items (pairs ms k) e = cc
 
-want_key : (p : Part) → is_object p ≡ true → part_key p ≡ None → wants.KeyOrClose ≡ want_of p
+want_key : (p : Part) → innermost.Object ≡ innermost_of p → part_key p ≡ None → wants.KeyOrClose ≡ want_of p
 want_key (top o) f e = cc
 want_key (elements ts) f e = cc
 want_key (pairs ms None) f e = refl
 want_key (pairs ms (Some k)) f e = cc
 
-want_member : (p : Part) (k : List ℕ) → is_object p ≡ true → part_key p ≡ Some k → wants.Value ≡ want_of p
+want_member : (p : Part) (k : List ℕ) → innermost.Object ≡ innermost_of p → part_key p ≡ Some k → wants.Value ≡ want_of p
 want_member (top o) k f e = cc
 want_member (elements ts) k f e = cc
 want_member (pairs ms None) k f e = cc
@@ -626,27 +651,56 @@ module _ (a : List ℕ) (ns : List Node) (key : Option Span) (inner count depth 
   part_is : (w : Want) → w ≡ want_of b.part → w ≡ want_of s.0
   part_is w e = e ∙ ap (λ (x : State). want_of x.0) (state_is a ns key inner count depth b s view)
 
-  pub wants_first : depth ≡ 0 → count ≡ 0 → wants.Value ≡ want_of s.0
-  wants_first e f = part_is wants.Value (want_first b.part b.outer b.shape (sym b.depth_is ∙ e) (sym b.count_is ∙ f))
+  part_inside : (i : Innermost) → i ≡ innermost_of (built a ns key).0 → i ≡ innermost_of b.part
+  part_inside i e = e ∙ ap (λ (x : State). innermost_of x.0) (now_seen a ns key inner count depth b)
 
-  pub wants_nothing : depth ≡ 0 → 0 < count → wants.Nothing ≡ want_of s.0
-  wants_nothing e f = part_is wants.Nothing (want_nothing b.part b.outer b.shape (sym b.depth_is ∙ e) (omega (arith, b.count_is)))
+  pub wants_first : innermost.Top ≡ innermost_of (built a ns key).0 → count ≡ 0 → wants.Value ≡ want_of s.0
+  wants_first e f = part_is wants.Value (want_first b.part (part_inside innermost.Top e) (sym b.count_is ∙ f))
 
-  pub nested_small : 0 < depth → inner < length ns
-  nested_small h = inner_small a ns key inner count depth b (some_outer b.outer (omega (arith, b.depth_is)))
+  pub wants_nothing : innermost.Top ≡ innermost_of (built a ns key).0 → 0 < count → wants.Nothing ≡ want_of s.0
+  wants_nothing e f = part_is wants.Nothing (want_nothing b.part (part_inside innermost.Top e) (omega (arith, b.count_is)))
 
-  module _ (h : 0 < depth) (n : Node) (e : n ≡ get_or ns inner n) where
-    object_is : opens_object n.body ≡ is_object b.part
-    object_is = object_opened a n b.part b.outer (entry_open a ns key inner count depth b n (some_outer b.outer (omega (arith, b.depth_is))) e)
+  pub wants_items : innermost.Array ≡ innermost_of (built a ns key).0 → wants.ValueOrClose ≡ want_of s.0
+  wants_items e = part_is wants.ValueOrClose (want_items b.part (part_inside innermost.Array e))
 
-    pub wants_items : opens_object n.body ≡ false → wants.ValueOrClose ≡ want_of s.0
-    wants_items f = part_is wants.ValueOrClose (want_items b.part b.outer b.shape (omega (arith, b.depth_is)) (sym object_is ∙ f))
+  pub wants_key : innermost.Object ≡ innermost_of (built a ns key).0 → key ≡ None → wants.KeyOrClose ≡ want_of s.0
+  wants_key f g = part_is wants.KeyOrClose (want_key b.part (part_inside innermost.Object f) (sym b.keyed ∙ ap (option_map (text_in a)) g))
 
-    pub wants_key : opens_object n.body ≡ true → key ≡ None → wants.KeyOrClose ≡ want_of s.0
-    wants_key f g = part_is wants.KeyOrClose (want_key b.part (sym object_is ∙ f) (sym b.keyed ∙ ap (option_map (text_in a)) g))
+  pub wants_member : (k : Span) → innermost.Object ≡ innermost_of (built a ns key).0 → key ≡ Some k → wants.Value ≡ want_of s.0
+  wants_member k f g = part_is wants.Value (want_member b.part (text_in a k) (part_inside innermost.Object f) (sym b.keyed ∙ ap (option_map (text_in a)) g))
 
-    pub wants_member : (k : Span) → opens_object n.body ≡ true → key ≡ Some k → wants.Value ≡ want_of s.0
-    wants_member k f g = part_is wants.Value (want_member b.part (text_in a k) (sym object_is ∙ f) (sym b.keyed ∙ ap (option_map (text_in a)) g))
+-- ---- what the innermost open container is, by its node
+
+none_open : (p : Part) (qs : List Part) → IsState p qs → length qs ≡ 0 → innermost.Top ≡ innermost_of p
+none_open (top o) qs h e = refl
+none_open (elements ts) [] h e = absurd h
+none_open (pairs ms k) [] h e = absurd h
+none_open (elements ts) (q ∷ qs) h e = absurd (omega arith)
+none_open (pairs ms k) (q ∷ qs) h e = absurd (omega arith)
+
+open_kind : (p : Part) (qs : List Part) → IsState p qs → HasOuter qs → innermost_opened (is_object p) ≡ innermost_of p
+open_kind p [] h g = absurd g
+open_kind (top o) (q ∷ qs) h g = absurd h
+open_kind (elements ts) (q ∷ qs) h g = refl
+open_kind (pairs ms k) (q ∷ qs) h g = refl
+
+module _ (a : List ℕ) (ns : List Node) (key : Option Span) (inner count depth : ℕ) (b : IsBuilder a ns key inner count depth) where
+  pub inner_read : 0 < depth → inner < length ns
+  inner_read h = inner_small a ns key inner count depth b (some_outer b.outer (omega (arith, b.depth_is)))
+
+  of_part : (i : Innermost) → i ≡ innermost_of b.part → i ≡ innermost_of (built a ns key).0
+  of_part i e = e ∙ ap (λ (x : State). innermost_of x.0) (sym (now_seen a ns key inner count depth b))
+
+  of_node : (k : Bool) → 0 < depth → Opens ns inner k → innermost_opened k ≡ innermost_of (built a ns key).0
+  of_node k h o =
+      let outside = some_outer b.outer (omega (arith, b.depth_is)) in
+      let kind : k ≡ is_object b.part = sym o.2 ∙ object_opened a o.0 b.part b.outer (entry_open a ns key inner count depth b o.0 outside o.1) in
+      of_part (innermost_opened k) (ap innermost_opened kind ∙ open_kind b.part b.outer b.shape outside)
+
+  pub told : (i : Innermost) → Tells ns inner depth i → i ≡ innermost_of (built a ns key).0
+  told innermost.Top h = of_part innermost.Top (none_open b.part b.outer b.shape (sym b.depth_is ∙ h))
+  told innermost.Array h = of_node false h.0 h.1
+  told innermost.Object h = of_node true h.0 h.1
 
 pub count_nodes : (a : List ℕ) (ns : List Node) (key : Option Span) (inner count depth : ℕ) → IsBuilder a ns key inner count depth → (s : State) → built a ns key ≡ s → length ns ≡ node_total s
 count_nodes a ns key inner count depth b s view = total a ns key inner count depth b ∙ ap node_total (state_is a ns key inner count depth b s view)

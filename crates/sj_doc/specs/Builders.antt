@@ -1,14 +1,17 @@
 -- What the fields of a `DocBuilder` stand for.
-use Rattle.std.specs.Prelude.{◌≡◌, ℕ, ◌+◌, ◌-◌, ◌≤◌, ◌<◌, ◌^◌, List, [], ◌∷◌, ◌++◌, length, Option, None, option_map, IfSome}
+use Rattle.std.specs.Prelude.{◌≡◌, ℕ, ◌+◌, ◌-◌, ◌≤◌, ◌<◌, ◌^◌, List, [], ◌∷◌, ◌++◌, length, get_or, Bool, true, false, Option, None, option_map, IfSome}
 use Rattle.std.specs.List.{AllByRecursion}
 use Rattle.std.specs.Coded.{Coded, coded×, coded_list, coded_ℕ}
 use Rattle.sj_json.specs.Coding.{state_code}
-use Rattle.sj_json.specs.Building.{Part, State, IsState, laid, part_key, part_kids, place, state_of}
+use Rattle.sj_json.specs.Building.{Part, top, elements, pairs, State, IsState, laid, part_key, part_kids, place, state_of}
 use Rattle.sj_doc.specs.declared.node.Span.{Span}
 use Rattle.sj_doc.specs.declared.node.Node.{Node}
 use Rattle.sj_doc.specs.declared.node.Body.{Body}
 use Rattle.sj_doc.specs.declared.builder.OpenTree.{OpenTree}
+use Rattle.sj_doc.specs.declared.builder.Innermost.{Innermost}
+use Rattle.sj_doc.specs.declared.builder.Innermost.TheVariants.{Top, Array, Object}
 use Rattle.sj_json.specs.Links.{laid_ups}
+use Rattle.sj_doc.specs.Kinds.{opens_object}
 use Rattle.sj_doc.specs.Nodes.{text_in, entries, links, IsSpan, IsNode}
 
 -- the document so far, and the line
@@ -46,6 +49,31 @@ IsOpenTree arena t = IsBuilder arena t.nodes.items t.key t.inner t.count t.depth
 abbrev pub built_tree : List ℕ → OpenTree → State
 built_tree arena t = built arena t.nodes.items t.key
 
+-- ---- the innermost open container
+
+abbrev pub innermost_of : Part → Innermost
+innermost_of (top o) = Top
+innermost_of (elements ts) = Array
+innermost_of (pairs ms k) = Object
+
+abbrev pub innermost_opened : Bool → Innermost
+innermost_opened false = Array
+innermost_opened true = Object
+
+-- it is kept beside the nodes
+abbrev pub IsInside : List ℕ → OpenTree → Type 0
+IsInside arena t = t.innermost ≡ innermost_of (built_tree arena t).0
+
+-- the node at the place tells whether it is an object
+abbrev pub Opens : List Node → ℕ → Bool → Type 0
+Opens nodes inner b = (n : Node) × (n ≡ get_or nodes inner n) × (opens_object n.body ≡ b)
+
+-- what it is, by its node and by how many are open
+abbrev pub Tells : List Node → ℕ → ℕ → Innermost → Type 0
+Tells nodes inner depth Top = depth ≡ 0
+Tells nodes inner depth Array = (0 < depth) × Opens nodes inner false
+Tells nodes inner depth Object = (0 < depth) × Opens nodes inner true
+
 -- x was put at the end of the text, and the span has it
 pub record Stores (old : List ℕ) (new : List ℕ) (x : List ℕ) (s : Span) : Type 0 where
   pub grown : new ≡ old ++ x
@@ -70,6 +98,7 @@ pub record HasRoom (t : OpenTree) : Type 0 where
 pub record IsEmpty (nodes : List Node) (t : OpenTree) : Type 0 where
   pub nodes_are : t.nodes.items ≡ nodes
   pub key_is : t.key ≡ None
+  pub innermost_is : t.innermost ≡ Top
   pub inner_is : t.inner ≡ 0
   pub count_is : t.count ≡ 0
   pub depth_is : t.depth ≡ 0
@@ -78,6 +107,7 @@ pub record IsEmpty (nodes : List Node) (t : OpenTree) : Type 0 where
 pub record Adds (t : OpenTree) (body : Body) (u : OpenTree) : Type 0 where
   pub nodes_are : u.nodes.items ≡ t.nodes.items ++ record { key = t.key; up = length t.nodes.items - t.inner; body = body } ∷ []
   pub key_is : u.key ≡ None
+  pub innermost_is : u.innermost ≡ t.innermost
   pub inner_is : u.inner ≡ t.inner
   pub count_is : u.count ≡ t.count + 1
   pub depth_is : u.depth ≡ t.depth
@@ -85,6 +115,7 @@ pub record Adds (t : OpenTree) (body : Body) (u : OpenTree) : Type 0 where
 pub record Stays (t : OpenTree) (u : OpenTree) : Type 0 where
   pub nodes_are : u.nodes.items ≡ t.nodes.items
   pub key_is : u.key ≡ t.key
+  pub innermost_is : u.innermost ≡ t.innermost
   pub inner_is : u.inner ≡ t.inner
   pub count_is : u.count ≡ t.count
   pub depth_is : u.depth ≡ t.depth

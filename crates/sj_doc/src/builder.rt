@@ -4,7 +4,7 @@ ghost use Rattle.sj_decimal.specs.Number.{SpellsWide};
 ghost use Rattle.sj_decimal.specs.Shorts.{between};
 ghost use Rattle.sj_json.specs.Tree.{null, truth, string, number, exact, wide};
 ghost use Rattle.sj_json.specs.Building.{fresh, TakesValue, TakesKey, TakesClose, with_value, with_key, with_open, with_close, IsComplete, top};
-ghost use Rattle.sj_doc.specs.Builders.{node_total, IsBetween, Stores, HasRoom, IsEmpty, Adds, Stays};
+ghost use Rattle.sj_doc.specs.Builders.{node_total, IsBetween, Stores, HasRoom, IsEmpty, Adds, Stays, Tells, innermost_opened};
 ghost use Rattle.sj_doc.specs.Nodes.{IsNumeral, spelled};
 ghost use Rattle.sj_doc.specs.Kinds.{want_of};
 
@@ -15,12 +15,22 @@ use sj_decimal::Decimal;
 use std::alloc::Global;
 use std::marker::Model;
 
+// What the innermost open container is.
+#[derive(Clone, Copy, Drop)]
+enum Innermost {
+    // none is open
+    Top,
+    Array,
+    Object,
+}
+
 // The nodes so far, and what the next one needs.
 #[derive(Drop)]
 struct OpenTree {
     nodes: Vec<Node>,
     // the key whose value comes next
     key: Option<Span>,
+    innermost: Innermost,
     // the node of the innermost open container, 0 where none is open
     inner: u32,
     // how many children it has so far; where none is open, how many roots
@@ -54,10 +64,22 @@ impl Model for DocBuilder {
 
     ghost view = { λ b. (built_tree b.arena.items b.tree, take b.line b.arena.items) };
 
-    ghost invariant = { λ b. IsOpenTree b.arena.items b.tree × (b.line ≤ length b.arena.items) };
+    ghost use Rattle.sj_doc.specs.Builders.{IsInside};
+
+    ghost invariant = { λ b. IsOpenTree b.arena.items b.tree × (b.line ≤ length b.arena.items) × IsInside b.arena.items b.tree };
 }
 
-// `Vec::push`, which is called only where there is no room: else the item is written in place.
+// `Vec::push`, where there is no room. Its answer fits a register, which that of `Vec::push` does not.
+#[inline(never)]
+fn push_grown<T: Drop>(list: &mut Vec<T>, item: T) -> Result<(), Memory>
+    ensures ok { OnOk result (list.new.items ≡ list.old.items ++ item ∷ []) }
+    ensures err { OnErr result (list.new.items ≡ list.old.items) }
+{
+    list.push(item)?;
+    Ok(())
+}
+
+// The item is written in place where there is room.
 #[inline(always)]
 fn push_in<T: Drop>(list: &mut Vec<T>, item: T) -> Result<(), Memory>
     ensures ok { OnOk result (list.new.items ≡ list.old.items ++ item ∷ []) }
@@ -67,8 +89,7 @@ fn push_in<T: Drop>(list: &mut Vec<T>, item: T) -> Result<(), Memory>
         list.push_reserved(item);
         return Ok(());
     }
-    list.push(item)?;
-    Ok(())
+    push_grown(list, item)
 }
 
 // Puts s at the end of the text, which has room for 2^32 - 1 bytes.
@@ -102,6 +123,18 @@ fn span_between(from: usize, to: usize) -> Span
     }
 }
 
+// The innermost container, once one has opened.
+#[inline(always)]
+fn opened(is_object: bool) -> Innermost
+    ensures { result ≡ innermost_opened is_object }
+{
+    if is_object {
+        Innermost::Object
+    } else {
+        Innermost::Array
+    }
+}
+
 impl OpenTree {
     // No node, over the memory of these.
     fn over(nodes: Vec<Node>) -> OpenTree
@@ -110,6 +143,7 @@ impl OpenTree {
         OpenTree {
             nodes,
             key: None,
+            innermost: Innermost::Top,
             inner: 0,
             count: 0,
             depth: 0,
@@ -128,6 +162,18 @@ impl OpenTree {
         self.key = None;
         self.count += 1;
         Ok(())
+    }
+
+    // What the innermost open container is, by its node.
+    #[inline(always)]
+    fn seen(&self) -> Innermost
+        requires { 0 < self.now.depth → self.now.inner < length self.now.nodes.items }
+        ensures { Tells self.now.nodes.items self.now.inner self.now.depth result }
+    {
+        if self.depth == 0 {
+            return Innermost::Top;
+        }
+        opened(self.nodes[self.inner as usize].body.is_open_object())
     }
 }
 
@@ -173,7 +219,7 @@ impl DocBuilder {
     }
 
     /// A null.
-    #[inline]
+    #[inline(always)]
     pub fn null(&mut self) -> Result<(), Memory>
         requires wanted { TakesValue self.old.0.0 }
         requires room { node_total self.old.0 < 2 ^ 25 }
@@ -184,7 +230,7 @@ impl DocBuilder {
     }
 
     /// A truth value.
-    #[inline]
+    #[inline(always)]
     pub fn truth(&mut self, b: bool) -> Result<(), Memory>
         requires wanted { TakesValue self.old.0.0 }
         requires room { node_total self.old.0 < 2 ^ 25 }
@@ -292,7 +338,7 @@ impl DocBuilder {
     }
 
     /// An array begins.
-    #[inline]
+    #[inline(always)]
     pub fn open_array(&mut self) -> Result<(), Memory>
         requires wanted { TakesValue self.old.0.0 }
         requires room { node_total self.old.0 < 2 ^ 25 }
@@ -303,7 +349,7 @@ impl DocBuilder {
     }
 
     /// An object begins.
-    #[inline]
+    #[inline(always)]
     pub fn open_object(&mut self) -> Result<(), Memory>
         requires wanted { TakesValue self.old.0.0 }
         requires room { node_total self.old.0 < 2 ^ 25 }
@@ -328,6 +374,7 @@ impl DocBuilder {
             parent,
             before,
         })?;
+        self.tree.innermost = opened(is_object);
         self.tree.inner = at;
         self.tree.count = 0;
         self.tree.depth += 1;
@@ -335,7 +382,7 @@ impl DocBuilder {
     }
 
     /// The innermost container ends. It takes no memory, and the number of nodes stays the same.
-    #[inline]
+    #[inline(always)]
     pub fn close(&mut self)
         requires { TakesClose self.old.0.0 }
         ensures closed { self.new ≡ (with_close self.old.0, self.old.1) }
@@ -362,6 +409,7 @@ impl DocBuilder {
                 self.tree.inner = parent;
                 self.tree.count = before + 1;
                 self.tree.depth -= 1;
+                self.tree.innermost = self.tree.seen();
             }
             _ => unreachable!(),
         }
@@ -372,22 +420,19 @@ impl DocBuilder {
     pub fn wants(&self) -> Want
         ensures { result ≡ want_of self.now.0.0 }
     {
-        if self.tree.depth == 0 {
-            if self.tree.count == 0 {
-                Want::Value
-            } else {
-                Want::Nothing
+        match self.tree.innermost {
+            Innermost::Top => {
+                if self.tree.count == 0 {
+                    Want::Value
+                } else {
+                    Want::Nothing
+                }
             }
-        } else if self.tree.nodes[self.tree.inner as usize]
-            .body
-            .is_open_object()
-        {
-            match self.tree.key {
+            Innermost::Array => Want::ValueOrClose,
+            Innermost::Object => match self.tree.key {
                 None => Want::KeyOrClose,
                 Some(_) => Want::Value,
-            }
-        } else {
-            Want::ValueOrClose
+            },
         }
     }
 

@@ -13,9 +13,9 @@ overflow_add-self c =
 pub invariant_of-self-2 : goal.invariant_of-self-2
 invariant_of-self-2 c =
     let f = c.self.inside in
-    (container_opened _ _ f.tree _ (c.self.invariant, c.self.view_is) c.requires.room c.requires.wanted c.args.is_object c.add.new.self c.in_ok-add.ensures c.len-at.result (c.len-at.ensures ∙ f.tree.nodes.ok.0)).0
+    (container_opened _ _ f.tree _ (c.self.invariant, c.self.view_is) c.requires.room c.requires.wanted c.args.is_object c.add.new.self c.in_ok-add.ensures c.len-at.result (c.len-at.ensures ∙ f.tree.nodes.ok.0) c.opened-self-inside.result c.opened-self-inside.ensures).0
 
 pub returns-clause-ok : goal.returns-clause-ok
 returns-clause-ok c =
     let f = c.self.inside in
-    (container_opened _ _ f.tree _ (c.self.invariant, c.self.view_is) c.requires.room c.requires.wanted c.args.is_object c.add.new.self c.in_ok-add.ensures c.len-at.result (c.len-at.ensures ∙ f.tree.nodes.ok.0)).1
+    (container_opened _ _ f.tree _ (c.self.invariant, c.self.view_is) c.requires.room c.requires.wanted c.args.is_object c.add.new.self c.in_ok-add.ensures c.len-at.result (c.len-at.ensures ∙ f.tree.nodes.ok.0) c.opened-self-inside.result c.opened-self-inside.ensures).1

@@ -2,7 +2,7 @@ use Rattle.std.proofs.Common.{◌+◌, ◌-◌, set, length, arith, refl, ap, sy
 use Rattle.std.proofs.lemmas.List.{length-set}
 use Rattle.sj_doc.specs.declared.node.Body.TheVariants.{Closed}
 use Rattle.sj_doc.specs.Builders.{node_total}
-use Rattle.sj_doc.proofs.Builders.{state_seen, line_seen, both_seen, inner_here, inner_body, count_opened, depth_some, container_closes, Closed_up, count_nodes}
+use Rattle.sj_doc.proofs.Builders.{state_seen, line_seen, both_seen, inner_here, inner_body, count_opened, depth_some, container_closes, Closed_up, count_nodes, inner_read, told}
 use Rattle.sj_doc.proofs.builder.DocBuilder.close.Goals as goal
 use Rattle.sj_doc.proofs.builder.DocBuilder.close.Goals.{In-Opened}
 
@@ -25,7 +25,12 @@ overflow_sub-self c =
     omega (arith, depth_some f.arena.items f.tree.nodes.items f.tree.key f.tree.inner f.tree.count f.tree.depth c.self.invariant.0 c.args.self.now.0 (state_seen c.self.view_is) c.requires)
 
 pub invariant_of-self : goal.invariant_of-self
-invariant_of-self c = ((both (goal.at.invariant_of-self c).In-Opened).0, c.self.invariant.1)
+invariant_of-self c =
+    let b = (both (goal.at.invariant_of-self c).In-Opened).0 in
+    (b, c.self.invariant.1, told _ _ _ _ _ _ b c.seen-self-inside.result c.seen-self-inside.ensures)
+
+pub seen-self-inside-requires : goal.seen-self-inside-requires
+seen-self-inside-requires c = inner_read _ _ _ _ _ _ (both (goal.at.seen-self-inside-requires c).In-Opened).0
 
 pub unreachable-requires : goal.unreachable-requires
 unreachable-requires c =

@@ -12,7 +12,8 @@ overflow_cast-result c = omega (arith, ap length (held (goal.at.overflow_cast-re
 
 pub invariant_of-result : goal.invariant_of-result
 invariant_of-result c =
-    ((starts c.store.new.arena.items _ c.over.result c.over.ensures c.clear-2.ensures.items c.in_ok-store.ensures.ok.narrow).0, omega (arith, ap length (held (goal.at.invariant_of-result c).In_ok-store)))
+    let s = starts c.store.new.arena.items _ c.over.result c.over.ensures c.clear-2.ensures.items c.in_ok-store.ensures.ok.narrow in
+    (s.0, omega (arith, ap length (held (goal.at.invariant_of-result c).In_ok-store)), s.2)
 
 pub returns : goal.returns
 returns c =

@@ -7,7 +7,9 @@ small : (c : Start) → length c.args.arena.items < 2 ^ 32
 small c = omega (arith, ap length c.requires.no_text)
 
 pub invariant_of-result : goal.invariant_of-result
-invariant_of-result c = ((starts c.args.arena.items c.args.nodes.items c.over.result c.over.ensures c.requires.no_nodes (small (goal.at.invariant_of-result c).Start)).0, omega arith)
+invariant_of-result c =
+    let s = starts c.args.arena.items c.args.nodes.items c.over.result c.over.ensures c.requires.no_nodes (small (goal.at.invariant_of-result c).Start) in
+    (s.0, omega arith, s.2)
 
 pub returns : goal.returns
 returns c = both_seen (starts c.args.arena.items c.args.nodes.items c.over.result c.over.ensures c.requires.no_nodes (small (goal.at.returns c).Start)).1 refl
