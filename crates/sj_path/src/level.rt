@@ -57,37 +57,6 @@ impl<F: Fn(Global, usize, &[Token]) -> Result<(ExprOrPred, &[Token]), PathRefusa
         Ok((Sub::Range(from, to), rest))
     }
 
-    #[tactic(auto, unfolding(sj_path_grammar::specs::Reading::primary_at))]
-    fn primary<'a>(&self, tokens: &'a [Token]) -> Result<(Box<Expr>, &'a [Token]), PathRefusal>
-        requires { Nests self.now.depth (F.pre self.now.inner) (F.post self.now.inner) }
-        ensures { Gives (λ x. (expr_of x.0.value, x.1.now)) result (reading.primary_at (reading.expr_or_pred_at self.now.depth) tokens.now) }
-    {
-        match tokens {
-            [] => Err(PathRefusal::Syntax),
-            [Token::Open, rest @ ..] => {
-                let (e, rest) = self.inner_expr(rest)?;
-                let rest = single::close(rest)?;
-                Ok((e, rest))
-            }
-            [token, rest @ ..] => {
-                let e = single::expr(self.alloc, token)?;
-                Ok((Box::new(self.alloc, e)?, rest))
-            }
-        }
-    }
-
-    #[tactic(auto, unfolding(sj_path_grammar::specs::Reading::inner_pred))]
-    fn inner_pred<'a>(&self, tokens: &'a [Token]) -> Result<(Box<Pred>, &'a [Token]), PathRefusal>
-        requires { Nests self.now.depth (F.pre self.now.inner) (F.post self.now.inner) }
-        ensures { Gives (λ x. (pred_of x.0.value, x.1.now)) result (reading.inner_pred (reading.expr_or_pred_at self.now.depth) tokens.now) }
-    {
-        let (found, rest) = self.inner(tokens)?;
-        match found {
-            ExprOrPred::Value(_) => Err(PathRefusal::Syntax),
-            ExprOrPred::Test(p) => Ok((p, rest)),
-        }
-    }
-
     #[tactic(auto, unfolding(sj_path_grammar::specs::Reading::subs_at))]
     fn subs<'a>(
         &self,
@@ -114,22 +83,43 @@ impl<F: Fn(Global, usize, &[Token]) -> Result<(ExprOrPred, &[Token]), PathRefusa
         ensures { Gives (λ x. (step_of x.0, x.1.now)) result (reading.after_bracket (reading.expr_or_pred_at self.now.depth) tokens.now) }
     {
         if let Some(rest) = single::star(tokens) {
-            let rest = single::bracket(rest)?;
+            let Some(rest) = single::bracket(rest) else {
+                return Err(PathRefusal::Syntax);
+            };
             return Ok((Step::AllElements, rest));
         }
         let (subs, rest) = self.subs(tokens.len(), tokens)?;
-        let rest = single::bracket(rest)?;
+        let Some(rest) = single::bracket(rest) else {
+            return Err(PathRefusal::Syntax);
+        };
         Ok((Step::Elements(subs), rest))
     }
 
-    #[tactic(auto, unfolding(sj_path_grammar::specs::Reading::after_question))]
+    /// A predicate, behind the parenthesis that it stands in.
+    #[tactic(auto, unfolding(sj_path_grammar::specs::Reading::group_at, sj_path_grammar::specs::Reading::inner_pred))]
+    fn group<'a>(&self, tokens: &'a [Token]) -> Result<(Box<Pred>, &'a [Token]), PathRefusal>
+        requires { Nests self.now.depth (F.pre self.now.inner) (F.post self.now.inner) }
+        ensures { Gives (λ x. (pred_of x.0.value, x.1.now)) result (reading.group_at (reading.expr_or_pred_at self.now.depth) tokens.now) }
+    {
+        let (found, rest) = self.inner(tokens)?;
+        let ExprOrPred::Test(p) = found else {
+            return Err(PathRefusal::Syntax);
+        };
+        let Some(rest) = single::close(rest) else {
+            return Err(PathRefusal::Syntax);
+        };
+        Ok((p, rest))
+    }
+
+    #[tactic(auto, unfolding(sj_path_grammar::specs::Reading::after_question, sj_path_grammar::specs::Reading::group_at))]
     fn after_question<'a>(&self, tokens: &'a [Token]) -> Result<(Step, &'a [Token]), PathRefusal>
         requires { Nests self.now.depth (F.pre self.now.inner) (F.post self.now.inner) }
         ensures { Gives (λ x. (step_of x.0, x.1.now)) result (reading.after_question (reading.expr_or_pred_at self.now.depth) tokens.now) }
     {
-        let rest = single::open(tokens)?;
-        let (p, rest) = self.inner_pred(rest)?;
-        let rest = single::close(rest)?;
+        let Some(rest) = single::open(tokens) else {
+            return Err(PathRefusal::Syntax);
+        };
+        let (p, rest) = self.group(rest)?;
         Ok((Step::Filter(p), rest))
     }
 
@@ -168,13 +158,26 @@ impl<F: Fn(Global, usize, &[Token]) -> Result<(ExprOrPred, &[Token]), PathRefusa
         Ok((e, rest))
     }
 
-    #[tactic(auto, unfolding(sj_path_grammar::specs::Reading::access_at))]
+    /// An operand and the accessors behind it.
+    #[tactic(auto, unfolding(sj_path_grammar::specs::Reading::access_at, sj_path_grammar::specs::Reading::primary_at))]
     fn access<'a>(&self, tokens: &'a [Token]) -> Result<(Box<Expr>, &'a [Token]), PathRefusal>
         requires { Nests self.now.depth (F.pre self.now.inner) (F.post self.now.inner) }
         ensures { Gives (λ x. (expr_of x.0.value, x.1.now)) result (reading.access_at (reading.expr_or_pred_at self.now.depth) tokens.now) }
     {
-        let (x, rest) = self.primary(tokens)?;
-        self.access_from(x, rest)
+        match tokens {
+            [] => Err(PathRefusal::Syntax),
+            [Token::Open, rest @ ..] => {
+                let (e, rest) = self.inner_expr(rest)?;
+                let Some(rest) = single::close(rest) else {
+                    return Err(PathRefusal::Syntax);
+                };
+                self.access_from(e, rest)
+            }
+            [token, rest @ ..] => {
+                let e = single::expr(self.alloc, token)?;
+                self.access_from(Box::new(self.alloc, e)?, rest)
+            }
+        }
     }
 
     #[tactic(auto, unfolding(sj_path_grammar::specs::Reading::unary_at))]
@@ -258,21 +261,6 @@ impl<F: Fn(Global, usize, &[Token]) -> Result<(ExprOrPred, &[Token]), PathRefusa
         self.sum_from(x, rest)
     }
 
-    /// The rest of an expression that begins with `x`.
-    #[tactic(auto, unfolding(sj_path_grammar::specs::Reading::expr_from))]
-    fn expr_from<'a>(
-        &self,
-        x: Box<Expr>,
-        tokens: &'a [Token],
-    ) -> Result<(Box<Expr>, &'a [Token]), PathRefusal>
-        requires { Nests self.now.depth (F.pre self.now.inner) (F.post self.now.inner) }
-        ensures { Gives (λ x. (expr_of x.0.value, x.1.now)) result (reading.expr_from (reading.expr_or_pred_at self.now.depth) (expr_of x.value) tokens.now) }
-    {
-        let (a, rest) = self.access_from(x, tokens)?;
-        let (b, rest) = self.product_from(a, rest)?;
-        self.sum_from(b, rest)
-    }
-
     /// What stands behind an expression.
     #[tactic(auto, unfolding(sj_path_grammar::specs::Reading::test_from))]
     fn test_from<'a>(
@@ -290,7 +278,9 @@ impl<F: Fn(Global, usize, &[Token]) -> Result<(ExprOrPred, &[Token]), PathRefusa
                 Ok((ExprOrPred::Test(p), rest))
             }
             [Token::Word(Keyword::Starts, _), rest @ ..] => {
-                let rest = single::with(rest)?;
+                let Some(rest) = single::with(rest) else {
+                    return Err(PathRefusal::Syntax);
+                };
                 predicate::initial(self.alloc, e, rest)
             }
             [Token::Word(Keyword::LikeRegex, _), rest @ ..] => {
@@ -311,7 +301,7 @@ impl<F: Fn(Global, usize, &[Token]) -> Result<(ExprOrPred, &[Token]), PathRefusa
     }
 
     /// What stands behind a parenthesis that was closed.
-    #[tactic(auto, unfolding(sj_path_grammar::specs::Reading::after_group))]
+    #[tactic(auto, unfolding(sj_path_grammar::specs::Reading::after_group, sj_path_grammar::specs::Reading::expr_from))]
     fn after_group<'a>(
         &self,
         x: ExprOrPred,
@@ -322,7 +312,9 @@ impl<F: Fn(Global, usize, &[Token]) -> Result<(ExprOrPred, &[Token]), PathRefusa
     {
         match x {
             ExprOrPred::Value(e) => {
-                let (e, rest) = self.expr_from(e, tokens)?;
+                let (e, rest) = self.access_from(e, tokens)?;
+                let (e, rest) = self.product_from(e, rest)?;
+                let (e, rest) = self.sum_from(e, rest)?;
                 self.test_from(e, rest)
             }
             ExprOrPred::Test(p) => predicate::unknown(self.alloc, p, tokens),
@@ -334,20 +326,14 @@ impl<F: Fn(Global, usize, &[Token]) -> Result<(ExprOrPred, &[Token]), PathRefusa
         requires { Nests self.now.depth (F.pre self.now.inner) (F.post self.now.inner) }
         ensures { Gives (λ x. (pred_of x.0.value, x.1.now)) result (reading.exists_at (reading.expr_or_pred_at self.now.depth) tokens.now) }
     {
-        let rest = single::open(tokens)?;
+        let Some(rest) = single::open(tokens) else {
+            return Err(PathRefusal::Syntax);
+        };
         let (e, rest) = self.inner_expr(rest)?;
-        let rest = single::close(rest)?;
+        let Some(rest) = single::close(rest) else {
+            return Err(PathRefusal::Syntax);
+        };
         Ok((Box::new(self.alloc, Pred::Exists(e))?, rest))
-    }
-
-    #[tactic(auto, unfolding(sj_path_grammar::specs::Reading::group_at))]
-    fn group<'a>(&self, tokens: &'a [Token]) -> Result<(Box<Pred>, &'a [Token]), PathRefusal>
-        requires { Nests self.now.depth (F.pre self.now.inner) (F.post self.now.inner) }
-        ensures { Gives (λ x. (pred_of x.0.value, x.1.now)) result (reading.group_at (reading.expr_or_pred_at self.now.depth) tokens.now) }
-    {
-        let (p, rest) = self.inner_pred(tokens)?;
-        let rest = single::close(rest)?;
-        Ok((p, rest))
     }
 
     #[tactic(auto, unfolding(sj_path_grammar::specs::Reading::delim_at))]
@@ -377,7 +363,9 @@ impl<F: Fn(Global, usize, &[Token]) -> Result<(ExprOrPred, &[Token]), PathRefusa
             }
             [Token::Open, rest @ ..] => {
                 let (x, rest) = self.inner(rest)?;
-                let rest = single::close(rest)?;
+                let Some(rest) = single::close(rest) else {
+                    return Err(PathRefusal::Syntax);
+                };
                 self.after_group(x, rest)
             }
             [Token::Word(Keyword::Exists, _), rest @ ..] => {

@@ -17,18 +17,19 @@ use sj_path_token::{LexError, Token, tokens_of};
 use sj_path_tree::Path;
 use std::alloc::Global;
 
+/// A path, behind its mode.
 #[tactic(auto, unfolding(sj_path_grammar::specs::Reading::whole_at))]
-fn whole(alloc: Global, tokens: &[Token]) -> Result<Box<raw::Expr>, PathRefusal>
-    ensures { Gives (λ e. raw.expr_of e.value) result (reading.whole_at tokens.now) }
+fn in_mode(alloc: Global, mode: Mode, tokens: &[Token]) -> Result<raw::Path, PathRefusal>
+    ensures { Gives raw.path_of result (reading.in_mode mode tokens.now) }
 {
     let level = Level {
         alloc,
         depth: tokens.len() + 1,
         inner: expr_or_pred,
     };
-    let (e, rest) = level.inner_expr(tokens)?;
+    let (expr, rest) = level.inner_expr(tokens)?;
     match rest {
-        [] => Ok(e),
+        [] => Ok(raw::Path { mode, expr }),
         _ => Err(PathRefusal::Syntax),
     }
 }
@@ -38,24 +39,12 @@ fn path(alloc: Global, tokens: &[Token]) -> Result<raw::Path, PathRefusal>
     ensures { Gives raw.path_of result (reading.path_at tokens.now) }
 {
     if let Some(rest) = single::lax(tokens) {
-        let expr = whole(alloc, rest)?;
-        return Ok(raw::Path {
-            mode: Mode::Lax,
-            expr,
-        });
+        return in_mode(alloc, Mode::Lax, rest);
     }
     if let Some(rest) = single::strict(tokens) {
-        let expr = whole(alloc, rest)?;
-        return Ok(raw::Path {
-            mode: Mode::Strict,
-            expr,
-        });
+        return in_mode(alloc, Mode::Strict, rest);
     }
-    let expr = whole(alloc, tokens)?;
-    Ok(raw::Path {
-        mode: Mode::Lax,
-        expr,
-    })
+    in_mode(alloc, Mode::Lax, tokens)
 }
 
 /// The path that the tokens spell, or the first refusal in the order of `PathRefusal`.

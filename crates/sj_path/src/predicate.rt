@@ -67,7 +67,9 @@ pub fn unknown(
     let Some(rest) = single::is(tokens) else {
         return Ok((ExprOrPred::Test(p), tokens));
     };
-    let rest = single::unknown(rest)?;
+    let Some(rest) = single::unknown(rest) else {
+        return Err(PathRefusal::Syntax);
+    };
     let p = Box::new(alloc, Pred::IsUnknown(p))?;
     Ok((ExprOrPred::Test(p), rest))
 }

@@ -1,5 +1,4 @@
-//! Single tokens. A token that may stand somewhere gives `None` where it does not, and one that has to stand there is
-//! refused.
+//! Single tokens: what follows one that stands first, or nothing where another stands there.
 
 ghost use Rattle.std.specs.Prelude.{◌≡◌, option_map, IfOk};
 ghost use Rattle.std.specs.Option.{option_copied};
@@ -36,12 +35,12 @@ pub fn mul_sign(tokens: &[Token]) -> Option<(Arith, &[Token])>
     }
 }
 
-pub fn close(tokens: &[Token]) -> Result<&[Token], PathRefusal>
-    ensures { Gives (λ rest. rest.now) result (reading.close_at tokens.now) }
+pub fn close(tokens: &[Token]) -> Option<&[Token]>
+    ensures { option_copied result ≡ reading.close_at tokens.now }
 {
     match tokens {
-        [Token::Close, rest @ ..] => Ok(rest),
-        _ => Err(PathRefusal::Syntax),
+        [Token::Close, rest @ ..] => Some(rest),
+        _ => None,
     }
 }
 
@@ -63,21 +62,21 @@ pub fn is(tokens: &[Token]) -> Option<&[Token]>
     }
 }
 
-pub fn unknown(tokens: &[Token]) -> Result<&[Token], PathRefusal>
-    ensures { Gives (λ rest. rest.now) result (reading.unknown_at tokens.now) }
+pub fn unknown(tokens: &[Token]) -> Option<&[Token]>
+    ensures { option_copied result ≡ reading.unknown_at tokens.now }
 {
     match tokens {
-        [Token::Word(Keyword::Unknown, _), rest @ ..] => Ok(rest),
-        _ => Err(PathRefusal::Syntax),
+        [Token::Word(Keyword::Unknown, _), rest @ ..] => Some(rest),
+        _ => None,
     }
 }
 
-pub fn with(tokens: &[Token]) -> Result<&[Token], PathRefusal>
-    ensures { Gives (λ rest. rest.now) result (reading.with_at tokens.now) }
+pub fn with(tokens: &[Token]) -> Option<&[Token]>
+    ensures { option_copied result ≡ reading.with_at tokens.now }
 {
     match tokens {
-        [Token::Word(Keyword::With, _), rest @ ..] => Ok(rest),
-        _ => Err(PathRefusal::Syntax),
+        [Token::Word(Keyword::With, _), rest @ ..] => Some(rest),
+        _ => None,
     }
 }
 
@@ -150,21 +149,21 @@ pub fn expr(alloc: Global, token: &Token) -> Result<Expr, PathRefusal>
     }
 }
 
-pub fn open(tokens: &[Token]) -> Result<&[Token], PathRefusal>
-    ensures { Gives (λ rest. rest.now) result (reading.open_at tokens.now) }
+pub fn open(tokens: &[Token]) -> Option<&[Token]>
+    ensures { option_copied result ≡ reading.open_at tokens.now }
 {
     match tokens {
-        [Token::Open, rest @ ..] => Ok(rest),
-        _ => Err(PathRefusal::Syntax),
+        [Token::Open, rest @ ..] => Some(rest),
+        _ => None,
     }
 }
 
-pub fn bracket(tokens: &[Token]) -> Result<&[Token], PathRefusal>
-    ensures { Gives (λ rest. rest.now) result (reading.bracket_at tokens.now) }
+pub fn bracket(tokens: &[Token]) -> Option<&[Token]>
+    ensures { option_copied result ≡ reading.bracket_at tokens.now }
 {
     match tokens {
-        [Token::CloseBracket, rest @ ..] => Ok(rest),
-        _ => Err(PathRefusal::Syntax),
+        [Token::CloseBracket, rest @ ..] => Some(rest),
+        _ => None,
     }
 }
 

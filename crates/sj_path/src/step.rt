@@ -41,11 +41,15 @@ fn datetime(alloc: Global, tokens: &[Token]) -> Result<(Step, &[Token]), PathRef
 {
     match tokens {
         [Token::Quoted(text), rest @ ..] => {
-            let rest = single::close(rest)?;
+            let Some(rest) = single::close(rest) else {
+                return Err(PathRefusal::Syntax);
+            };
             Ok((Step::DatetimeBy(single::copy(alloc, text)?), rest))
         }
         _ => {
-            let rest = single::close(tokens)?;
+            let Some(rest) = single::close(tokens) else {
+                return Err(PathRefusal::Syntax);
+            };
             Ok((Step::Datetime, rest))
         }
     }
@@ -63,8 +67,12 @@ fn called(
     match keyword {
         Keyword::Datetime => datetime(alloc, tokens),
         _ => {
-            let method = method(keyword).ok_or(PathRefusal::Syntax)?;
-            let rest = single::close(tokens)?;
+            let Some(rest) = single::close(tokens) else {
+                return Err(PathRefusal::Syntax);
+            };
+            let Some(method) = method(keyword) else {
+                return Err(PathRefusal::Syntax);
+            };
             Ok((method, rest))
         }
     }
