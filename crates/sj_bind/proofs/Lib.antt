@@ -1,8 +1,6 @@
 -- for `note_name`, `number_of` and `variable_names`
 pub mod AddedNames
--- for crates above
-pub mod Bindable
--- for `accepted_statements_are_bindable`, and for other lemmas
+-- for `accepted_statements_are_bindable`, for crates above, and for other lemmas
 pub mod Accepting
 -- for `bind_members`, `bind_row_members`, `bind_row_value`, `bind_row_values`, `bind_value`, `bind_values`,
 -- `chain_members` and `chain_values`

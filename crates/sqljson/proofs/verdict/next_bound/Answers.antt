@@ -2,13 +2,16 @@ use Rattle.std.proofs.Common.{Err, refl, sym, subst}
 use Rattle.sj_sql_grammar.specs.declared.refusal.BindKind.{BindKind}
 use Rattle.sj_sql_grammar.specs.declared.refusal.FileKind.TheVariants.{Bind}
 use Rattle.sj_sql_tree.specs.View.{statement_of}
-use Rattle.sj_bind.proofs.Bindable.{IsBindableNext, next_bindable}
+use Rattle.sj_bind.proofs.Accepting.{accepted_bindable}
 use Rattle.sqljson.specs.Refusals.{IsVerdictFrom}
 use Rattle.sqljson.proofs.Verdicts.{first_so, broken_so, rule_broken, refused_so}
 use Rattle.sqljson.proofs.verdict.next_bound.Goals as goal
 
 pub bind-requires : goal.bind-requires
-bind-requires c = subst IsBindableNext c.in-Ok-Statement.field-0-is (next_bindable c.args.rest.now c.in-Ok-Statement.field-0 c.in-Ok-Statement.ensures)
+bind-requires c =
+    let s = c.in-Ok-Statement.statement in
+    let first = first_so c.args.rest.now c.in-Ok-Statement.field-0 s c.in-Ok-Statement.behind c.in-Ok-Statement.field-0-is c.in-Ok-Statement.ensures in
+    accepted_bindable first.tokens (statement_of s) first.accepted
 
 pub returns-in-Err-Kind : goal.returns-in-Err-Kind
 returns-in-Err-Kind c =
