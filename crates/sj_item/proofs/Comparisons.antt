@@ -1,11 +1,14 @@
 -- Trees compare as what is looked at of them.
-use Rattle.std.proofs.Common.{◌≡◌, ℕ, List, refl, sym, ap₂}
+use Rattle.std.proofs.Common.{◌≡◌, ℕ, ℤ, List, refl, sym, ap₂}
+use Rattle.sj_decimal.specs.Compare.{decimal_cmp}
 use Rattle.sj_decimal.specs.declared.comparing.Compare.{Compare}
 use Rattle.sj_json.specs.Tree.{exact, wide, Tree, null, truth, string, number, Items, array, Members, object}
 use Rattle.sj_item.specs.declared.comparison.Comparand.{Comparand}
 use Rattle.sj_item.specs.declared.comparison.Comparand.TheVariants.{Null, Num, Text, Bool as Logical, Other}
 use Rattle.sj_item.specs.declared.truth.Truth.{Truth}
 use Rattle.sj_item.specs.declared.truth.Truth.TheVariants.{Unknown}
+use Rattle.sj_item.specs.Truths.{truth_of}
+use Rattle.sj_item.specs.Orders.{holds}
 use Rattle.sj_item.specs.Held.{exact_value}
 use Rattle.sj_item.specs.Pairs.{null_and_other, trees_compare, tree_starts_with}
 use Rattle.sj_item.specs.Comparands.{IsOther, ComparesAs, comparands_compare, comparand_starts_with}
@@ -57,6 +60,11 @@ module _ (op : Compare) where
       (λ us. by_form (λ y. Unknown ≡ trees_compare op (array us) y) (λ r. refl) (λ ts. refl) (λ ms. refl) u f)
       (λ ns. by_form (λ y. Unknown ≡ trees_compare op (object ns) y) (λ r. refl) (λ ts. refl) (λ ms. refl) u f)
       t e
+
+  -- two exact numbers, with no look at anything else
+  pub numbers_compare : (t u : Tree) (m n : ℤ × ℕ) → t ≡ number (exact m) → u ≡ number (exact n) → truth_of (holds op (decimal_cmp m n)) ≡ trees_compare op t u
+  unfolding trees_compare
+  numbers_compare t u m n e f = ap₂ (λ x y. trees_compare op x y) (sym e) (sym f)
 
 -- what is no string starts with nothing, and nothing starts with it
 no_start : (t : Tree) (a : Comparand) → ComparesAs t a → (u : Tree) (b : Comparand) → ComparesAs u b → comparand_starts_with a b ≡ tree_starts_with t u

@@ -1,11 +1,12 @@
 -- What an item holds in itself.
-use Rattle.std.specs.Prelude.{ℕ, List, take, ℤ}
+use Rattle.std.specs.Prelude.{ℕ, ◌+◌, ◌*◌, ◌^◌, List, take, ℤ}
+use Rattle.sj_decimal.specs.Signed.{signed}
 use Rattle.sj_item.specs.declared.held.Exact.{Exact}
 use Rattle.sj_item.specs.declared.held.ShortText.{ShortText}
 
 -- the decimal
 abbrev pub exact_value : Exact → ℤ × ℕ
-exact_value n = (n.coefficient, n.scale)
+exact_value n = (signed n.negative (n.upper * 2 ^ 64 + n.lower), n.scale)
 
 -- the text
 abbrev pub short_text : ShortText → List ℕ

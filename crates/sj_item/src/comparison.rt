@@ -1,5 +1,6 @@
 // The comparison of two items.
-ghost use Rattle.std.specs.Prelude.{◌≡◌};
+ghost use Rattle.std.specs.Prelude.{◌≡◌, IfSome};
+ghost use Rattle.sj_json.specs.Tree.{number, exact};
 ghost use Rattle.sj_doc.specs.Listed.{node_tree};
 ghost use Rattle.sj_item.specs.Truths.{truth_of};
 ghost use Rattle.sj_item.specs.Orders.{holds};
@@ -11,7 +12,7 @@ use crate::held::Exact;
 use crate::item::Item;
 use crate::texts::{order_of_texts, text_begins_with};
 use crate::truth::Truth;
-use sj_decimal::Compare;
+use sj_decimal::{Compare, Decimal};
 use sj_doc::{Kind, NodeRef, Num};
 use std::cmp::Ordering;
 
@@ -38,6 +39,12 @@ impl<'d> Item<'d> {
     pub fn compare(&self, op: Compare, other: &Item<'_>) -> Truth
         ensures { result ≡ items_compare op (item_value self.now) (item_value other.now) }
     {
+        // Most comparisons are of two numbers, which need no more than their values.
+        if let Some(left) = exact_number(self) {
+            if let Some(right) = exact_number(other) {
+                return decided(op, left.cmp(right));
+            }
+        }
         compare_as(op, as_comparand(self), as_comparand(other))
     }
 
@@ -46,6 +53,29 @@ impl<'d> Item<'d> {
         ensures { result ≡ item_starts_with (item_value self.now) (item_value start.now) }
     {
         starts_with_as(as_comparand(self), as_comparand(start))
+    }
+}
+
+// The value of an item that is an exact number.
+fn exact_number(item: &Item<'_>) -> Option<Decimal>
+    ensures { IfSome result (λ d. item_tree (item_value item.now) ≡ number (exact d)) }
+{
+    match item {
+        Item::Node(node) => node_number(*node),
+        Item::Num(number) => Some(number.value()),
+        _ => None,
+    }
+}
+
+fn node_number(node: NodeRef<'_>) -> Option<Decimal>
+    ensures { IfSome result (λ d. node_tree node.entry ≡ number (exact d)) }
+{
+    match node.kind() {
+        Kind::Number => match node.number() {
+            Num::Exact(number) => Some(number),
+            Num::Wide(_) => None,
+        },
+        _ => None,
     }
 }
 

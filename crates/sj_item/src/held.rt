@@ -1,15 +1,22 @@
 // What an item holds in itself.
-ghost use Rattle.std.specs.Prelude.{◌≡◌, ◌≤◌, length, take, IsUtf8};
+ghost use Rattle.std.specs.Prelude.{◌≡◌, ◌+◌, ◌*◌, ◌^◌, ◌<◌, ◌≤◌, length, take, IsUtf8};
+ghost use Rattle.sj_decimal.specs.Signed.{signed};
 ghost use Rattle.sj_decimal.specs.Normal.{IsDecimal};
 
 use sj_decimal::Decimal;
 
+/// How much one of the upper half of a magnitude is.
+const UPPER: u128 = 1 << 64;
+
 /// An exact decimal, as an item holds it. Contracts see the decimal, `exact_value`.
 #[derive(Clone, Copy)]
 pub struct Exact {
-    coefficient: i128,
+    // The magnitude in two halves: items with a number of 128 bits in them would be half as large again.
+    upper: u64,
+    lower: u64,
     scale: u32,
-    ghost exact: { IsDecimal (coefficient, scale) },
+    negative: bool,
+    ghost exact: { IsDecimal (signed negative (upper * 2 ^ 64 + lower), scale) },
 }
 
 impl Exact {
@@ -20,15 +27,30 @@ impl Exact {
         ensures { exact_value result ≡ value }
     {
         let (coefficient, scale) = value.parts();
-        Exact { coefficient, scale }
+        let magnitude = coefficient.unsigned_abs();
+        Exact {
+            upper: (magnitude / UPPER) as u64,
+            lower: (magnitude % UPPER) as u64,
+            scale,
+            negative: coefficient < 0,
+        }
     }
 
     /// The decimal.
     pub fn value(self) -> Decimal
         ensures { result ≡ exact_value self }
     {
-        Decimal::from_normal(self.coefficient, self.scale)
+        let magnitude = self.upper as u128 * UPPER + self.lower as u128;
+        Decimal::from_normal(coefficient(self.negative, magnitude), self.scale)
     }
+}
+
+fn coefficient(negative: bool, magnitude: u128) -> i128
+    requires { magnitude < 10 ^ 38 }
+    ensures { result ≡ signed negative magnitude }
+{
+    let magnitude = magnitude as i128;
+    if negative { -magnitude } else { magnitude }
 }
 
 /// A text of at most 48 bytes, as an item holds it. Contracts see its bytes, `short_text`, which are always UTF-8.
