@@ -1,6 +1,6 @@
 -- for `ascii_end` and `text_of`
 pub mod Ascii
--- for `string_end` and `unescape`, and for other lemmas
+-- for `far_string_end`, `string_end` and `unescape`, and for other lemmas
 pub mod Scanned
 -- for `any_number`, `colon_and_scalar`, `escaped_key`, `escaped_value`, `number`, `quoted_key`, `scalar`,
 -- `separator`, `turn` and `value`, and for other lemmas
@@ -15,5 +15,5 @@ pub mod Unescaping
 pub mod Ends
 -- for `high_in_32`, `stops_in_16`, `stops_in_32` and `stops_in_8`
 pub mod Lanes
--- for `long_plain_end`, `plain_end` and `plain_end_of_31`
+-- for `long_plain_end`, `near_end` and `plain_end_of_31`
 pub mod Runs

@@ -1,5 +1,5 @@
 -- A run of bytes that pass q, seen a vector at a time through the mask of those that fail it.
-use Rattle.std.proofs.Common.{◌≡◌, ℕ, ◌+◌, ◌*◌, ◌<◌, ◌≤◌, Bool, true, false, not, cond, eqb, List, [], ◌∷◌, map, length, drop, refl, sym, ap, ap₂, ◌∙◌, arith}
+use Rattle.std.proofs.Common.{◌≡◌, ◌≢◌, ℕ, ◌+◌, ◌*◌, ◌<◌, ◌≤◌, Bool, true, false, not, cond, eqb, List, [], ◌∷◌, map, length, drop, refl, sym, ap, ap₂, ◌∙◌, arith}
 use Rattle.std.proofs.lemmas.Simd.{chunk-drop, length-chunk, leading_from_mask_l, trailing_mask_l}
 use Rattle.std.proofs.lemmas.List.{length-drop}
 use Rattle.std.proofs.lemmas.List.Folds.{prefix_len-append}
@@ -39,3 +39,11 @@ module _ (p q : ℕ → Bool) (opposite : (x : ℕ) → q x ≡ not (p x)) where
       let c = chunk i n d in
       split d i n ∙ ap (λ b. cond b (length c + prefix_len q (drop (i + n) d)) (prefix_len q c)) (ne_eqb _ _ (λ (e : prefix_len q c ≡ length c). omega (arith, all_pass c (sym (same_run c) ∙ e))))
       ∙ same_run c ∙ sym (trailing_mask_l p 64 c (omega (arith, length-chunk i n d room)) some)
+
+  -- it stops within the vector
+  pub run_short : (d : List ℕ) (i n : ℕ) → i + n ≤ length d → 0 < mask_l (map p (chunk i n d)) → prefix_len q (drop i d) < n
+  run_short d i n room some =
+      let c = chunk i n d in
+      let stops : prefix_len q c ≢ length c = λ e. omega (arith, all_pass c (sym (same_run c) ∙ e)) in
+      let here : prefix_len q (drop i d) ≡ prefix_len q c = split d i n ∙ ap (λ b. cond b (length c + prefix_len q (drop (i + n) d)) (prefix_len q c)) (ne_eqb _ _ stops) in
+      omega (arith, here, prefix_len-le-length q c, length-chunk i n d room)

@@ -53,13 +53,13 @@ fn digits_end(bytes: &[u8], from: usize) -> usize
     at
 }
 
-// Whether a number that has come to the place goes on there.
+// Whether a number that has come to the place goes on there. Most have a comma behind them.
 #[inline(always)]
 fn goes_on(bytes: &[u8], at: usize) -> bool
     requires { at ≤ length bytes.now }
     ensures { result ≡ false → prefix_len number_byte (drop at bytes.now) ≡ 0 }
 {
-    at < bytes.len() && is_number_byte(bytes[at])
+    at < bytes.len() && bytes[at] != b',' && is_number_byte(bytes[at])
 }
 
 // The end of the digits before the point. There is one at least, and no zero before others.

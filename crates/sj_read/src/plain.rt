@@ -1,5 +1,5 @@
 // Passing over the plain text of a string, many bytes at a step.
-ghost use Rattle.std.specs.Prelude.{◌≡◌, ◌+◌, ◌≤◌, length, drop, map};
+ghost use Rattle.std.specs.Prelude.{◌≡◌, ◌+◌, ◌<◌, ◌≤◌, length, drop, map, IfSome};
 ghost use Rattle.std.specs.List.{prefix_len};
 ghost use Rattle.std.specs.Simd.Lanes.{mask_l};
 ghost use Rattle.sj_base.specs.ByteClasses.{is_plain};
@@ -66,7 +66,7 @@ fn plain_end_of_31(text: &[u8], from: usize) -> usize
 
 // Text that is longer than most.
 #[inline(never)]
-fn long_plain_end(text: &[u8], from: usize) -> usize
+pub(crate) fn long_plain_end(text: &[u8], from: usize) -> usize
     requires { from ≤ length text.now }
     ensures value { result ≡ from + prefix_len is_plain (drop from text.now) }
     ensures bound { result ≤ length text.now }
@@ -82,19 +82,32 @@ fn long_plain_end(text: &[u8], from: usize) -> usize
     plain_end_of_31(text, i)
 }
 
-// The first quotation mark, backslash or control character from the place on, or the length.
+// The first quotation mark, backslash or control character from the place on, if one stands among the next 16 bytes, as
+// most do.
+#[inline(always)]
+pub(crate) fn near_end(text: &[u8], from: usize) -> Option<usize>
+    requires { from ≤ length text.now }
+    ensures { IfSome result (λ end. (end ≡ from + prefix_len is_plain (drop from text.now)) × (end < length text.now)) }
+{
+    if text.len() - from < 16 {
+        return None;
+    }
+    let found = stops_in_16(u8x16::from_slice(&text[from..]));
+    if found == 0 {
+        return None;
+    }
+    Some(from + found.trailing_zeros() as usize)
+}
+
+// The same, or the length, wherever it stands.
 #[inline(always)]
 pub(crate) fn plain_end(text: &[u8], from: usize) -> usize
     requires { from ≤ length text.now }
     ensures value { result ≡ from + prefix_len is_plain (drop from text.now) }
     ensures bound { result ≤ length text.now }
 {
-    if text.len() - from < 16 {
-        return plain_end_of_31(text, from);
+    match near_end(text, from) {
+        Some(end) => end,
+        None => long_plain_end(text, from),
     }
-    let found = stops_in_16(u8x16::from_slice(&text[from..]));
-    if found != 0 {
-        return from + found.trailing_zeros() as usize;
-    }
-    long_plain_end(text, from + 16)
 }

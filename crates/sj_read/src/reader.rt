@@ -210,8 +210,8 @@ fn scalar(builder: &mut DocBuilder, buffer: &mut String, text: &str, at: usize, 
     }
 }
 
-// The scalar that begins with the byte c at the place, and the separator if it stands right behind. One turn for the two is
-// faster than two turns.
+// The scalar that begins with the byte c at the place, and the separators as far as they stand right behind. One turn for
+// them is faster than several.
 #[inline(always)]
 fn scalar_and_separator(
     builder: &mut DocBuilder,
@@ -234,7 +234,7 @@ fn scalar_and_separator(
 {
     match scalar(builder, buffer, text, at, c) {
         Ok(end) => match token_at(text.as_bytes(), end) {
-            Some(next) => separator(builder, mode, text, end, next),
+            Some(next) => separators(builder, mode, text, end, next),
             None => {
                 *mode = Mode::AfterValue;
                 Ok(end)
@@ -365,6 +365,85 @@ fn member(
     }
 }
 
+// Members one right behind another, the first of which begins with the byte c at the place. What comes next is known where
+// the code stands, so one turn for all of them is faster than one for each.
+#[inline(always)]
+fn members(
+    builder: &mut DocBuilder,
+    buffer: &mut String,
+    mode: &mut Mode,
+    text: &str,
+    at: usize,
+    c: u8,
+) -> Turn
+    requires line { builder.old.1 ≡ text.now }
+    requires within { (at < length text.now) × (length text.now ≤ MAX_LENGTH) }
+    requires here { slice_index text.now at ≡ c }
+    requires not_blank { blank_byte c ≡ false }
+    requires ready { Ready key_mode builder.old.0 }
+    requires room { node_total builder.old.0 ≤ at }
+    ensures turns { Turns MAX_DEPTH mode.new result key_mode builder.old.0 text.now at builder.new.0 }
+    ensures line { builder.new.1 ≡ builder.old.1 }
+{
+    let mut from = at;
+    let mut first = c;
+    'members: loop {
+        let to = match member(builder, buffer, mode, text, from, first) {
+            Ok(to) => to,
+            Err(refusal) => return Err(refusal),
+        };
+        match *mode {
+            Mode::Key => match token_at(text.as_bytes(), to) {
+                Some(next) => {
+                    from = to;
+                    first = next;
+                }
+                None => return Ok(to),
+            },
+            _ => return Ok(to),
+        }
+    }
+}
+
+// Elements one right behind another, of which all but the last are scalars.
+#[inline(always)]
+fn elements(
+    builder: &mut DocBuilder,
+    buffer: &mut String,
+    mode: &mut Mode,
+    text: &str,
+    at: usize,
+    c: u8,
+) -> Turn
+    requires line { builder.old.1 ≡ text.now }
+    requires within { (at < length text.now) × (length text.now ≤ MAX_LENGTH) }
+    requires here { slice_index text.now at ≡ c }
+    requires not_blank { blank_byte c ≡ false }
+    requires ready { Ready value_mode builder.old.0 }
+    requires room { node_total builder.old.0 ≤ at }
+    ensures turns { Turns MAX_DEPTH mode.new result value_mode builder.old.0 text.now at builder.new.0 }
+    ensures line { builder.new.1 ≡ builder.old.1 }
+{
+    let mut from = at;
+    let mut first = c;
+    'elements: loop {
+        let to = match value(builder, buffer, mode, text, from, first) {
+            Ok(to) => to,
+            Err(refusal) => return Err(refusal),
+        };
+        match *mode {
+            Mode::Value => match token_at(text.as_bytes(), to) {
+                Some(next) => {
+                    from = to;
+                    first = next;
+                }
+                None => return Ok(to),
+            },
+            _ => return Ok(to),
+        }
+    }
+}
+
 // A comma or a closing bracket.
 #[inline(always)]
 fn separator(builder: &mut DocBuilder, mode: &mut Mode, text: &str, at: usize, c: u8) -> Turn
@@ -402,6 +481,37 @@ fn separator(builder: &mut DocBuilder, mode: &mut Mode, text: &str, at: usize, c
             Ok(at + 1)
         }
         _ => Err(ReadRefusal::NotJson),
+    }
+}
+
+// Closing brackets one right behind another, and a comma if one stands right behind them.
+#[inline(always)]
+fn separators(builder: &mut DocBuilder, mode: &mut Mode, text: &str, at: usize, c: u8) -> Turn
+    requires within { (at < length text.now) × (length text.now ≤ MAX_LENGTH) }
+    requires here { slice_index text.now at ≡ c }
+    requires not_blank { blank_byte c ≡ false }
+    requires ready { Ready after_mode builder.old.0 }
+    requires room { node_total builder.old.0 ≤ at }
+    ensures turns { Turns MAX_DEPTH mode.new result after_mode builder.old.0 text.now at builder.new.0 }
+    ensures line { builder.new.1 ≡ builder.old.1 }
+{
+    let mut from = at;
+    let mut first = c;
+    'separators: loop {
+        let to = match separator(builder, mode, text, from, first) {
+            Ok(to) => to,
+            Err(refusal) => return Err(refusal),
+        };
+        match *mode {
+            Mode::AfterValue => match token_at(text.as_bytes(), to) {
+                Some(next) => {
+                    from = to;
+                    first = next;
+                }
+                None => return Ok(to),
+            },
+            _ => return Ok(to),
+        }
     }
 }
 
@@ -443,8 +553,8 @@ fn turn(
         return Ok(at + 1);
     }
     match *mode {
-        Mode::Value | Mode::ValueOrClose => value(builder, buffer, mode, text, at, c),
-        Mode::Key | Mode::KeyOrClose => member(builder, buffer, mode, text, at, c),
+        Mode::Value | Mode::ValueOrClose => elements(builder, buffer, mode, text, at, c),
+        Mode::Key | Mode::KeyOrClose => members(builder, buffer, mode, text, at, c),
         Mode::Colon => {
             if c != b':' {
                 return Err(ReadRefusal::NotJson);
@@ -452,7 +562,7 @@ fn turn(
             *mode = Mode::Value;
             Ok(at + 1)
         }
-        Mode::AfterValue => separator(builder, mode, text, at, c),
+        Mode::AfterValue => separators(builder, mode, text, at, c),
     }
 }
 

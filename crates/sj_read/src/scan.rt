@@ -6,7 +6,7 @@ ghost use Rattle.sj_base.specs.ByteClasses.{is_blank as blank_byte};
 ghost use Rattle.sj_decimal.specs.Number.{begins_number as beginning_byte, is_number_byte as number_byte};
 ghost use Rattle.sj_read.specs.Scans.{EndsPlain};
 
-use crate::plain::plain_end;
+use crate::plain::{long_plain_end, near_end};
 use sj_base::is_blank;
 
 // The byte at the place, if it is no white space.
@@ -65,7 +65,19 @@ pub(crate) fn string_end(bytes: &[u8], from: usize) -> Option<usize>
     requires { from ≤ length bytes.now }
     ensures { IfSome result (EndsPlain bytes.now from) }
 {
-    let end = plain_end(bytes, from);
+    match near_end(bytes, from) {
+        Some(end) => { if bytes[end] == b'"' { Some(end) } else { None } }
+        None => far_string_end(bytes, from),
+    }
+}
+
+// The same of a string that is longer than most, or stands near the end of the text.
+#[inline(always)]
+fn far_string_end(bytes: &[u8], from: usize) -> Option<usize>
+    requires { from ≤ length bytes.now }
+    ensures { IfSome result (EndsPlain bytes.now from) }
+{
+    let end = long_plain_end(bytes, from);
     if end == bytes.len() {
         return None;
     }

@@ -54,7 +54,7 @@ returns-in-Value-clause-turns c =
     let n = c.args.mode.now in
     let stays : closes_at n b ≡ false = sym c.closes_empty.ensures ∙ c.if-closes_empty.false in
     moved MAX_DEPTH (mode_of n) machine.value s t c.args.at b c.requires.within.0 (byte_is (goal.at.returns-in-Value-clause-turns c).After-as_bytes)
-    (opens_value MAX_DEPTH n s b c.in-Value.is (sym c.is_blank.ensures ∙ c.if-is_blank.false) stays) c.value.new.mode c.value.result c.value.new.builder.0 c.value.ensures.turns
+    (opens_value MAX_DEPTH n s b c.in-Value.is (sym c.is_blank.ensures ∙ c.if-is_blank.false) stays) c.elements.new.mode c.elements.result c.elements.new.builder.0 c.elements.ensures.turns
 
 pub returns-in-Key-clause-turns : goal.returns-in-Key-clause-turns
 returns-in-Key-clause-turns c =
@@ -64,4 +64,4 @@ returns-in-Key-clause-turns c =
     let n = c.args.mode.now in
     let stays : closes_at n b ≡ false = sym c.closes_empty.ensures ∙ c.if-closes_empty.false in
     moved MAX_DEPTH (mode_of n) machine.key s t c.args.at b c.requires.within.0 (byte_is (goal.at.returns-in-Key-clause-turns c).After-as_bytes)
-    (opens_key MAX_DEPTH n s b c.in-Key.is (sym c.is_blank.ensures ∙ c.if-is_blank.false) stays) c.member.new.mode c.member.result c.member.new.builder.0 c.member.ensures.turns
+    (opens_key MAX_DEPTH n s b c.in-Key.is (sym c.is_blank.ensures ∙ c.if-is_blank.false) stays) c.members.new.mode c.members.result c.members.new.builder.0 c.members.ensures.turns

@@ -1,0 +1,22 @@
+use Rattle.std.proofs.Common.{◌≡◌, ◌-◌, ◌<◌, ◌≤◌, length, drop, get_or, false}
+use Rattle.sj_base.specs.ByteClasses.{is_blank}
+use Rattle.sj_json.specs.Machine.{value, run}
+use Rattle.sj_doc.specs.Builders.{node_total}
+use Rattle.sj_read.specs.declared.reader.TheConstants.{MAX_DEPTH}
+use Rattle.sj_read.specs.Turns.{Ready}
+use Rattle.sj_read.proofs.reader.elements.Given as goal
+
+abbrev pub invariant-elements : goal.invariant-elements
+invariant-elements l = record {
+  line : l.builder.1 ≡ l.text;
+  within : l.from < length l.text;
+  here : get_or l.text l.from 0 ≡ l.first;
+  not_blank : is_blank l.first ≡ false;
+  ready : Ready value l.builder.0;
+  room : node_total l.builder.0 ≤ l.from;
+  later : l.at ≤ l.from;
+  same : run MAX_DEPTH value l.fn.builder.0 (drop l.at l.text) ≡ run MAX_DEPTH value l.builder.0 (drop l.from l.text);
+}
+
+abbrev pub decreases-elements : goal.decreases-elements
+decreases-elements l = length l.text - l.from
