@@ -7,6 +7,7 @@ use Rattle.sj_json.specs.Tree.{Tree, children, numbered, NumberedChild}
 use Rattle.sj_doc.specs.Keyed.{is_key, from_key}
 use Rattle.sj_doc.specs.Kinds.{kind_of}
 use Rattle.sj_doc.specs.Slots.{Key, texts}
+use Rattle.sj_doc.specs.declared.doc.NodeRef.{NodeRef}
 use Rattle.sj_doc.specs.declared.node.Kind.{Kind}
 use Rattle.sj_doc.specs.declared.node.Kind.TheVariants as kinds
 use Rattle.sj_path_grammar.specs.Tree as t
@@ -18,12 +19,18 @@ use Rattle.sj_step.proofs.Traces.{join-after_visits, join-stop, join_assoc, each
 use Rattle.sj_step.proofs.Keyed.{gives_first, gives_none}
 use Rattle.sj_path_tree.specs.Vars.{Variables}
 use Rattle.sj_cursor.specs.Meaning.{Env, meaning, start_env, path_trace}
-use Rattle.sj_cursor.specs.Looks.{Found, none_found, Look, more, is_enough, looked, look_cost, Finds}
-use Rattle.sj_cursor.specs.Chains.{accessed, below, under, over, IsChainOf, Sought, Seeking}
+use Rattle.sj_cursor.specs.Cells.{opened}
+use Rattle.sj_cursor.specs.Left.{operand_whole}
+use Rattle.sj_cursor.specs.Looks.{Look, Finds}
+use Rattle.sj_cursor.specs.Takers.{Taken, with_item, suffices, taken_of, taking_cost}
+use Rattle.sj_cursor.specs.Chains.{accessed, below, under, over, elements_of, node_value, IsLaxNode, IsChainOf, Sought, Seeking}
+use Rattle.sj_cursor.specs.declared.cells.Opening.{Opening}
+use Rattle.sj_cursor.specs.declared.cells.Opening.TheVariants.{AsItIs, Unwrapped}
 use Rattle.sj_cursor.specs.declared.chain.Chain.{Chain}
 use Rattle.sj_cursor.specs.declared.look.Limit.{Limit}
 use Rattle.sj_cursor.proofs.NotUnwrapped.{unopened}
-use Rattle.sj_cursor.proofs.Looks.{looked-after_visits, cost-after_visits}
+use Rattle.sj_cursor.proofs.Operators.{as_it_is}
+use Rattle.sj_cursor.proofs.Takers.{taken-after_visits, taking-after_visits}
 
 -- ---- keys in a row
 
@@ -44,21 +51,34 @@ accessed-last e (k ∷ keys) key = accessed-last (t.Access e (t.Member k)) keys 
 pub key_behind : (e : t.Expr) (ks : List Key) (k : Key) → accessed t.Root (texts ks) ≡ e → accessed t.Root (texts (ks ++ (k ∷ []))) ≡ t.Access e (t.Member k.now)
 key_behind e ks k h = ap (accessed t.Root) (texts-last ks k) ∙ accessed-last t.Root (texts ks) k.now ∙ ap (λ d. t.Access d (t.Member k.now)) h
 
-accessed_on : (e : t.Expr) (keys : List (List ℕ)) (env : Env) → env.mode ≡ Lax → meaning (accessed e keys) env ≡ each (meaning e env) (below keys)
-accessed_on e [] env lax = sym (each-only (meaning e env))
-accessed_on e (key ∷ keys) env lax =
+accessed_on : (how : Opening) (e : t.Expr) (keys : List (List ℕ)) (env : Env) → env.mode ≡ Lax → operand_whole how (accessed e keys) env ≡ each (meaning e env) (below how keys)
+accessed_on how e [] env lax = ap (λ m. each (meaning e env) (opened how m)) lax
+accessed_on how e (key ∷ keys) env lax =
     let step : ItemValue → Trace = reach (by_key key) Lax in
-    accessed_on (t.Access e (t.Member key)) keys env lax
-    ∙ ap (λ m. each (each (each (meaning e env) (unwrap m)) (reach (by_key key) m)) (below keys)) lax
-    ∙ ap (λ u. each u (below keys)) (each_assoc (meaning e env) (unwrap Lax) step)
-    ∙ each_assoc (meaning e env) (λ (x : ItemValue). each (unwrap Lax x) step) (below keys)
+    accessed_on how (t.Access e (t.Member key)) keys env lax
+    ∙ ap (λ m. each (each (each (meaning e env) (unwrap m)) (reach (by_key key) m)) (below how keys)) lax
+    ∙ ap (λ u. each u (below how keys)) (each_assoc (meaning e env) (unwrap Lax) step)
+    ∙ each_assoc (meaning e env) (λ (x : ItemValue). each (unwrap Lax x) step) (below how keys)
 
-pub plain_trace : (path : t.Path) (vars : Variables) (x : ItemValue) (chain : Chain) → IsChainOf path chain → path_trace path vars x ≡ below (texts chain.keys.items) x
+pub plain_trace : (path : t.Path) (vars : Variables) (x : ItemValue) (chain : Chain) → IsChainOf path chain → path_trace path vars x ≡ below AsItIs (texts chain.keys.items) x
 unfolding path_trace
 plain_trace path vars x chain h =
     ap (λ e. meaning e (start_env path vars x)) (sym h.keys)
-    ∙ accessed_on t.Root (texts chain.keys.items) (start_env path vars x) h.lax
-    ∙ join-stop (below (texts chain.keys.items) x)
+    ∙ sym (as_it_is (accessed t.Root (texts chain.keys.items)) (start_env path vars x))
+    ∙ accessed_on AsItIs t.Root (texts chain.keys.items) (start_env path vars x) h.lax
+    ∙ join-stop (below AsItIs (texts chain.keys.items) x)
+
+-- the member of a single item under a key
+member_below : (how : Opening) (e : t.Expr) (key : List ℕ) (x : ItemValue) (env : Env) → env.mode ≡ Lax → meaning e env ≡ only x
+    → operand_whole how (t.Access e (t.Member key)) env ≡ below how (key ∷ []) x
+member_below how e key x env lax is =
+    accessed_on how e (key ∷ []) env lax
+    ∙ ap (λ u. each u (below how (key ∷ []))) is
+    ∙ join-stop (below how (key ∷ []) x)
+
+pub keyed_below : (how : Opening) (e d : t.Expr) (key : List ℕ) (env : Env) (n : NodeRef)
+    → d ≡ t.Access e (t.Member key) → IsLaxNode e env n → operand_whole how d env ≡ below how (key ∷ []) (node_value n)
+keyed_below how e d key env n is h = rw is (member_below how e key (node_value n) env h.lax h.is)
 
 -- ---- one accessor on a node
 
@@ -70,133 +90,147 @@ kind_without kinds.String key x other = refl
 kind_without kinds.Array key x other = refl
 kind_without kinds.Object key x other = absurd (other refl)
 
-pub under_none : (key : List ℕ) (keys : List (List ℕ)) (i : ℕ) (tree : Tree) → (kind_of tree ≡ kinds.Object → ⊥) → under key keys (node i tree) ≡ stop
+pub under_none : (how : Opening) (key : List ℕ) (keys : List (List ℕ)) (i : ℕ) (tree : Tree) → (kind_of tree ≡ kinds.Object → ⊥) → under how key keys (node i tree) ≡ stop
 unfolding reach
-under_none key keys i tree other = ap (λ u. each u (below keys)) (kind_without (kind_of tree) key (node i tree) other)
+under_none how key keys i tree other = ap (λ u. each u (below how keys)) (kind_without (kind_of tree) key (node i tree) other)
 
-abbrev pub keyed : List ℕ → List (List ℕ) → List NumberedChild → Trace
-keyed key keys cs = each (under_key 1 Lax key false (map child_item cs)) (below keys)
+abbrev pub keyed : Opening → List ℕ → List (List ℕ) → List NumberedChild → Trace
+keyed how key keys cs = each (under_key 1 Lax key false (map child_item cs)) (below how keys)
 
-pub under_object : (key : List ℕ) (keys : List (List ℕ)) (i : ℕ) (tree : Tree) → kind_of tree ≡ kinds.Object → under key keys (node i tree) ≡ keyed key keys (numbered (i + 1) (children tree))
+pub under_object : (how : Opening) (key : List ℕ) (keys : List (List ℕ)) (i : ℕ) (tree : Tree) → kind_of tree ≡ kinds.Object → under how key keys (node i tree) ≡ keyed how key keys (numbered (i + 1) (children tree))
 unfolding reach
-under_object key keys i tree e = ap (λ k. each (on_kind k (by_key key) Lax (node i tree)) (below keys)) e
+under_object how key keys i tree e = ap (λ k. each (on_kind k (by_key key) Lax (node i tree)) (below how keys)) e
 
 found_or_not : (key : List ℕ) (cs : List NumberedChild) → under_key 1 Lax key true (map child_item cs) ≡ under_key 1 Lax key false (map child_item cs)
 found_or_not key [] = refl
 found_or_not key (c ∷ cs) = ap (λ u. visit (if is_key key c.0 then give (child_item c).1 (under_key 1 Lax key true (map child_item cs)) else u)) (found_or_not key cs)
 
-pub keyed_first : (key : List ℕ) (keys : List (List ℕ)) (c : NumberedChild) (cs ms : List NumberedChild) → from_key key cs ≡ c ∷ ms
-    → keyed key keys cs ≡ after_visits (length cs - length ms) (join (below keys (node c.1 c.2)) (keyed key keys ms))
-keyed_first key keys c cs ms e =
+pub keyed_first : (how : Opening) (key : List ℕ) (keys : List (List ℕ)) (c : NumberedChild) (cs ms : List NumberedChild) → from_key key cs ≡ c ∷ ms
+    → keyed how key keys cs ≡ after_visits (length cs - length ms) (join (below how keys (node c.1 c.2)) (keyed how key keys ms))
+keyed_first how key keys c cs ms e =
     let n = length cs - length ms in
-    ap (λ u. each u (below keys)) (gives_first Lax key false c ms cs e)
-    ∙ each-after_visits n (give (child_item c).1 (under_key 1 Lax key true (map child_item ms))) (below keys)
-    ∙ ap (λ u. after_visits n (join (below keys (node c.1 c.2)) (each u (below keys)))) (found_or_not key ms)
+    ap (λ u. each u (below how keys)) (gives_first Lax key false c ms cs e)
+    ∙ each-after_visits n (give (child_item c).1 (under_key 1 Lax key true (map child_item ms))) (below how keys)
+    ∙ ap (λ u. after_visits n (join (below how keys (node c.1 c.2)) (each u (below how keys)))) (found_or_not key ms)
 
-pub keyed_none : (key : List ℕ) (keys : List (List ℕ)) (cs : List NumberedChild) → from_key key cs ≡ [] → keyed key keys cs ≡ after_visits (length cs) stop
-keyed_none key keys cs e = ap (λ u. each u (below keys)) (gives_none Lax key false cs e) ∙ each-after_visits (length cs) stop (below keys)
+pub keyed_none : (how : Opening) (key : List ℕ) (keys : List (List ℕ)) (cs : List NumberedChild) → from_key key cs ≡ [] → keyed how key keys cs ≡ after_visits (length cs) stop
+keyed_none how key keys cs e = ap (λ u. each u (below how keys)) (gives_none Lax key false cs e) ∙ each-after_visits (length cs) stop (below how keys)
 
 -- ---- an array is unwrapped
 
-unwrapped_below : (key : List ℕ) (keys : List (List ℕ)) (x : ItemValue) → below (key ∷ keys) x ≡ each (unwrap Lax x) (under key keys)
-unwrapped_below key keys x = each_assoc (unwrap Lax x) (reach (by_key key) Lax) (below keys)
+unwrapped_below : (how : Opening) (key : List ℕ) (keys : List (List ℕ)) (x : ItemValue) → below how (key ∷ keys) x ≡ each (unwrap Lax x) (under how key keys)
+unwrapped_below how key keys x = each_assoc (unwrap Lax x) (reach (by_key key) Lax) (below how keys)
 
-pub below_array : (key : List ℕ) (keys : List (List ℕ)) (i : ℕ) (tree : Tree) → kind_of tree ≡ kinds.Array → below (key ∷ keys) (node i tree) ≡ over key keys (numbered (i + 1) (children tree))
+pub below_array : (how : Opening) (key : List ℕ) (keys : List (List ℕ)) (i : ℕ) (tree : Tree) → kind_of tree ≡ kinds.Array → below how (key ∷ keys) (node i tree) ≡ over how key keys (numbered (i + 1) (children tree))
 unfolding reach
-below_array key keys i tree e = unwrapped_below key keys (node i tree) ∙ ap (λ k. each (on_kind k unwrapped Lax (node i tree)) (under key keys)) e
+below_array how key keys i tree e = unwrapped_below how key keys (node i tree) ∙ ap (λ k. each (on_kind k unwrapped Lax (node i tree)) (under how key keys)) e
 
-pub below_other : (key : List ℕ) (keys : List (List ℕ)) (i : ℕ) (tree : Tree) → (kind_of tree ≡ kinds.Array → ⊥) → below (key ∷ keys) (node i tree) ≡ under key keys (node i tree)
-below_other key keys i tree other =
-    unwrapped_below key keys (node i tree)
-    ∙ ap (λ u. each u (under key keys)) (unopened Lax (node i tree) other)
-    ∙ join-stop (under key keys (node i tree))
+pub below_other : (how : Opening) (key : List ℕ) (keys : List (List ℕ)) (i : ℕ) (tree : Tree) → (kind_of tree ≡ kinds.Array → ⊥) → below how (key ∷ keys) (node i tree) ≡ under how key keys (node i tree)
+below_other how key keys i tree other =
+    unwrapped_below how key keys (node i tree)
+    ∙ ap (λ u. each u (under how key keys)) (unopened Lax (node i tree) other)
+    ∙ join-stop (under how key keys (node i tree))
+
+pub opened_array : (how : Opening) (i : ℕ) (tree : Tree) → how ≡ Unwrapped → kind_of tree ≡ kinds.Array → opened how Lax (node i tree) ≡ elements_of (numbered (i + 1) (children tree))
+unfolding reach
+opened_array how i tree h e = rw h (ap (λ k. on_kind k unwrapped Lax (node i tree)) e)
+
+pub opened_other : (how : Opening) (i : ℕ) (tree : Tree) → how ≡ Unwrapped → (kind_of tree ≡ kinds.Array → ⊥) → opened how Lax (node i tree) ≡ only (node i tree)
+opened_other how i tree h other = rw h (unopened Lax (node i tree) other)
+
+pub opened_as_it_is : (how : Opening) (x : ItemValue) → how ≡ AsItIs → opened how Lax x ≡ only x
+opened_as_it_is how x h = rw h refl
 
 -- ---- going through a trace
 
-module _ (limit : Limit) (f : Found) where
-  pub seeking_from : (t : Trace) (a : ℕ) → Seeking limit f t f t a a
+module _ (f : Taken) where
+  pub seeking_from : (t : Trace) (a : ℕ) → Seeking f t f t a a
   seeking_from t a = record { same = λ w. refl; costs = λ w. omega arith }
 
-  pub seeking_visits : (n : ℕ) (t u : Trace) (g : Found) (a b c : ℕ) → Seeking limit f t g (after_visits n u) a b → c ≡ raised b n → Seeking limit f t g u a c
+  pub seeking_visits : (n : ℕ) (t u : Trace) (g : Taken) (a b c : ℕ) → Seeking f t g (after_visits n u) a b → c ≡ raised b n → Seeking f t g u a c
   seeking_visits n t u g a b c k e = record {
-    same = λ w. sym (ap (looked limit g) (join-after_visits n u w) ∙ looked-after_visits limit g n (join u w)) ∙ k.same w;
-    costs = λ w. omega (arith, e, ap (look_cost limit g) (join-after_visits n u w), cost-after_visits limit g n (join u w), k.costs w);
+    same = λ w. sym (ap (taken_of g) (join-after_visits n u w) ∙ taken-after_visits g n (join u w)) ∙ k.same w;
+    costs = λ w. omega (arith, e, ap (taking_cost g) (join-after_visits n u w), taking-after_visits g n (join u w), k.costs w);
   }
 
-  pub seeking_over : (t p u : Trace) (g h : Found) (a b c : ℕ) → Seeking limit f t g (join p u) a b → Sought limit g p h false b c → Seeking limit f t h u a c
+  pub seeking_over : (t p u : Trace) (g h : Taken) (a b c : ℕ) → Seeking f t g (join p u) a b → Sought g p h false b c → Seeking f t h u a c
   seeking_over t p u g h a b c k s = record {
-    same = λ w. sym (s.finds (join u w)) ∙ sym (ap (looked limit g) (join_assoc p u w)) ∙ k.same w;
-    costs = λ w. omega (arith, s.costs (join u w), ap (look_cost limit g) (join_assoc p u w), k.costs w);
+    same = λ w. sym (s.finds (join u w)) ∙ sym (ap (taken_of g) (join_assoc p u w)) ∙ k.same w;
+    costs = λ w. omega (arith, s.costs (join u w), ap (taking_cost g) (join_assoc p u w), k.costs w);
   }
 
-  pub seeking_enough : (t p u : Trace) (g h : Found) (a b c : ℕ) → Seeking limit f t g (join p u) a b → Sought limit g p h true b c → Sought limit f t h true a c
+  pub seeking_enough : (t p u : Trace) (g h : Taken) (a b c : ℕ) → Seeking f t g (join p u) a b → Sought g p h true b c → Sought f t h true a c
   seeking_enough t p u g h a b c k s = record {
-    finds = λ w. sym (k.same w) ∙ ap (looked limit g) (join_assoc p u w) ∙ s.finds (join u w);
-    costs = λ w. omega (arith, s.costs (join u w), ap (look_cost limit g) (join_assoc p u w), k.costs w);
+    finds = λ w. sym (k.same w) ∙ ap (taken_of g) (join_assoc p u w) ∙ s.finds (join u w);
+    costs = λ w. omega (arith, s.costs (join u w), ap (taking_cost g) (join_assoc p u w), k.costs w);
   }
 
-  pub seeking_end : (t : Trace) (g : Found) (a b : ℕ) → Seeking limit f t g stop a b → Sought limit f t g false a b
+  pub seeking_end : (t : Trace) (g : Taken) (a b : ℕ) → Seeking f t g stop a b → Sought f t g false a b
   seeking_end t g a b k = record { finds = λ w. sym (k.same w); costs = λ w. k.costs w }
 
-  pub sought_none : (t : Trace) (a : ℕ) → t ≡ stop → Sought limit f t f false a a
+  pub sought_none : (t : Trace) (a : ℕ) → t ≡ stop → Sought f t f false a a
   sought_none t a e = rw e (record { finds = λ w. refl; costs = λ w. omega arith })
 
-  pub sought_item : (x : ItemValue) (g : Found) (enough : Bool) (a : ℕ) → g ≡ more f x → enough ≡ is_enough limit g → Sought limit f (only x) g enough a a
+  pub sought_item : (x : ItemValue) (g : Taken) (enough : Bool) (a : ℕ) → g ≡ with_item f x → enough ≡ suffices g → Sought f (only x) g enough a a
   sought_item x g enough a e h = rw (h, e) (record { finds = λ w. refl; costs = λ w. omega arith })
-
-pub sought_all : (limit : Limit) (t : Trace) (g : Found) (enough : Bool) (a b : ℕ) → Sought limit none_found t g enough a b → Finds limit t (record { found = g; fault = None }) a b
-sought_all limit t g true a b s = record {
-  finds = sym (s.finds stop) ∙ ap (looked limit none_found) (join-stop t);
-  costs = omega (arith, s.costs stop, ap (look_cost limit none_found) (join-stop t));
-}
-sought_all limit t g false a b s = record {
-  finds = sym (s.finds stop) ∙ ap (looked limit none_found) (join-stop t);
-  costs = omega (arith, s.costs stop, ap (look_cost limit none_found) (join-stop t));
-}
 
 -- ---- a plain path on a node
 
 pub plain_finds : (limit : Limit) (path : t.Path) (vars : Variables) (x : ItemValue) (chain : Chain) (look : Look) (a b : ℕ)
-    → IsChainOf path chain → Finds limit (below (texts chain.keys.items) x) look a b → Finds limit (path_trace path vars x) look a b
+    → IsChainOf path chain → Finds limit (below AsItIs (texts chain.keys.items) x) look a b → Finds limit (path_trace path vars x) look a b
 plain_finds limit path vars x chain look a b h k = rw (plain_trace path vars x chain h) k
 
 -- ---- one turn
 
-module _ (limit : Limit) (f g : Found) where
-  pub sought_same : (t u : Trace) (enough : Bool) (a b : ℕ) → Sought limit f u g enough a b → t ≡ u → Sought limit f t g enough a b
+module _ (f g : Taken) where
+  pub sought_same : (t u : Trace) (enough : Bool) (a b : ℕ) → Sought f u g enough a b → t ≡ u → Sought f t g enough a b
   sought_same t u enough a b s e = rw e s
 
+  -- an element is taken, and no element is left
+  pub element_taken : (t : Trace) (c : NumberedChild) (cs ds : List NumberedChild) (a b later : ℕ)
+      → Seeking f t g (elements_of cs) a b → cs ≡ c ∷ ds → later ≡ raised b 1 → Seeking f t g (join (only (node c.1 c.2)) (elements_of ds)) a later
+  element_taken t c cs ds a b later k e step = seeking_visits f 1 t _ g a b later (rw e at k) step
+
+  pub elements_taken : (t : Trace) (cs : List NumberedChild) (a b later : ℕ)
+      → Seeking f t g (elements_of cs) a b → cs ≡ [] → later ≡ b → Sought f t g false a later
+  elements_taken t cs a b later k e step = rw step (seeking_end f t g a b (rw e at k))
+
+module _ (how : Opening) (f g : Taken) where
   sought_first : (all key : List (List ℕ)) (first : List ℕ) (x : ItemValue) (u : Trace) (enough : Bool) (a b : ℕ)
-      → Sought limit f u g enough a b → all ≡ first ∷ key → below (first ∷ key) x ≡ u → Sought limit f (below all x) g enough a b
-  sought_first all key first x u enough a b s e is = sought_same _ _ enough a b s (ap (λ ks. below ks x) e ∙ is)
+      → Sought f u g enough a b → all ≡ first ∷ key → below how (first ∷ key) x ≡ u → Sought f (below how all x) g enough a b
+  sought_first all key first x u enough a b s e is = sought_same f g _ _ enough a b s (ap (λ ks. below how ks x) e ∙ is)
 
   pub sought_array : (all key : List (List ℕ)) (first : List ℕ) (i : ℕ) (tree : Tree) (cs : List NumberedChild) (enough : Bool) (a b : ℕ)
-      → Sought limit f (over first key cs) g enough a b → all ≡ first ∷ key → kind_of tree ≡ kinds.Array → cs ≡ numbered (i + 1) (children tree)
-      → Sought limit f (below all (node i tree)) g enough a b
-  sought_array all key first i tree cs enough a b s e array is = sought_first all key first (node i tree) _ enough a b s e (below_array first key i tree array ∙ ap (over first key) (sym is))
+      → Sought f (over how first key cs) g enough a b → all ≡ first ∷ key → kind_of tree ≡ kinds.Array → cs ≡ numbered (i + 1) (children tree)
+      → Sought f (below how all (node i tree)) g enough a b
+  sought_array all key first i tree cs enough a b s e array is = sought_first all key first (node i tree) _ enough a b s e (below_array how first key i tree array ∙ ap (over how first key) (sym is))
 
   -- a node that is no array
   pub sought_other : (all key : List (List ℕ)) (first : List ℕ) (i : ℕ) (tree : Tree) (enough : Bool) (a b : ℕ)
-      → Sought limit f (under first key (node i tree)) g enough a b → all ≡ first ∷ key → (kind_of tree ≡ kinds.Array → ⊥) → Sought limit f (below all (node i tree)) g enough a b
-  sought_other all key first i tree enough a b s e other = sought_first all key first (node i tree) _ enough a b s e (below_other first key i tree other)
+      → Sought f (under how first key (node i tree)) g enough a b → all ≡ first ∷ key → (kind_of tree ≡ kinds.Array → ⊥) → Sought f (below how all (node i tree)) g enough a b
+  sought_other all key first i tree enough a b s e other = sought_first all key first (node i tree) _ enough a b s e (below_other how first key i tree other)
+
+  -- the keys are at their end
+  pub sought_here : (all : List (List ℕ)) (x : ItemValue) (enough : Bool) (a b : ℕ) → Sought f (opened how Lax x) g enough a b → all ≡ [] → Sought f (below how all x) g enough a b
+  sought_here all x enough a b s e = sought_same f g _ _ enough a b s (ap (λ ks. below how ks x) e)
 
   -- an element is handed out, and no element is left
   pub element_next : (t : Trace) (key : List ℕ) (keys : List (List ℕ)) (c : NumberedChild) (cs ds : List NumberedChild) (a b later : ℕ)
-      → Seeking limit f t g (over key keys cs) a b → cs ≡ c ∷ ds → later ≡ raised b 1 → Seeking limit f t g (join (under key keys (node c.1 c.2)) (over key keys ds)) a later
-  element_next t key keys c cs ds a b later k e step = seeking_visits limit f 1 t _ g a b later (rw e at k) step
+      → Seeking f t g (over how key keys cs) a b → cs ≡ c ∷ ds → later ≡ raised b 1 → Seeking f t g (join (under how key keys (node c.1 c.2)) (over how key keys ds)) a later
+  element_next t key keys c cs ds a b later k e step = seeking_visits f 1 t _ g a b later (rw e at k) step
 
   pub elements_over : (t : Trace) (key : List ℕ) (keys : List (List ℕ)) (cs : List NumberedChild) (a b later : ℕ)
-      → Seeking limit f t g (over key keys cs) a b → cs ≡ [] → later ≡ b → Sought limit f t g false a later
-  elements_over t key keys cs a b later k e step = rw step (seeking_end limit f t g a b (rw e at k))
+      → Seeking f t g (over how key keys cs) a b → cs ≡ [] → later ≡ b → Sought f t g false a later
+  elements_over t key keys cs a b later k e step = rw step (seeking_end f t g a b (rw e at k))
 
   -- a member under the key is handed out, and none is left
   pub member_next : (t : Trace) (key : List ℕ) (keys : List (List ℕ)) (c : NumberedChild) (cs ms : List NumberedChild) (a b later : ℕ)
-      → Seeking limit f t g (keyed key keys cs) a b → from_key key cs ≡ c ∷ ms → later ≡ raised b (length cs - length ms)
-      → Seeking limit f t g (join (below keys (node c.1 c.2)) (keyed key keys ms)) a later
-  member_next t key keys c cs ms a b later k e step = seeking_visits limit f (length cs - length ms) t _ g a b later (rw (keyed_first key keys c cs ms e) at k) step
+      → Seeking f t g (keyed how key keys cs) a b → from_key key cs ≡ c ∷ ms → later ≡ raised b (length cs - length ms)
+      → Seeking f t g (join (below how keys (node c.1 c.2)) (keyed how key keys ms)) a later
+  member_next t key keys c cs ms a b later k e step = seeking_visits f (length cs - length ms) t _ g a b later (rw (keyed_first how key keys c cs ms e) at k) step
 
   pub members_over : (t : Trace) (key : List ℕ) (keys : List (List ℕ)) (cs ms : List NumberedChild) (a b later : ℕ)
-      → Seeking limit f t g (keyed key keys cs) a b → from_key key cs ≡ [] → ms ≡ [] → later ≡ raised b (length cs - length ms) → Sought limit f t g false a later
+      → Seeking f t g (keyed how key keys cs) a b → from_key key cs ≡ [] → ms ≡ [] → later ≡ raised b (length cs - length ms) → Sought f t g false a later
   members_over t key keys cs ms a b later k e none step =
       let all : length cs - length ms ≡ length cs = omega (arith, ap (λ (xs : List NumberedChild). length xs) none) in
-      seeking_end limit f t g a later (seeking_visits limit f (length cs) t stop g a b later (rw (keyed_none key keys cs e) at k) (step ∙ ap (raised b) all))
+      seeking_end f t g a later (seeking_visits f (length cs) t stop g a b later (rw (keyed_none how key keys cs e) at k) (step ∙ ap (raised b) all))

@@ -1,12 +1,13 @@
 -- What was seen of pairs is the verdict of a comparison.
 use Rattle.std.proofs.Common.{◌≡◌, ℕ, suc, ◌+◌, ◌<◌, Bool, true, false, cond, ◌||◌, ◌&&◌, ap, sym, ◌∙◌, refl, arith}
-use Rattle.std.specs.Prelude.{nat_lt}
+use Rattle.std.specs.Prelude.{nat_lt, if◌then◌else◌}
 use Rattle.std.specs.List.{list_any}
 use Rattle.std.proofs.lemmas.Bool.Decides.{nat_tests}
 use Rattle.sj_path_grammar.specs.declared.tree.Mode.{Mode}
 use Rattle.sj_path_grammar.specs.declared.tree.Mode.TheVariants.{Lax, Strict}
 use Rattle.sj_item.specs.Items.{ItemValue}
 use Rattle.sj_item.specs.Truths.{truth_of}
+use Rattle.sj_item.specs.declared.truth.Truth.{Truth}
 use Rattle.sj_item.specs.declared.truth.Truth.TheVariants.{True, False, Unknown}
 use Rattle.sj_step.specs.Trace.{Trace, stop, fail, visit, give, only, items, count, visits}
 use Rattle.sj_cursor.specs.Verdicts.{is_unknown, is_faulty, has_item}
@@ -15,7 +16,7 @@ use Rattle.sj_cursor.specs.Rows.{row_true, row_doubt, row_cost, rows_true, rows_
 use Rattle.sj_cursor.specs.RowsSeen.{RowSeen, RowsSeen}
 use Rattle.sj_cursor.specs.Asked.{Asked}
 use Rattle.sj_cursor.specs.Decides.{Decides}
-use Rattle.sj_cursor.specs.Cells.{is_lax, decided_truth}
+use Rattle.sj_cursor.specs.Cells.{is_lax, decided_truth, row_truth}
 use Rattle.sj_cursor.proofs.ComparisonPairs.{rows_true_is, row_doubt_is, rows_doubt_is, lax_allow_some, lax_allow_none, strict_allow_some, strict_allow_none}
 
 -- ---- whether there is a left item
@@ -169,13 +170,26 @@ no_fault : (b : Bool) → false ≡ cond b false false
 no_fault true = refl
 no_fault false = refl
 
-pub one_early : (mode : Mode) (pair : PairTruth) (y : ItemValue) (l : Trace) (found doubt : Bool) (a b : ℕ)
+one_early : (mode : Mode) (pair : PairTruth) (y : ItemValue) (l : Trace) (found doubt : Bool) (a b : ℕ)
     → RowSeen (is_lax mode) (λ x. pair x y) l found doubt a b → is_lax mode && found ≡ true → Decides (compare_verdict mode pair l (only y)) True a b
 one_early mode pair y l found doubt a b s h = compare_early mode pair l (only y) found doubt (has_item l) a b (as_rows (is_lax mode) pair y l found doubt a b s) h
 
-pub one_all : (mode : Mode) (pair : PairTruth) (y : ItemValue) (l : Trace) (found doubt : Bool) (a b : ℕ)
+one_all : (mode : Mode) (pair : PairTruth) (y : ItemValue) (l : Trace) (found doubt : Bool) (a b : ℕ)
     → RowSeen (is_lax mode) (λ x. pair x y) l found doubt a b → is_lax mode && found ≡ false → Decides (compare_verdict mode pair l (only y)) (decided_truth found doubt) a b
 one_all mode pair y l found doubt a b s q =
     let asked : Asked (has_item l) (only y) false b b = record { answers = no_fault (has_item l); costs = omega arith } in
     let all = compare_all mode pair l (only y) found doubt (has_item l) false a b b (as_rows (is_lax mode) pair y l found doubt a b s) q asked in
     rw (or_false doubt) at all
+
+one_decides : (mode : Mode) (pair : PairTruth) (y : ItemValue) (l : Trace) (found doubt : Bool) (a b : ℕ)
+    → RowSeen (is_lax mode) (λ x. pair x y) l found doubt a b → Decides (compare_verdict mode pair l (only y)) (row_truth (is_lax mode) found doubt) a b
+one_decides mode pair y l found doubt a b s = by_halt (is_lax mode && found) refl
+  where
+    by_halt : (h : Bool) → is_lax mode && found ≡ h → Decides (compare_verdict mode pair l (only y)) (if h then True else decided_truth found doubt) a b
+    by_halt true e = one_early mode pair y l found doubt a b s e
+    by_halt false e = one_all mode pair y l found doubt a b s e
+
+-- the same, as a comparison asks for it
+pub right_decides : (mode : Mode) (pair : PairTruth) (y : ItemValue) (l r : Trace) (early found doubt : Bool) (truth : Truth) (a b : ℕ)
+    → r ≡ only y → early ≡ is_lax mode → truth ≡ row_truth early found doubt → RowSeen early (λ x. pair x y) l found doubt a b → Decides (compare_verdict mode pair l r) truth a b
+right_decides mode pair y l r early found doubt truth a b is lax e s = rw (is, e, lax) (one_decides mode pair y l found doubt a b (rw lax at s))

@@ -26,7 +26,9 @@ mod Connectives
 mod NotUnwrapped
 -- for `see_one`
 mod SingleItems
--- for `Chain::look`, `Cursor::look`, `collect` and `seek`
+-- for `look_below` and `see_below`
+mod Takers
+-- for `Cursor::look`, `collect`, `seek` and for other functions of plain paths
 mod Chains
 -- for `fault_free_paths_end_well`, and for crates above
 pub mod WithoutFaults

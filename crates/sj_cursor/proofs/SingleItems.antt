@@ -1,12 +1,15 @@
 -- An operand that is one item, and no array.
-use Rattle.std.specs.Prelude.{if◌then◌else◌}
-use Rattle.std.proofs.Common.{◌≡◌, ◌≤◌, ℕ, Bool, true, false, ◌||◌, ◌&&◌, ap, ◌∙◌, refl, arith}
+use Rattle.std.specs.Prelude.{if◌then◌else◌, IfSome}
+use Rattle.std.proofs.Common.{◌≡◌, ◌≤◌, ℕ, Bool, true, false, ◌||◌, ◌&&◌, Option, Some, None, ap, ◌∙◌, refl, arith}
 use Rattle.sj_base.specs.Outside.{raised}
 use Rattle.sj_path_grammar.specs.declared.tree.Mode.{Mode}
+use Rattle.sj_path_grammar.specs.declared.tree.Mode.TheVariants.{Lax}
+use Rattle.sj_doc.specs.declared.doc.NodeRef.{NodeRef}
 use Rattle.sj_item.specs.Items.{ItemValue}
 use Rattle.sj_step.specs.Trace.{Trace, only, each}
 use Rattle.sj_step.specs.Reach.{unwrap}
 use Rattle.sj_cursor.specs.Cells.{source_value, source_expr}
+use Rattle.sj_cursor.specs.Chains.{node_value, IsLaxNode}
 use Rattle.sj_cursor.specs.Comparisons.{is_true}
 use Rattle.sj_cursor.specs.Left.{operand_whole}
 use Rattle.sj_cursor.specs.Meaning.{Env, meaning}
@@ -43,10 +46,16 @@ row_one early test x found doubt a f d = record {
     costs true = omega arith
     costs false = omega arith
 
-pub one_seen : (s : Source) (env : Env) (x : ItemValue) (early : Bool) (test : ItemTruth) (found doubt : Bool) (a : ℕ)
-    → x ≡ source_value s env → ((mode : Mode) → unwrap mode x ≡ only x) → found ≡ (false || is_true (test x)) → doubt ≡ (false || is_unknown (test x))
-    → RowSeen early test (operand_whole Unwrapped (source_expr s) env) found doubt a a
-one_seen s env x early test found doubt a e flat f d =
-    let whole : operand_whole Unwrapped (source_expr s) env ≡ only x =
-    ap (λ t. each t (unwrap env.mode)) (source_meaning s env) ∙ rw (← e) (each_only x (unwrap env.mode) (flat env.mode)) in
-    rw whole (row_one early test x found doubt a f d)
+pub whole_is_one : (s : Source) (env : Env) (x : ItemValue) → x ≡ source_value s env → ((mode : Mode) → unwrap mode x ≡ only x)
+    → operand_whole Unwrapped (source_expr s) env ≡ only x
+whole_is_one s env x e flat = ap (λ t. each t (unwrap env.mode)) (source_meaning s env) ∙ rw (← e) (each_only x (unwrap env.mode) (flat env.mode))
+
+pub one_seen : (whole : Trace) (x : ItemValue) (early : Bool) (test : ItemTruth) (found doubt : Bool) (a : ℕ)
+    → whole ≡ only x → found ≡ (false || is_true (test x)) → doubt ≡ (false || is_unknown (test x)) → RowSeen early test whole found doubt a a
+one_seen whole x early test found doubt a e f d = rw e (row_one early test x found doubt a f d)
+
+-- ---- `$` or `@` that is a node, in lax mode
+
+pub lax_one : (o : Option NodeRef) (s : Source) (env : Env) → env.mode ≡ Lax → IfSome o (λ n. source_value s env ≡ node_value n) → IfSome o (IsLaxNode (source_expr s) env)
+lax_one None s env lax h = tt
+lax_one (Some n) s env lax h = record { lax = lax; is = source_meaning s env ∙ ap only h }

@@ -1,5 +1,5 @@
 -- What cells are of, and what they have left.
-use Rattle.std.specs.Prelude.{Bool, true, false, if◌then◌else◌}
+use Rattle.std.specs.Prelude.{Bool, true, false, ◌&&◌, if◌then◌else◌}
 use Rattle.sj_path_grammar.specs.declared.tree.Mode.{Mode}
 use Rattle.sj_path_grammar.specs.declared.tree.Mode.TheVariants.{Lax, Strict}
 use Rattle.sj_path_grammar.specs.declared.tree.Method.{Method}
@@ -8,7 +8,7 @@ use Rattle.sj_item.specs.Items.{ItemValue, item_value, made_number}
 use Rattle.sj_item.specs.Truths.{truth_of}
 use Rattle.sj_item.specs.Pairs.{items_compare, item_starts_with}
 use Rattle.sj_item.specs.declared.truth.Truth.{Truth}
-use Rattle.sj_item.specs.declared.truth.Truth.TheVariants.{Unknown}
+use Rattle.sj_item.specs.declared.truth.Truth.TheVariants.{True, Unknown}
 use Rattle.sj_step.specs.Trace.{Trace, stop, only}
 use Rattle.sj_step.specs.Reach.{reach, by_key, all_members, all_elements, unwrap}
 use Rattle.sj_step.specs.Walk.{walk_left}
@@ -61,11 +61,16 @@ is_lax Strict = false
 
 abbrev pub beside_truth : Beside → ItemTruth
 beside_truth (besides.Left op x) = items_compare op (item_value x.now)
+beside_truth (besides.Right op y) = λ x. items_compare op x (item_value y.now)
 beside_truth (besides.Initial i) = λ x. item_starts_with x (item_value i.now)
 
 -- the truth where a true pair was found or not, and a doubt
 abbrev pub decided_truth : Bool → Bool → Truth
 decided_truth found doubt = if doubt then Unknown else truth_of found
+
+-- the same, where a true pair decides before a doubt
+abbrev pub row_truth : Bool → Bool → Bool → Truth
+row_truth early found doubt = if early && found then True else decided_truth found doubt
 
 -- ---- acts
 

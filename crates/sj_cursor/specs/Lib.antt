@@ -14,6 +14,7 @@ pub mod Asked
 pub mod Cells
 pub mod Left
 pub mod Ends
+pub mod Takers
 pub mod Chains
 pub mod Standing
 pub mod Sequel

@@ -1,17 +1,19 @@
-// Plain paths, which are the root and accessors of members behind it, in lax mode. Their items on a node are found without cells.
+// Plain paths, which are the root or `@` and accessors of members behind it, in lax mode. Their items on a node are found without cells.
 ghost use Rattle.std.specs.Prelude.{◌≡◌, [], true, IfOk, IfSome};
 ghost use Rattle.sj_doc.specs.Slots.{texts};
 ghost use Rattle.sj_path_grammar.specs.Tree as tree;
-ghost use Rattle.sj_item.specs.Items.{item_value};
+ghost use Rattle.sj_path_grammar.specs.declared.tree.Mode.TheVariants.{Lax};
 ghost use Rattle.sj_path_tree.specs.Tree.{path_of, expr_of};
-ghost use Rattle.sj_cursor.specs.Chains.{IsChainOf, Sought, node_value, accessed, below, under, over};
-ghost use Rattle.sj_cursor.specs.Looks.{Finds, look_value, found_value};
-ghost use Rattle.sj_cursor.specs.Looks as looks;
+ghost use Rattle.sj_cursor.specs.Cells.{opened};
+ghost use Rattle.sj_cursor.specs.Chains.{IsChainOf, Sought, node_value, accessed, below, under, over, elements_of};
+ghost use Rattle.sj_cursor.specs.Looks.{Finds, look_value};
+ghost use Rattle.sj_cursor.specs.Takers.{taken_value};
 
-use crate::look::{Found, Limit, Look};
+use crate::cells::Opening;
+use crate::look::{Limit, Look};
+use crate::take::{Aim, Gathered};
 use sj_base::{Ledger, Memory, Steps};
 use sj_doc::{Children, Kind, NodeRef};
-use sj_item::Item;
 use sj_path_tree::{Expr, Mode, Path, Step};
 use std::alloc::Global;
 
@@ -46,11 +48,27 @@ impl<'d> Chain<'d> {
         limit: Limit,
         steps: &mut Steps<L>,
     ) -> Look<'d>
-        ensures { Finds limit (below (texts self.now.keys.items) (node_value root.entry)) (look_value result) steps.old steps.new }
+        ensures { Finds limit (below Opening.AsItIs (texts self.now.keys.items) (node_value root.entry)) (look_value result) steps.old steps.new }
     {
-        let mut found = Found::Nothing;
-        seek(&self.keys, root, limit, &mut found, steps);
-        Look { found, fault: None }
+        look_below(Opening::AsItIs, &self.keys, root, limit, steps)
+    }
+}
+
+/// What keys give of a node, from the first item on until enough was found.
+pub(crate) fn look_below<'d, L: Ledger>(
+    how: Opening,
+    keys: &[&'d str],
+    node: NodeRef<'d>,
+    limit: Limit,
+    steps: &mut Steps<L>,
+) -> Look<'d>
+    ensures { Finds limit (below how (texts keys.now) (node_value node.entry)) (look_value result) steps.old steps.new }
+{
+    let mut gathered = Gathered::nothing();
+    seek(how, Aim::Look(limit), keys, node, &mut gathered, steps);
+    Look {
+        found: gathered.found,
+        fault: None,
     }
 }
 
@@ -73,49 +91,78 @@ fn collect<'d>(expr: &'d Expr, keys: &mut Vec<&'d str>) -> Result<bool, Memory>
     }
 }
 
-// Goes through what the keys give of a node, and tells whether enough was found. What was found is at the place.
+// Goes through what the keys give of a node, until enough was gathered. It tells whether that is so.
 #[cycle(seek)]
-fn seek<'d, L: Ledger>(
+pub(crate) fn seek<'d, L: Ledger>(
+    how: Opening,
+    aim: Aim<'_, 'd>,
     keys: &[&'d str],
     node: NodeRef<'d>,
-    limit: Limit,
-    found: &mut Found<'d>,
+    gathered: &mut Gathered<'d>,
     steps: &mut Steps<L>,
 ) -> bool
-    ensures { Sought limit (found_value found.old) (below (texts keys.now) (node_value node.entry)) (found_value found.new) result steps.old steps.new }
+    ensures { Sought (taken_value aim.entry gathered.old) (below how (texts keys.now) (node_value node.entry)) (taken_value aim.entry gathered.new) result steps.old steps.new }
 {
     match keys {
-        [] => add(Item::Node(node), limit, found),
+        [] => take_opened(how, aim, node, gathered, steps),
         [key, rest @ ..] => match node.kind() {
-            Kind::Array => seek_elements(key, rest, node.children(), limit, found, steps),
-            _ => seek_members(key, rest, node, limit, found, steps),
+            Kind::Array => seek_elements(how, aim, key, rest, node.children(), gathered, steps),
+            _ => seek_members(how, aim, key, rest, node, gathered, steps),
         },
     }
 }
 
-// One more item.
-fn add<'d>(item: Item<'d>, limit: Limit, found: &mut Found<'d>) -> bool
-    ensures found { found_value found.new ≡ looks.more (found_value found.old) (item_value item.entry) }
-    ensures enough { result ≡ looks.is_enough limit (found_value found.new) }
+// A node at the end of the keys.
+fn take_opened<'d, L: Ledger>(
+    how: Opening,
+    aim: Aim<'_, 'd>,
+    node: NodeRef<'d>,
+    gathered: &mut Gathered<'d>,
+    steps: &mut Steps<L>,
+) -> bool
+    ensures { Sought (taken_value aim.entry gathered.old) (opened how Lax (node_value node.entry)) (taken_value aim.entry gathered.new) result steps.old steps.new }
 {
-    *found = found.more(item);
-    found.is_enough(limit)
+    match how {
+        Opening::Unwrapped => match node.kind() {
+            Kind::Array => take_elements(aim, node.children(), gathered, steps),
+            _ => gathered.take(aim, node),
+        },
+        Opening::AsItIs => gathered.take(aim, node),
+    }
 }
 
-// The same of the elements of an array, which is unwrapped.
+// The elements of an array.
+fn take_elements<'d, L: Ledger>(
+    aim: Aim<'_, 'd>,
+    mut elements: Children<'d>,
+    gathered: &mut Gathered<'d>,
+    steps: &mut Steps<L>,
+) -> bool
+    ensures { Sought (taken_value aim.entry gathered.old) (elements_of elements.entry) (taken_value aim.entry gathered.new) result steps.old steps.new }
+{
+    'elements: while let Some(element) = elements.next(steps) {
+        if gathered.take(aim, element.node) {
+            return true;
+        }
+    }
+    false
+}
+
+// What the keys give of the elements of an array, which is unwrapped.
 #[cycle(seek)]
 fn seek_elements<'d, L: Ledger>(
+    how: Opening,
+    aim: Aim<'_, 'd>,
     key: &str,
     rest: &[&'d str],
     mut elements: Children<'d>,
-    limit: Limit,
-    found: &mut Found<'d>,
+    gathered: &mut Gathered<'d>,
     steps: &mut Steps<L>,
 ) -> bool
-    ensures { Sought limit (found_value found.old) (over key.now (texts rest.now) elements.entry) (found_value found.new) result steps.old steps.new }
+    ensures { Sought (taken_value aim.entry gathered.old) (over how key.now (texts rest.now) elements.entry) (taken_value aim.entry gathered.new) result steps.old steps.new }
 {
     'elements: while let Some(element) = elements.next(steps) {
-        if seek_members(key, rest, element.node, limit, found, steps) {
+        if seek_members(how, aim, key, rest, element.node, gathered, steps) {
             return true;
         }
     }
@@ -125,14 +172,15 @@ fn seek_elements<'d, L: Ledger>(
 // The same of a node that is not unwrapped.
 #[cycle(seek)]
 fn seek_members<'d, L: Ledger>(
+    how: Opening,
+    aim: Aim<'_, 'd>,
     key: &str,
     rest: &[&'d str],
     node: NodeRef<'d>,
-    limit: Limit,
-    found: &mut Found<'d>,
+    gathered: &mut Gathered<'d>,
     steps: &mut Steps<L>,
 ) -> bool
-    ensures { Sought limit (found_value found.old) (under key.now (texts rest.now) (node_value node.entry)) (found_value found.new) result steps.old steps.new }
+    ensures { Sought (taken_value aim.entry gathered.old) (under how key.now (texts rest.now) (node_value node.entry)) (taken_value aim.entry gathered.new) result steps.old steps.new }
 {
     match node.kind() {
         Kind::Object => {}
@@ -140,7 +188,7 @@ fn seek_members<'d, L: Ledger>(
     }
     let mut members = node.children();
     'members: while let Some(member) = members.next_under(key, steps) {
-        if seek(rest, member, limit, found, steps) {
+        if seek(how, aim, rest, member, gathered, steps) {
             return true;
         }
     }

@@ -42,6 +42,8 @@
 //!
 //! **A plain path**, `lax $` and accessors of members behind it, needs no cells where a cursor is asked at its beginning whether there is
 //! an item, or which is the only one. `chain.rt` then goes down the document from key to key. `specs/Chains.antt` says what is found so.
+//! An operand that is one member of `@` or `$`, as `@.qty` above, is read in the same way for each item that the filter tests: its
+//! cells are asked in strict mode and where the item is no node.
 //!
 //! The crate stands on `sj_path` for paths and variables, on `sj_step` for accessors and traces, and on `sj_method` for
 //! methods and arithmetic. It promises that each call of `Cursor::next` gives the first item that the meaning has left, or
@@ -57,6 +59,7 @@ mod cursor;
 mod env;
 mod fault_free;
 mod held;
+mod keyed;
 mod law;
 mod look;
 mod next;
@@ -66,6 +69,7 @@ mod rewind;
 mod row;
 mod simple;
 mod subscripts;
+mod take;
 
 pub use cursor::Cursor;
 pub use fault_free::is_fault_free;

@@ -129,6 +129,9 @@ impl<'d> Operand<'d> {
         ensures finds { Finds limit (operand_whole how (operand_core self.old) (env_value env.now)) (look_value result) steps.old steps.new }
         ensures same { operand_core self.new ≡ operand_core self.old }
     {
+        if let Some(keyed) = self.keyed(env) {
+            return keyed.look(how, limit, steps);
+        }
         self.rewind();
         let mut found = Found::Nothing;
         let mut place = Item::Null;

@@ -1,6 +1,8 @@
 // The truth of a predicate, with the pairs of a comparison.
-ghost use Rattle.std.specs.Prelude.{◌≡◌, ℕ, Bool, IfSome};
+ghost use Rattle.std.specs.Prelude.{◌≡◌, ℕ, Bool, true, IfSome};
+ghost use Rattle.sj_item.specs.Items.{item_value};
 ghost use Rattle.sj_item.specs.Pairs.{items_compare};
+ghost use Rattle.sj_step.specs.Trace.{only};
 ghost use Rattle.sj_cursor.specs.Cells.{env_value, beside_truth};
 ghost use Rattle.sj_cursor.specs.Decides.{Decides};
 ghost use Rattle.sj_cursor.specs.Left as left_of;
@@ -59,17 +61,28 @@ impl<'d> Operand<'d> {
 }
 
 impl<'d> Operand<'d> {
-    // The pair of its one item with what stands beside it, where it is a literal, a variable or the like and no array: no walk is needed.
+    // Puts its one item into the place, where it is a literal, a variable or the like and no array. It tells whether it is.
+    #[tactic(auto, using(crate::proofs::SingleItems::whole_is_one))]
+    pub(crate) fn put_one(&self, env: &Env<'_, 'd>, place: &mut Item<'d>) -> bool
+        ensures { result ≡ true → operand_whole Opening.Unwrapped (operand_core self.now) (env_value env.now) ≡ only (item_value place.new) }
+    {
+        let Cell::One(one) = &*self.cell else {
+            return false;
+        };
+        one.source.put(env, place);
+        if is_array(place) {
+            return false;
+        }
+        true
+    }
+
+    // The pair of its one item with what stands beside it, where it is such an operand: no walk is needed.
     #[tactic(auto, using(crate::proofs::SingleItems::one_seen))]
     pub(crate) fn see_one(&self, beside: Beside<'_, 'd>, env: &Env<'_, 'd>) -> Option<Row>
         ensures { IfSome result (λ row. (early : Bool) (steps : ℕ) → RowSeen early (beside_truth beside.entry) (operand_whole Opening.Unwrapped (operand_core self.now) (env_value env.now)) row.found row.doubt steps steps) }
     {
-        let Cell::One(one) = &*self.cell else {
-            return None;
-        };
         let mut place = Item::Null;
-        one.source.put(env, &mut place);
-        if is_array(&place) {
+        if !self.put_one(env, &mut place) {
             return None;
         }
         let row = Row {
@@ -93,6 +106,9 @@ impl<'d> Operand<'d> {
     {
         if let Some(row) = self.see_one(beside, env) {
             return row;
+        }
+        if let Some(keyed) = self.keyed(env) {
+            return keyed.see_row(early, beside, steps);
         }
         self.rewind();
         let mut row = Row {
@@ -157,11 +173,7 @@ impl<'d> Start<'d> {
         let early = is_early(env.mode);
         let initial = initial_item(self.initial, env);
         let beside = Beside::Initial(&initial);
-        let row = self.text.see_row(early, beside, env, steps);
-        if row.halts(early) {
-            return Truth::True;
-        }
-        row.truth()
+        self.text.see_row(early, beside, env, steps).truth(early)
     }
 }
 
@@ -231,6 +243,11 @@ impl<'d> Comparison<'d> {
         ensures same { left_of.comparison_core self.new ≡ left_of.comparison_core self.old }
     {
         let early = is_early(env.mode);
+        let mut place = Item::Null;
+        if self.right.put_one(env, &mut place) {
+            let beside = Beside::Right(self.op, &place);
+            return self.left.see_row(early, beside, env, steps).truth(early);
+        }
         let rows = self.see_rows(early, env, steps);
         if rows.halts(early) {
             return Truth::True;

@@ -3,7 +3,7 @@ ghost use Rattle.std.specs.Prelude.{◌≡◌, ◌||◌, ◌&&◌, true};
 ghost use Rattle.sj_item.specs.Items.{item_value};
 ghost use Rattle.sj_cursor.specs.Comparisons.{is_true};
 ghost use Rattle.sj_cursor.specs.Verdicts.{is_unknown};
-ghost use Rattle.sj_cursor.specs.Cells.{beside_truth, is_lax, decided_truth};
+ghost use Rattle.sj_cursor.specs.Cells.{beside_truth, is_lax, decided_truth, row_truth};
 
 use sj_item::{Item, Truth};
 use sj_path_tree::{Compare, Mode};
@@ -13,6 +13,8 @@ use sj_path_tree::{Compare, Mode};
 pub(crate) enum Beside<'a, 'd> {
     /// The left item of a comparison.
     Left(Compare, &'a Item<'d>),
+    /// The right item of a comparison.
+    Right(Compare, &'a Item<'d>),
     /// The string that the items are to start with.
     Initial(&'a Item<'d>),
 }
@@ -24,6 +26,7 @@ impl<'a, 'd> Beside<'a, 'd> {
     {
         match self {
             Beside::Left(op, left) => left.compare(op, item),
+            Beside::Right(op, right) => item.compare(op, right),
             Beside::Initial(initial) => item.starts_with(initial),
         }
     }
@@ -72,11 +75,13 @@ impl Row {
         early && self.found
     }
 
-    /// The truth of a comparison of which this was seen.
-    pub(crate) fn truth(self) -> Truth
-        ensures { result ≡ decided_truth self.found self.doubt }
+    /// The truth of a comparison of which this was seen: with `early`, a true pair decides.
+    pub(crate) fn truth(self, early: bool) -> Truth
+        ensures { result ≡ row_truth early self.found self.doubt }
     {
-        if self.doubt {
+        if self.halts(early) {
+            Truth::True
+        } else if self.doubt {
             Truth::Unknown
         } else {
             Truth::from_bool(self.found)

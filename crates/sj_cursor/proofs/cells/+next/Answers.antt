@@ -6,7 +6,7 @@ use Rattle.sj_cursor.proofs.Draws.{draws_after, draws_takes, join_answer, join_o
 use Rattle.sj_cursor.proofs.ItemAnswers.{no_end, no_item}
 use Rattle.sj_cursor.proofs.Looks.{looking_from, looking_on, looking_enough, looking_end, looking_fault, exists_decides, single_answer, single_price, end_answer, end_price}
 use Rattle.sj_cursor.proofs.Pairs.{row_from, row_item, row_stop, row_end, row_fault, rows_from, rows_item, rows_stop, rows_end, rows_fault}
-use Rattle.sj_cursor.proofs.ComparisonVerdicts.{compare_early, compare_all, one_early, one_all}
+use Rattle.sj_cursor.proofs.ComparisonVerdicts.{compare_early, compare_all, right_decides}
 use Rattle.sj_cursor.proofs.Operators.{as_it_is, sub_some, subs_some}
 use Rattle.sj_cursor.proofs.Parts.{element_goes, range_bad, range_goes, binary_bad, binary_goes}
 use Rattle.sj_cursor.proofs.Connectives.{and_false, and_other, or_true, or_other, not_decides, unknown_decides, filter_draws}
@@ -40,6 +40,9 @@ Operand::next-returns-in_default-next g t c = record {
 }
 
 -- ---- going through all items
+
+pub Operand::look-returns-in-Some-clause-finds : goal.Operand::look-returns-in-Some-clause-finds
+Operand::look-returns-in-Some-clause-finds g t c = rw (c.in-Some.ensures c.args.how) c.look.ensures
 
 pub Operand::look-looking-init : goal.Operand::look-looking-init
 Operand::look-looking-init g t c = record {
@@ -152,15 +155,17 @@ Comparison::holds-returns-then-halts-clause-decides g t c =
 pub Comparison::holds-returns-clause-decides : goal.Comparison::holds-returns-clause-decides
 Comparison::holds-returns-clause-decides g t c =
     let right : operand_core c.see_rows-rows.new.self.right ≡ operand_core c.args.self.now.right = cc c.see_rows-rows.ensures.same in
-    rw c.truth.ensures (compare_all _ _ _ _ _ _ _ _ _ _ _ (rw c.is_early-early.ensures at c.see_rows-rows.ensures.seen) (rw c.is_early-early.ensures at (sym c.halts.ensures ∙ c.if-halts.false)) (rw right at c.asks_right-faulty.ensures.asked))
+    rw c.truth-2.ensures (compare_all _ _ _ _ _ _ _ _ _ _ _ (rw c.is_early-early.ensures at c.see_rows-rows.ensures.seen) (rw c.is_early-early.ensures at (sym c.halts.ensures ∙ c.if-halts.false)) (rw right at c.asks_right-faulty.ensures.asked))
 
-pub Start::holds-returns-then-halts-clause-decides : goal.Start::holds-returns-then-halts-clause-decides
-Start::holds-returns-then-halts-clause-decides g t c =
-    rw (← c.initial_item-initial.ensures) (one_early _ _ _ _ _ _ _ _ (rw c.is_early-early.ensures at c.see_row-row.ensures.seen) (rw c.is_early-early.ensures at (sym c.halts.ensures ∙ c.if-halts.true)))
+pub Comparison::holds-returns-then-put_one : goal.Comparison::holds-returns-then-put_one
+Comparison::holds-returns-then-put_one g t c = record {
+  decides = right_decides _ _ _ _ _ _ _ _ _ _ _ (c.put_one.ensures c.if-put_one.true) c.is_early-early.ensures c.truth.ensures c.see_row.ensures.seen;
+  same = ap (λ k. Rattle.sj_path_grammar.specs.Tree.Compares c.args.self.now.op k (operand_core c.args.self.now.right)) c.see_row.ensures.same;
+}
 
 pub Start::holds-returns-clause-decides : goal.Start::holds-returns-clause-decides
 Start::holds-returns-clause-decides g t c =
-    rw (c.truth.ensures, ← c.initial_item-initial.ensures) (one_all _ _ _ _ _ _ _ _ (rw c.is_early-early.ensures at c.see_row-row.ensures.seen) (rw c.is_early-early.ensures at (sym c.halts.ensures ∙ c.if-halts.false)))
+    right_decides _ _ _ _ _ _ _ _ _ _ _ (ap Rattle.sj_step.specs.Trace.only (sym c.initial_item-initial.ensures)) c.is_early-early.ensures c.truth.ensures c.see_row.ensures.seen
 
 -- ---- connectives and filters
 

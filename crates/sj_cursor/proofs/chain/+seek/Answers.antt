@@ -15,11 +15,11 @@ seek-returns-in-Array g t c = sought_array _ _ _ _ _ _ _ _ _ _ _ _ c.seek_elemen
 
 pub seek_elements-returns-then-seek_members : goal.seek_elements-returns-then-seek_members
 seek_elements-returns-then-seek_members g t c =
-    seeking_enough _ _ _ _ _ _ _ _ _ _ (element_next _ _ _ _ _ _ _ _ _ _ _ _ c.elements.invariant c.in-Some.ensures.child c.in-Some.ensures.step) (rw c.if-seek_members.true at c.seek_members.ensures)
+    seeking_enough _ _ _ _ _ _ _ _ _ (element_next _ _ _ _ _ _ _ _ _ _ _ _ c.elements.invariant c.in-Some.ensures.child c.in-Some.ensures.step) (rw c.if-seek_members.true at c.seek_members.ensures)
 
 pub seek_elements-elements-preserved : goal.seek_elements-elements-preserved
 seek_elements-elements-preserved g t c =
-    seeking_over _ _ _ _ _ _ _ _ _ _ (element_next _ _ _ _ _ _ _ _ _ _ _ _ c.elements.invariant c.in-Some.ensures.child c.in-Some.ensures.step) (rw c.if-seek_members.false at c.seek_members.ensures)
+    seeking_over _ _ _ _ _ _ _ _ _ (element_next _ _ _ _ _ _ _ _ _ _ _ _ c.elements.invariant c.in-Some.ensures.child c.in-Some.ensures.step) (rw c.if-seek_members.false at c.seek_members.ensures)
 
 pub seek_elements-returns : goal.seek_elements-returns
 seek_elements-returns g t c = elements_over _ _ _ _ _ _ _ _ _ _ c.elements.invariant c.in_default.ensures.child.0 c.in_default.ensures.step
@@ -27,23 +27,23 @@ seek_elements-returns g t c = elements_over _ _ _ _ _ _ _ _ _ _ c.elements.invar
 -- ---- the members under the key
 
 pub seek_members-returns-in_default : goal.seek_members-returns-in_default
-seek_members-returns-in_default g t c = sought_none _ _ _ _ (under_none _ _ _ _ (rw c.kind.ensures at c.in_default.not-Object))
+seek_members-returns-in_default g t c = sought_none _ _ _ (under_none _ _ _ _ _ (rw c.kind.ensures at c.in_default.not-Object))
 
 pub seek_members-returns-then-seek : goal.seek_members-returns-then-seek
 seek_members-returns-then-seek g t c =
-    sought_same _ _ _ _ _ _ _ _
-    (seeking_enough _ _ _ _ _ _ _ _ _ _ (member_next _ _ _ _ _ _ _ _ _ _ _ _ c.members.invariant c.in-Some.ensures.child c.in-Some.ensures.step) (rw c.if-seek.true at c.seek.ensures))
-    (under_object _ _ _ _ (sym c.kind.ensures ∙ c.in-Object.is) ∙ ap (keyed c.args.key.now (texts c.args.rest.now)) (sym c.children-members.ensures))
+    sought_same _ _ _ _ _ _ _
+    (seeking_enough _ _ _ _ _ _ _ _ _ (member_next _ _ _ _ _ _ _ _ _ _ _ _ c.members.invariant c.in-Some.ensures.child c.in-Some.ensures.step) (rw c.if-seek.true at c.seek.ensures))
+    (under_object _ _ _ _ _ (sym c.kind.ensures ∙ c.in-Object.is) ∙ ap (keyed c.args.how c.args.key.now (texts c.args.rest.now)) (sym c.children-members.ensures))
 
 pub seek_members-members-smaller : goal.seek_members-members-smaller
 seek_members-members-smaller g t c = fewer Lax _ false _ _ _ c.in-Some.ensures.child
 
 pub seek_members-members-preserved : goal.seek_members-members-preserved
 seek_members-members-preserved g t c =
-    seeking_over _ _ _ _ _ _ _ _ _ _ (member_next _ _ _ _ _ _ _ _ _ _ _ _ c.members.invariant c.in-Some.ensures.child c.in-Some.ensures.step) (rw c.if-seek.false at c.seek.ensures)
+    seeking_over _ _ _ _ _ _ _ _ _ (member_next _ _ _ _ _ _ _ _ _ _ _ _ c.members.invariant c.in-Some.ensures.child c.in-Some.ensures.step) (rw c.if-seek.false at c.seek.ensures)
 
 pub seek_members-returns : goal.seek_members-returns
 seek_members-returns g t c =
-    sought_same _ _ _ _ _ _ _ _
+    sought_same _ _ _ _ _ _ _
     (members_over _ _ _ _ _ _ _ _ _ _ _ c.members.invariant c.in_default-next_under.ensures.child.0 c.in_default-next_under.ensures.child.1 c.in_default-next_under.ensures.step)
-    (under_object _ _ _ _ (sym c.kind.ensures ∙ c.in-Object.is) ∙ ap (keyed c.args.key.now (texts c.args.rest.now)) (sym c.children-members.ensures))
+    (under_object _ _ _ _ _ (sym c.kind.ensures ∙ c.in-Object.is) ∙ ap (keyed c.args.how c.args.key.now (texts c.args.rest.now)) (sym c.children-members.ensures))

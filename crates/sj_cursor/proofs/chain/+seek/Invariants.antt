@@ -1,7 +1,7 @@
 use Rattle.std.proofs.Common.{◌+◌, ◌*◌, length}
 use Rattle.sj_doc.specs.Slots.{texts}
 use Rattle.sj_cursor.specs.Chains.{over, Seeking}
-use Rattle.sj_cursor.specs.Looks.{found_value}
+use Rattle.sj_cursor.specs.Takers.{taken_value}
 use Rattle.sj_cursor.proofs.Chains.{keyed}
 use Rattle.sj_cursor.proofs.chain.+seek.Given as goal
 
@@ -16,14 +16,14 @@ decreases-seek_members g l = 3 * length l.rest.now + 1
 
 abbrev pub invariant-seek_elements-elements : goal.invariant-seek_elements-elements
 invariant-seek_elements-elements g l =
-    Seeking l.limit (found_value l.fn.found) (over l.key (texts l.rest) l.initial.elements) (found_value l.found) (over l.key (texts l.rest) l.elements) l.fn.steps l.steps
+    Seeking (taken_value l.aim l.fn.gathered) (over l.how l.key (texts l.rest) l.initial.elements) (taken_value l.aim l.gathered) (over l.how l.key (texts l.rest) l.elements) l.fn.steps l.steps
 
 abbrev pub decreases-seek_elements-elements : goal.decreases-seek_elements-elements
 decreases-seek_elements-elements g l = length l.elements
 
 abbrev pub invariant-seek_members-members : goal.invariant-seek_members-members
 invariant-seek_members-members g l =
-    Seeking l.limit (found_value l.fn.found) (keyed l.key (texts l.rest) l.initial.members) (found_value l.found) (keyed l.key (texts l.rest) l.members) l.fn.steps l.steps
+    Seeking (taken_value l.aim l.fn.gathered) (keyed l.how l.key (texts l.rest) l.initial.members) (taken_value l.aim l.gathered) (keyed l.how l.key (texts l.rest) l.members) l.fn.steps l.steps
 
 abbrev pub decreases-seek_members-members : goal.decreases-seek_members-members
 decreases-seek_members-members g l = length l.members
