@@ -1,11 +1,11 @@
 // Finding values by operations.
-ghost use Rattle.std.specs.Prelude.{◌≡◌, ◌≤◌, All, get_or, IfOk, option_map};
+ghost use Rattle.std.specs.Prelude.{◌≡◌, ◌≤◌, All, get_or, IfOk, Ok, option_map};
 ghost use Rattle.sj_base.specs.Outside.{raised};
 ghost use Rattle.sj_value.specs.Values.{IsPrintable};
 ghost use Rattle.sj_func.specs.Functions.{IsPrinted};
-ghost use Rattle.sj_select.specs.Line.{line_of};
+ghost use Rattle.sj_select.specs.Line.{line_of, tree_of};
 ghost use Rattle.sj_select.specs.Operations.{step_of, steps_of};
-ghost use Rattle.sj_select.specs.Performing.{CanBeGiven, EndsIn, done, held, performed, step_cost};
+ghost use Rattle.sj_select.specs.Performing.{CanBeGiven, EndsIn, done, held, paired, performed, put, step_cost};
 ghost use Rattle.sj_select.specs.Values as meaning;
 
 use crate::line::LineDoc;
@@ -49,7 +49,9 @@ pub(crate) fn find<'d, L: Ledger>(
 }
 
 impl<'d> Operation<'d> {
-    // Performs the operation on a stack, and gives the state that it raises, if it does.
+    // Performs the operation on a stack, and gives the state that it raises, if it does. What an operation does is in a function of its
+    // own, out of line, so that none has to make room for the locals of the others.
+    #[inline(always)]
     fn perform<L: Ledger>(
         &mut self,
         alloc: Global,
@@ -67,26 +69,74 @@ impl<'d> Operation<'d> {
         ensures printable { All IsPrintable stack.new.values.items }
     {
         match self {
-            Operation::Literal(literal) => stack.put(literal_outcome(alloc, literal)?),
-            Operation::Column(number) => stack.put(column_outcome(alloc, columns, *number)?),
-            Operation::Exists(call) => stack.put(call.outcome(line.context(), steps)),
-            Operation::Value(call) => stack.put(call.outcome(alloc, line.context(), steps)?),
-            Operation::Query(call) => stack.put(call.outcome(alloc, line.context(), steps)?),
-            Operation::IsJson(call) => stack.put(is_json_outcome(alloc, line.doc(), *call)?),
-            Operation::Member => {
-                stack.pair()?;
-                Ok(None)
-            }
+            Operation::Literal(literal) => put_literal(alloc, literal, stack),
+            Operation::Column(number) => put_column(alloc, columns, *number, stack),
+            Operation::Exists(call) => call.put(line, stack, steps),
+            Operation::Value(call) => call.put(alloc, line, stack, steps),
+            Operation::Query(call) => call.put(alloc, line, stack, steps),
+            Operation::IsJson(call) => put_is_json(alloc, line, *call, stack),
+            Operation::Member => put_member(stack),
             Operation::Object(count, nulls, unique) => {
-                let outcome = stack.object(alloc, *count, *nulls, *unique)?;
-                stack.put(outcome)
+                stack.put_object(alloc, *count, *nulls, *unique)
             }
-            Operation::Array(count, nulls) => {
-                let outcome = stack.array(alloc, *count, *nulls)?;
-                stack.put(outcome)
-            }
+            Operation::Array(count, nulls) => stack.put_array(alloc, *count, *nulls),
         }
     }
+}
+
+// Puts a literal on a stack.
+#[inline(never)]
+fn put_literal(alloc: Global, literal: &Literal, stack: &mut Stack) -> Result<Option<State>, Memory>
+    requires { All IsPrintable stack.old.values.items }
+    ensures does { IfOk result (λ raised. EndsIn (put (meaning.literal_outcome literal.now) (held stack.old)) raised (held stack.new)) }
+    ensures printable { All IsPrintable stack.new.values.items }
+{
+    let outcome = literal_outcome(alloc, literal)?;
+    stack.put(outcome)
+}
+
+// Puts the value of a column on a stack.
+#[inline(never)]
+fn put_column(
+    alloc: Global,
+    columns: &[SqlValue],
+    number: u32,
+    stack: &mut Stack,
+) -> Result<Option<State>, Memory>
+    requires columns { All IsPrintable columns.now }
+    requires printable { All IsPrintable stack.old.values.items }
+    ensures does { IfOk result (λ raised. EndsIn (put (meaning.column_outcome columns.now number) (held stack.old)) raised (held stack.new)) }
+    ensures printable { All IsPrintable stack.new.values.items }
+{
+    let outcome = column_outcome(alloc, columns, number)?;
+    stack.put(outcome)
+}
+
+// Puts the truth value of IS JSON on a stack.
+#[inline(never)]
+fn put_is_json(
+    alloc: Global,
+    line: LineDoc<'_>,
+    call: IsJsonCall,
+    stack: &mut Stack,
+) -> Result<Option<State>, Memory>
+    requires { All IsPrintable stack.old.values.items }
+    ensures does { IfOk result (λ raised. EndsIn (put (meaning.is_json_outcome call (tree_of (line_of line.entry))) (held stack.old)) raised (held stack.new)) }
+    ensures printable { All IsPrintable stack.new.values.items }
+{
+    let outcome = is_json_outcome(alloc, line.doc(), call)?;
+    stack.put(outcome)
+}
+
+// Makes the last two values of a stack a member.
+#[inline(never)]
+fn put_member(stack: &mut Stack) -> Result<Option<State>, Memory>
+    requires { All IsPrintable stack.old.values.items }
+    ensures does { IfOk result (λ raised. EndsIn (Ok (paired (held stack.old))) raised (held stack.new)) }
+    ensures printable { All IsPrintable stack.new.values.items }
+{
+    stack.pair()?;
+    Ok(None)
 }
 
 // A literal as a value: a number prints its plain text.

@@ -21,6 +21,7 @@ pub enum LineDoc<'d> {
 
 impl<'d> LineDoc<'d> {
     /// The context item of the functions, or the error in its place.
+    #[inline(always)]
     pub(crate) fn context(self) -> Context<'d>
         ensures { context_value result ≡ context (line_of self.entry) }
     {

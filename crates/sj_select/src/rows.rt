@@ -1,6 +1,7 @@
 // The rows of a statement for a line.
-ghost use Rattle.std.specs.Prelude.{◌≡◌, [], All, IfOk};
+ghost use Rattle.std.specs.Prelude.{◌≡◌, [], true, All, IfOk};
 ghost use Rattle.sj_value.specs.Values.{IsPrintable};
+ghost use Rattle.sj_table.specs.Series.{done};
 ghost use Rattle.sj_table.specs.Takes.{Spends};
 ghost use Rattle.sj_bound.specs.Bound as b;
 ghost use Rattle.sj_bound.specs.Sound.{IsSound};
@@ -45,6 +46,7 @@ pub(crate) enum Stage {
 
 impl Turn {
     // What is answered where this was found.
+    #[inline(always)]
     fn of(found: Found) -> Turn
         ensures { result ≡ turn_for found }
     {
@@ -58,6 +60,7 @@ impl Turn {
 
 impl Stage {
     // How far the rows have come where this was found. There is no row behind the last one.
+    #[inline(always)]
     fn behind(found: Found) -> Stage
         ensures { result ≡ stage_behind found }
     {
@@ -69,6 +72,7 @@ impl Stage {
     }
 
     // What comes next of the rows that have come so far. An end comes again, without a step.
+    #[inline(always)]
     fn find<'d, L: Ledger>(
         self,
         alloc: Global,
@@ -91,6 +95,7 @@ impl Stage {
 }
 
 // Keeps the row that was found, or none behind an end.
+#[inline(always)]
 fn keep_row(found: Found, stack: &mut Stack)
     requires { All IsPrintable stack.old.values.items }
     ensures row { stack.new.values.items ≡ row_kept found stack.old.values.items }
@@ -203,6 +208,18 @@ impl<'d> RowsOf<'d> {
         self.stage = Stage::behind(found);
         keep_row(found, &mut self.source.stack);
         Ok(Turn::of(found))
+    }
+
+    /// Whether it is known that no row is left. So it is behind the only row of a statement without a table, where [`RowsOf::next`] need
+    /// not be asked for the end.
+    #[inline(always)]
+    pub fn has_ended(&self) -> bool
+        ensures { result ≡ true → self.now.left ≡ done }
+    {
+        match self.stage {
+            Stage::Ended => true,
+            Stage::Going | Stage::Raised(_) => false,
+        }
     }
 
     /// Takes the row just given, whose values can be printed. Before the first row and after an end it is empty. Then no row is at hand;

@@ -79,6 +79,7 @@ impl<'d> RowSource<'d> {
     }
 
     /// From the first row on, for another line. It takes no memory.
+    #[inline(always)]
     pub(crate) fn rewind(&mut self, line: LineDoc<'d>)
         requires { IsReadySource self.old }
         ensures left { (s : b.Bound) → IsFor s self.old → source_left s (line_of line.entry) self.new ≡ statement_rows s (line_of line.entry) }
@@ -98,6 +99,7 @@ impl<'d> RowSource<'d> {
     ///
     /// # Errors
     /// [`Memory`] where memory runs out. The rows then stand anywhere.
+    #[inline(always)]
     pub(crate) fn find<L: Ledger>(
         &mut self,
         alloc: Global,
@@ -125,6 +127,7 @@ impl<'d> RowSource<'d> {
 
 // The values of a SELECT list beside columns with these values, in the place of those that were found before, or the state that the first
 // of them raises.
+#[inline(always)]
 fn find_list<'d, L: Ledger>(
     alloc: Global,
     operations: &mut [Operation<'d>],
@@ -147,6 +150,7 @@ fn find_list<'d, L: Ledger>(
 }
 
 // The row of a statement without a table.
+#[inline(always)]
 fn find_alone<'d, L: Ledger>(
     alloc: Global,
     operations: &mut [Operation<'d>],
@@ -169,6 +173,7 @@ fn find_alone<'d, L: Ledger>(
 }
 
 // The next row of a table, beside which the SELECT list is found.
+#[inline(never)]
 fn find_listed<'d, L: Ledger>(
     alloc: Global,
     table: &mut TableRows<'d>,
@@ -205,6 +210,7 @@ fn find_listed<'d, L: Ledger>(
 }
 
 // The one row of the aggregates over all rows of a table that are left.
+#[inline(never)]
 fn find_aggregated<'d, L: Ledger>(
     alloc: Global,
     table: &mut TableRows<'d>,

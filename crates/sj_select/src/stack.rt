@@ -1,5 +1,5 @@
 // The values and the members that were found and are no part of another value yet.
-ghost use Rattle.std.specs.Prelude.{◌≡◌, [], All, IfOk, OnOk};
+ghost use Rattle.std.specs.Prelude.{◌≡◌, ◌++◌, ◌∷◌, [], All, IfOk, OnOk, OnErr};
 ghost use Rattle.sj_func.specs.Functions.{IsPrinted};
 ghost use Rattle.sj_value.specs.Values.{IsPrintable};
 ghost use Rattle.sj_build.specs.Constructors.{array_value, object_value};
@@ -21,6 +21,20 @@ pub(crate) struct Stack {
     pub(crate) members: Vec<Field>,
 }
 
+// `Vec::push`, which is called only where there is no room: else the value is written in place.
+#[inline(always)]
+fn push_in(values: &mut Vec<SqlValue>, value: SqlValue) -> Result<(), Memory>
+    ensures ok { OnOk result (values.new.items ≡ values.old.items ++ value ∷ []) }
+    ensures err { OnErr result (values.new.items ≡ values.old.items) }
+{
+    if values.len() < values.capacity() {
+        values.push_reserved(value);
+        return Ok(());
+    }
+    values.push(value)?;
+    Ok(())
+}
+
 impl Stack {
     pub(crate) fn new(alloc: Global) -> Stack
         ensures values { result.values.items ≡ [] }
@@ -32,6 +46,7 @@ impl Stack {
         }
     }
 
+    #[inline(always)]
     pub(crate) fn clear(&mut self)
         ensures values { self.new.values.items ≡ [] }
         ensures members { self.new.members.items ≡ [] }
@@ -41,6 +56,7 @@ impl Stack {
     }
 
     /// Puts the value of an outcome at the end, or gives the state that it raises.
+    #[inline(always)]
     pub(crate) fn put(&mut self, outcome: Outcome) -> Result<Option<State>, Memory>
         requires printed { IsPrinted outcome }
         requires printable { All IsPrintable self.old.values.items }
@@ -49,7 +65,7 @@ impl Stack {
     {
         match outcome {
             Outcome::Value(value) => {
-                self.values.push(value)?;
+                push_in(&mut self.values, value)?;
                 Ok(None)
             }
             Outcome::Raised(state) => Ok(Some(state)),
@@ -70,13 +86,41 @@ impl Stack {
         Ok(())
     }
 
-    /// JSON_ARRAY of so many of the last values, which go.
-    pub(crate) fn array(
+    /// Puts JSON_ARRAY of so many of the last values in their place.
+    #[inline(never)]
+    pub(crate) fn put_array(
         &mut self,
         alloc: Global,
         count: usize,
         nulls: Nulls,
-    ) -> Result<Outcome, Memory>
+    ) -> Result<Option<State>, Memory>
+        requires printable { All IsPrintable self.old.values.items }
+        ensures does { IfOk result (λ raised. EndsIn (spec.put (Value (array_value nulls (last_of count (held self.old).values))) (without_values count (held self.old))) raised (held self.new)) }
+        ensures printable { All IsPrintable self.new.values.items }
+    {
+        let outcome = self.array(alloc, count, nulls)?;
+        self.put(outcome)
+    }
+
+    /// Puts JSON_OBJECT of so many of the last members behind the values, or gives the state that it raises. The members go.
+    #[inline(never)]
+    pub(crate) fn put_object(
+        &mut self,
+        alloc: Global,
+        count: usize,
+        nulls: Nulls,
+        unique: bool,
+    ) -> Result<Option<State>, Memory>
+        requires printable { All IsPrintable self.old.values.items }
+        ensures does { IfOk result (λ raised. EndsIn (spec.put (outcome_of (object_value nulls unique (last_of count (held self.old).members))) (without_members count (held self.old))) raised (held self.new)) }
+        ensures printable { All IsPrintable self.new.values.items }
+    {
+        let outcome = self.object(alloc, count, nulls, unique)?;
+        self.put(outcome)
+    }
+
+    // JSON_ARRAY of so many of the last values, which go.
+    fn array(&mut self, alloc: Global, count: usize, nulls: Nulls) -> Result<Outcome, Memory>
         requires printable { All IsPrintable self.old.values.items }
         ensures outcome { IfOk result (λ o. o ≡ Value (array_value nulls (last_of count (held self.old).values))) }
         ensures rest { OnOk result (held self.new ≡ without_values count (held self.old)) }
@@ -89,8 +133,8 @@ impl Stack {
         Ok(Outcome::Value(array))
     }
 
-    /// JSON_OBJECT of so many of the last members, which go.
-    pub(crate) fn object(
+    // JSON_OBJECT of so many of the last members, which go.
+    fn object(
         &mut self,
         alloc: Global,
         count: usize,
