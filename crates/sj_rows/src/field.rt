@@ -30,12 +30,10 @@ fn number_text(out: &mut Bytes, number: Decimal, places: u32) -> Result<(), Memo
     ensures ok { OnOk result (out.new ≡ out.old ++ number_field number places) }
     ensures err { OnErr result (out.new ≡ out.old) }
 {
-    let text = if places == 0 {
-        number.text()
-    } else {
-        number.text_places(places)
-    };
-    out.push(text.as_str().as_bytes())
+    if places == 0 {
+        return out.push(number.text().as_str().as_bytes());
+    }
+    out.push(number.text_places(places).as_str().as_bytes())
 }
 
 // Appends the bytes of a text, each run of bytes that stand for themselves at once.
