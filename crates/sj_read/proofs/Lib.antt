@@ -13,7 +13,7 @@ pub mod Escapes
 pub mod Unescaping
 -- for `read_into`
 pub mod Ends
--- for `high_in_32`, `stops_in_16`, `stops_in_32` and `stops_in_8`
+-- for `high_in_32`, `others_in_16`, `stops_in_16`, `stops_in_32` and `stops_in_8`
 pub mod Lanes
--- for `long_plain_end`, `near_end` and `plain_end_of_31`
+-- for `digits_end`, `long_plain_end`, `near_end` and `plain_end_of_31`
 pub mod Runs

@@ -1,11 +1,16 @@
 -- What a scan of a string finds.
-use Rattle.std.specs.Prelude.{◌≡◌, ℕ, ◌-◌, ◌<◌, ◌≤◌, List, length, take, drop, get_or, Bool, ◌||◌, ◌==◌, nat_lt}
+use Rattle.std.specs.Prelude.{◌≡◌, ℕ, ◌-◌, ◌<◌, ◌≤◌, List, length, take, drop, get_or, Bool, not, ◌||◌, ◌==◌, nat_lt}
+use Rattle.std.specs.Char.{is_ascii_digit}
 use Rattle.std.specs.List.{AllByRecursion}
 use Rattle.sj_json.specs.Strings.{IsPlain}
 
 -- a byte at which plain text stops
 abbrev pub is_stop : ℕ → Bool
 is_stop x = (x == 34) || (x == 92) || nat_lt x 32
+
+-- a byte that is no digit
+abbrev pub is_other : ℕ → Bool
+is_other x = not (is_ascii_digit x)
 
 -- a byte that no ASCII text has
 abbrev pub is_high : ℕ → Bool

@@ -1,13 +1,16 @@
 // Numbers without an exponent, which most numbers are. One pass checks them and finds their end. What they spell is not read.
-ghost use Rattle.std.specs.Prelude.{◌≡◌, ◌+◌, ◌<◌, ◌≤◌, length, drop, slice_index, true, false, IfSome};
+ghost use Rattle.std.specs.Prelude.{◌≡◌, ◌+◌, ◌<◌, ◌≤◌, length, drop, map, slice_index, true, false, IfSome};
 ghost use Rattle.std.specs.List.{prefix_len};
+ghost use Rattle.std.specs.Simd.Lanes.{mask_l};
 ghost use Rattle.sj_decimal.specs.Number.{begins_number, is_number_byte as number_byte};
 ghost use Rattle.sj_decimal.specs.Shorts.{ReadsNumber};
 ghost use Rattle.sj_doc.specs.Nodes.{longest_kept};
+ghost use Rattle.sj_read.specs.Scans.{is_other};
 ghost use Rattle.sj_read.specs.Numerals.{HasDigits, HasWhole, HasFraction, Tells};
 
 use crate::scan::is_number_byte;
 use sj_decimal::{Decimal, Parsed, is_number};
+use std::simd::prelude::*;
 
 // The value of a longer number is read at once, so that it costs little to ask for it again and again.
 const LONGEST_KEPT: usize = 64;
@@ -40,9 +43,33 @@ pub(crate) fn judged(bytes: &[u8]) -> Numeral
     }
 }
 
-// The place behind the digits from the place on.
+// Which of the bytes are no digits.
+#[inline(always)]
+fn others_in_16(v: u8x16) -> u64
+    ensures { result ≡ mask_l (map is_other v) }
+{
+    (v.simd_lt(u8x16::splat(b'0')) | v.simd_gt(u8x16::splat(b'9'))).to_bitmask()
+}
+
+// The place behind the digits from the place on. Most end among the next 16 bytes, where one step finds it.
 #[inline(always)]
 fn digits_end(bytes: &[u8], from: usize) -> usize
+    requires { from ≤ length bytes.now }
+    ensures { HasDigits bytes.now from result }
+{
+    if bytes.len() - from < 16 {
+        return digits_end_by_one(bytes, from);
+    }
+    let found = others_in_16(u8x16::from_slice(&bytes[from..]));
+    if found == 0 {
+        return digits_end_by_one(bytes, from);
+    }
+    from + found.trailing_zeros() as usize
+}
+
+// The same, one byte at a step.
+#[inline(never)]
+fn digits_end_by_one(bytes: &[u8], from: usize) -> usize
     requires { from ≤ length bytes.now }
     ensures { HasDigits bytes.now from result }
 {
