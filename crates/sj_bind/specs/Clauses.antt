@@ -29,6 +29,7 @@ use Rattle.sj_value.specs.declared.types.SqlType.TheVariants as types
 use Rattle.sj_value.specs.declared.value.SqlValue.{SqlValue}
 use Rattle.sj_value.specs.declared.value.SqlValue.TheVariants as value
 use Rattle.sj_bound.specs.Bound.{PathWith}
+use Rattle.sj_bound.specs.Sound.{is_text_type}
 
 -- ---- PASSING
 

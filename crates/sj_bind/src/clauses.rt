@@ -3,6 +3,7 @@
 ghost use Rattle.std.specs.Prelude.{◌≡◌, false, is_err, IfOk};
 ghost use Rattle.sj_value.specs.Casts.{GivesCast};
 ghost use Rattle.sj_value.specs.Types.{IsCastType};
+ghost use Rattle.sj_bound.specs.Sound as sound;
 ghost use Rattle.sj_bind.specs.Clauses as spec;
 
 use sj_base::Memory;
@@ -37,7 +38,7 @@ pub fn names_text(ty: TypeName) -> bool
 }
 
 fn is_text_type(ty: SqlType) -> bool
-    ensures { result ≡ spec.is_text_type ty }
+    ensures { result ≡ sound.is_text_type ty }
 {
     match ty {
         SqlType::Varchar | SqlType::VarcharMax(_) => true,
