@@ -3,6 +3,8 @@ use Rattle.std.proofs.Common.{◌≡◌, ℕ, Bool, true, false, ◌||◌, if◌
 use Rattle.std.specs.Borrow.{Bor}
 use Rattle.std.specs.List.{list_any, position_or_len}
 use Rattle.std.specs.Str.{bytes_eq}
+use Rattle.std.proofs.lemmas.List.{map-append}
+use Rattle.std.proofs.lemmas.List.Folds.{list_any-append}
 use Rattle.std.proofs.lemmas.Slice.Eq.{bytes_eq-Decides}
 use Rattle.sj_base.specs.Names.{is_among}
 use Rattle.sj_path_tree.specs.Vars.{has_name}
@@ -10,13 +12,13 @@ use Rattle.sj_sql_grammar.specs.declared.clauses.Passed.{Passed}
 use Rattle.sj_bind.specs.Clauses.{passed}
 use Rattle.sj_bind.specs.Variables.{AddsNames}
 use Rattle.sj_bind.proofs.Lists.{any_mapped}
-use Rattle.sj_bind.proofs.NameLists.{bytes_eq-sym, list_any-append}
+use Rattle.sj_bind.proofs.NameLists.{bytes_eq-sym}
 
 -- the names that keys lend
 abbrev pub lent : List (Bor (List ℕ)) → List (List ℕ)
 lent keys = map (λ k. k.now) keys
 
-or_none : (b : Bool) → (b || false) ≡ b
+pub or_none : (b : Bool) → (b || false) ≡ b
 or_none true = refl
 or_none false = refl
 
@@ -33,10 +35,6 @@ added_last names x name =
     list_any-append (bytes_eq name) names (x ∷ [])
     ∙ ap (λ b. is_among names name || b) (or_none (bytes_eq name x) ∙ bytes_eq-sym name x)
 
-lent-append : (xs ys : List (Bor (List ℕ))) → lent (xs ++ ys) ≡ lent xs ++ lent ys
-lent-append [] ys = refl
-lent-append (x ∷ xs) ys = ap (λ z. x.now ∷ z) (lent-append xs ys)
-
 -- a set of names took one
 pub name_added : (keys after : List (Bor (List ℕ))) (x : Bor (List ℕ)) → after ≡ (if list_any (λ k. bytes_eq x.now k.now) keys then keys else keys ++ x ∷ [])
     → (name : List ℕ) → is_among (lent after) name ≡ (is_among (lent keys) name || bytes_eq x.now name)
@@ -48,10 +46,10 @@ name_added keys after x e name = go (list_any (λ (k : Bor (List ℕ)). bytes_eq
         ∙ known_again (lent keys) x.now name (any_mapped (bytes_eq x.now) (λ (k : Bor (List ℕ)). k.now) keys ∙ known)
     go false new =
         ap (λ z. is_among (lent z) name) (e ∙ ap (λ (z : Bool). if z then keys else keys ++ x ∷ []) new)
-        ∙ ap (λ z. is_among z name) (lent-append keys (x ∷ []))
+        ∙ ap (λ z. is_among z name) (map-append (λ (k : Bor (List ℕ)). k.now) keys (x ∷ []))
         ∙ added_last (lent keys) x.now name
 
-grouped : (a b c : Bool) → ((a || b) || c) ≡ (a || (b || c))
+pub grouped : (a b c : Bool) → ((a || b) || c) ≡ (a || (b || c))
 grouped true b c = refl
 grouped false b c = refl
 

@@ -1,14 +1,13 @@
 -- What is found behind what was found before.
-use Rattle.std.proofs.Common.{◌≡◌, ℕ, List, [], ◌∷◌, ◌++◌, refl, ap}
+use Rattle.std.proofs.Common.{◌≡◌, List, [], ◌∷◌, ◌++◌, refl, ap}
 use Rattle.std.specs.Borrow.{Bor}
 use Rattle.sj_sql_tree.specs.declared.tree.SValue.{SValue}
-use Rattle.sj_sql_tree.specs.declared.tree.TValue.{TValue}
 use Rattle.sj_sql_tree.specs.declared.tree.Column.{Column}
 use Rattle.sj_path_tree.specs.declared.tree.Path.{Path}
 use Rattle.sj_path_tree.specs.Tree.{path_of}
-use Rattle.sj_sql_tree.specs.View.{svalue_of, tvalue_of, column_of}
+use Rattle.sj_sql_tree.specs.View.{svalue_of, column_of}
 use Rattle.sj_bind.specs.declared.parts.Call.{Call}
-use Rattle.sj_bind.specs.PartsView.{call_of, calls_of, keys_of, row_keys_of, texts_of, columns_at, paths_at}
+use Rattle.sj_bind.specs.PartsView.{call_of, calls_of, keys_of, columns_at, paths_at}
 
 pub calls_of-push : (xs : List Call) (x : Call) → calls_of (xs ++ x ∷ []) ≡ calls_of xs ++ call_of x ∷ []
 calls_of-push [] x = refl
@@ -18,14 +17,6 @@ pub keys_of-push : (xs : List (Bor SValue)) (x : Bor SValue) → keys_of (xs ++ 
 keys_of-push [] x = refl
 keys_of-push (y ∷ xs) x = ap (λ r. svalue_of y.now ∷ r) (keys_of-push xs x)
 
-pub row_keys_of-push : (xs : List (Bor TValue)) (x : Bor TValue) → row_keys_of (xs ++ x ∷ []) ≡ row_keys_of xs ++ tvalue_of x.now ∷ []
-row_keys_of-push [] x = refl
-row_keys_of-push (y ∷ xs) x = ap (λ r. tvalue_of y.now ∷ r) (row_keys_of-push xs x)
-
-pub texts_of-push : (xs : List (Bor (List ℕ))) (x : Bor (List ℕ)) → texts_of (xs ++ x ∷ []) ≡ texts_of xs ++ x.now ∷ []
-texts_of-push [] x = refl
-texts_of-push (y ∷ xs) x = ap (λ r. y.now ∷ r) (texts_of-push xs x)
-
 pub columns_at-push : (xs : List (Bor Column)) (x : Bor Column) → columns_at (xs ++ x ∷ []) ≡ columns_at xs ++ column_of x.now ∷ []
 columns_at-push [] x = refl
 columns_at-push (y ∷ xs) x = ap (λ r. column_of y.now ∷ r) (columns_at-push xs x)
@@ -34,4 +25,4 @@ pub paths_at-push : (xs : List (Bor Path)) (x : Bor Path) → paths_at (xs ++ x 
 paths_at-push [] x = refl
 paths_at-push (y ∷ xs) x = ap (λ r. path_of y.now ∷ r) (paths_at-push xs x)
 
-pub ruleset found = (calls_of-push, keys_of-push, row_keys_of-push, texts_of-push, columns_at-push, paths_at-push)
+pub ruleset found = (calls_of-push, keys_of-push, columns_at-push, paths_at-push)

@@ -11,13 +11,12 @@ pub mod UnbrokenRules
 pub mod DefaultOver
 -- for `plan_by`
 pub mod DefaultPlans
--- for the lemmas of `SoundStatements`, `SoundTables`, `SoundValues` and `UnbrokenRules`
+-- for the lemmas of `SoundStatements`, `SoundValues` and `UnbrokenRules`
 pub mod BindableValues
--- for `find_all`, `find_all_items`, `find_column`, `find_columns`, `find_in_item`, `find_in_members`,
--- `find_in_pair`, `find_in_values`, `find_parts` and `find_row_parts`
+-- for `find_all`, `find_column`, `find_columns`, `find_in_members`, `find_in_values` and `find_parts`
 pub mod Found
--- for `all_fault`, `bind_listed`, `bind_plain`, `has_too_many_parts`, `listed_fault`, `plain_fault` and
--- `some_key_is_no_text`, and for other lemmas
+-- for `all_fault`, `bind_listed`, `bind_plain`, `broken_beside`, `has_too_many_parts`, `listed_fault` and `plain_fault`,
+-- and for other lemmas
 pub mod Groups
 -- for the lemmas of `DefaultOver`, `NamedOver` and `PlansOver`
 pub mod ConsecutiveNumbers
@@ -40,6 +39,8 @@ pub mod Passed
 pub mod PathLists
 -- for `some_column_default_fails` and `some_default_fails`
 pub mod IndexedParts
+-- for `broken_by_items`, `with_item`, `with_members`, `with_value` and `with_values`
+pub mod RowRules
 -- for `table_plan`, and for other lemmas
 pub mod PlansOver
 -- for the lemmas of `SoundTables` and `SoundValues`

@@ -3,8 +3,11 @@ use Rattle.std.proofs.Common.{◌≡◌, ℕ, Bool, true, false, not, ◌||◌, 
 use Rattle.std.specs.Borrow.{Bor}
 use Rattle.std.specs.List.{list_any}
 use Rattle.std.specs.Str.{bytes_eq}
+use Rattle.std.proofs.lemmas.List.{map-append}
+use Rattle.std.proofs.lemmas.List.Folds.{list_any-append}
 use Rattle.std.proofs.lemmas.Slice.Eq.{bytes_eq-Decides}
 use Rattle.sj_bind.specs.Tables.{has_twice}
+use Rattle.sj_bind.proofs.Lists.{any_mapped}
 
 pub bytes_eq-sym : (xs ys : List ℕ) → bytes_eq xs ys ≡ bytes_eq ys xs
 bytes_eq-sym xs ys = go (bytes_eq xs ys) (bytes_eq ys xs) (bytes_eq-Decides xs ys) (bytes_eq-Decides ys xs)
@@ -14,14 +17,6 @@ bytes_eq-sym xs ys = go (bytes_eq xs ys) (bytes_eq ys xs) (bytes_eq-Decides xs y
     go true false f g = sym (g.1 (sym (f.0 refl)))
     go false true f g = f.1 (sym (g.0 refl))
     go false false f g = refl
-
-pub list_any-append : {A : Type 0} (p : A → Bool) (xs ys : List A) → list_any p (xs ++ ys) ≡ (list_any p xs || list_any p ys)
-list_any-append p [] ys = refl
-list_any-append p (x ∷ xs) ys = go (p x) (list_any-append p xs ys)
-  where
-    go : (b : Bool) → list_any p (xs ++ ys) ≡ (list_any p xs || list_any p ys) → (b || list_any p (xs ++ ys)) ≡ ((b || list_any p xs) || list_any p ys)
-    go true h = refl
-    go false h = h
 
 -- what stands twice stands twice in a longer list
 pub has_twice-more : (xs ys : List (List ℕ)) → has_twice xs ≡ true → has_twice (xs ++ ys) ≡ true
@@ -57,21 +52,13 @@ twice_within xs ys zs h = ap has_twice (sym (append_assoc xs ys zs)) ∙ has_twi
 pub twice_from : (xs : List (List ℕ)) (name : List ℕ) (zs : List (List ℕ)) → has_twice (xs ++ name ∷ []) ≡ true → has_twice (xs ++ name ∷ zs) ≡ true
 twice_from xs name zs h = twice_within xs (name ∷ []) zs h
 
-list_any-map : {A B : Type 0} (p : B → Bool) (f : A → B) (xs : List A) → list_any p (map f xs) ≡ list_any (λ x. p (f x)) xs
-list_any-map p f [] = refl
-list_any-map p f (x ∷ xs) = ap (λ z. p (f x) || z) (list_any-map p f xs)
-
-map-append : {A B : Type 0} (f : A → B) (xs ys : List A) → map f (xs ++ ys) ≡ map f xs ++ map f ys
-map-append f [] ys = refl
-map-append f (x ∷ xs) ys = ap (λ z. f x ∷ z) (map-append f xs ys)
-
 -- A set of names took one.
 pub noted_key : (keys after : List (Bor (List ℕ))) (name : Bor (List ℕ)) (added : Bool) → has_twice (map (λ k. k.now) keys) ≡ false
     → added ≡ not (list_any (λ k. bytes_eq name.now k.now) keys) → after ≡ (if list_any (λ k. bytes_eq name.now k.now) keys then keys else keys ++ name ∷ [])
     → (not added ≡ has_twice (map (λ k. k.now) keys ++ name.now ∷ [])) × (not added ≡ false → map (λ k. k.now) after ≡ map (λ k. k.now) keys ++ name.now ∷ [])
 noted_key keys after name added once a e = (
   twice (list_any (λ k. bytes_eq name.now k.now) keys) added a (has_twice-push (map (λ k. k.now) keys) name.now
-      ∙ ap (λ z. z || list_any (bytes_eq name.now) (map (λ k. k.now) keys)) once ∙ list_any-map (bytes_eq name.now) (λ (k : Bor (List ℕ)). k.now) keys),
+      ∙ ap (λ z. z || list_any (bytes_eq name.now) (map (λ k. k.now) keys)) once ∙ any_mapped (bytes_eq name.now) (λ (k : Bor (List ℕ)). k.now) keys),
   λ new. ap (λ (z : List (Bor (List ℕ))). map (λ k. k.now) z) (e ∙ ap (λ z. if z then keys else keys ++ name ∷ []) (unknown (list_any (λ k. bytes_eq name.now k.now) keys) added a new))
       ∙ map-append (λ (k : Bor (List ℕ)). k.now) keys (name ∷ []),
 )

@@ -10,7 +10,9 @@ use Rattle.sj_bind.specs.Paths.{Child, paths_in, paths_below, children_in, child
 use Rattle.sj_bind.specs.Tables.{has_twice, path_names_in, path_names_below}
 use Rattle.sj_value.specs.Plans.{one_at, times, root_of}
 use Rattle.sj_bind.specs.Plans.{standing, is_name, name_count, stands_once, each_once, path_named, nested_of, is_nil, fits, has_root, number_of, numbered}
-use Rattle.sj_bind.proofs.NameLists.{bytes_eq-sym, list_any-append, has_twice-more}
+use Rattle.std.proofs.lemmas.List.Folds.{list_any-append}
+use Rattle.sj_bind.proofs.Lists.{neither, apart}
+use Rattle.sj_bind.proofs.NameLists.{bytes_eq-sym, has_twice-more}
 use Rattle.sj_bind.proofs.ConsecutiveNumbers.{inside, inside-none, inside-one, inside-append, inside-first}
 
 -- ---- tests
@@ -19,11 +21,6 @@ pub both : (a b : Bool) → (a && b) ≡ true → (a ≡ true) × (b ≡ true)
 both true true h = (refl, refl)
 both true false h = cc
 both false b h = cc
-
-neither : (a b : Bool) → (a || b) ≡ false → (a ≡ false) × (b ≡ false)
-neither true b h = cc
-neither false true h = cc
-neither false false h = (refl, refl)
 
 -- ---- names that stand once
 
@@ -39,7 +36,7 @@ twice-right [] ys h = h
 twice-right (x ∷ xs) ys h = twice-right xs ys (neither (list_any (bytes_eq x) (xs ++ ys)) (has_twice (xs ++ ys)) h).1
 
 any-right : (p : List ℕ → Bool) (xs ys : List (List ℕ)) → list_any p (xs ++ ys) ≡ false → list_any p ys ≡ false
-any-right p xs ys h = (neither (list_any p xs) (list_any p ys) (sym (list_any-append p xs ys) ∙ h)).1
+any-right p xs ys h = (apart p xs ys h).1
 
 -- the names of paths
 child_names : {P : Type 0} → List (Child P) → List (List ℕ)

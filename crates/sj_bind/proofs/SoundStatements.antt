@@ -34,9 +34,10 @@ use Rattle.sj_bound.specs.Sound.{IsTextColumn, IsSoundItem, IsSound, AreAllAlike
 use Rattle.sj_bind.specs.Tables.{column_names, table_columns}
 use Rattle.sj_bound.specs.View.{bound_of}
 use Rattle.sj_bind.proofs.UnbrokenRules.{clean_plain, clean_all, clean_list, few_columns}
-use Rattle.sj_bind.proofs.BindableValues.{neither}
+use Rattle.sj_bind.proofs.BindableValues.{IsKept, AreKept}
+use Rattle.sj_bind.proofs.Lists.{holds, neither, apart, halves}
 use Rattle.sj_bind.proofs.SoundTables.{placed, are_texts, sound_table, length-bound_columns}
-use Rattle.sj_bind.proofs.SoundValues.{AreKept, kept_calls, kept_parts, apart, holds, sound_key, sound_value}
+use Rattle.sj_bind.proofs.SoundValues.{sound_key, sound_value}
 use Rattle.sj_bind.proofs.TableSizes.{length-table_columns}
 
 -- ---- a list without a table
@@ -67,7 +68,7 @@ mutual
 sound_list : (xs : List SValue) → AreKept (calls_in_list (plain_of xs)) → list_any (λ key. not (is_key [] key)) (keys_in_list (plain_of xs)) ≡ false → All (IsSoundItem []) (bound_list (plain_of xs))
 sound_list [] kept keys = All-nil (IsSoundItem [])
 sound_list (x ∷ xs) kept keys =
-    let c = kept_parts (calls_in (svalue_of x)) (calls_in_list (plain_of xs)) kept in
+    let c = halves IsKept (calls_in (svalue_of x)) (calls_in_list (plain_of xs)) kept in
     let k = apart (λ (key : t.Value Path). not (is_key [] key)) (keys_in (svalue_of x)) (keys_in_list (plain_of xs)) keys in
     All-cons (IsSoundItem []) (b.Single _) (bound_list (plain_of xs))
     (sound_value [] [] [] (λ name h. absurd cc) (λ name h. absurd cc) (svalue_of x) c.0 (ap (list_any (λ name. not (is_among [] name))) (no_names x)) k.0)
@@ -175,7 +176,7 @@ is_sound : (x : Statement) → IsBindable (statement_of x) → bind_fault (state
 is_sound (s.Plain xs) bindable h =
     let c = clean_plain (plain_of xs) bindable h in
     record {
-      items = sound_list xs (kept_calls (calls_in_list (plain_of xs)) bindable c.covered c.casts) c.keys;
+      items = sound_list xs c.kept c.keys;
       alike = none_aggregate (plain_of xs);
       table = tt;
       few_items = omega (arith, length-bound_list (plain_of xs), c.few);

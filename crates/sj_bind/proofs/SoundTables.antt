@@ -21,10 +21,10 @@ use Rattle.sj_bind.specs.Bindable.{IsBindableColumn, IsBindableTable}
 use Rattle.sj_bound.specs.Sound.{IsTextColumn, IsSoundColumn, IsSoundTable}
 use Rattle.sj_bind.specs.Tables.{TableColumn, columns_in, columns_below, table_columns, names_in, names_below, column_names, has_twice}
 use Rattle.sj_bind.proofs.UnbrokenRules.{IsCleanTable, few_columns}
-use Rattle.sj_bind.proofs.BindableValues.{neither}
+use Rattle.sj_bind.proofs.Lists.{holds, neither}
 use Rattle.sj_bind.proofs.PlansOver.{plan_over}
 use Rattle.sj_bind.proofs.SoundClauses.{sound_clauses}
-use Rattle.sj_bind.proofs.SoundValues.{holds, text_type}
+use Rattle.sj_bind.proofs.SoundValues.{text_type}
 use Rattle.sj_bind.proofs.TableSizes.{length-table_columns, columns_have_paths}
 
 -- ---- the names of columns

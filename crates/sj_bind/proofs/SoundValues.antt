@@ -1,8 +1,7 @@
 -- The values of a list that breaks no rule.
-use Rattle.std.proofs.Common.{◌≡◌, ℕ, ◌<◌, Bool, true, false, not, ◌||◌, List, [], ◌∷◌, ◌++◌, length, slice_get, refl}
+use Rattle.std.proofs.Common.{◌≡◌, ℕ, ◌<◌, true, false, not, List, ◌++◌, length, slice_get}
 use Rattle.std.specs.Prelude.{IsSomeAnd}
-use Rattle.std.specs.List.{All, list_any}
-use Rattle.std.proofs.lemmas.List.Elements.{All-head, All-tail}
+use Rattle.std.specs.List.{list_any}
 use Rattle.sj_base.specs.Names.{is_among}
 use Rattle.sj_path_grammar.specs.declared.tree.Literal.{Literal}
 use Rattle.sj_path_grammar.specs.declared.tree.Literal.TheVariants as literal
@@ -15,50 +14,12 @@ use Rattle.sj_bound.specs.Bound as b
 use Rattle.sj_bound.specs.Sound.{is_text_type}
 use Rattle.sj_bind.specs.Clauses.{passed, sql_type, names_text, default_fails}
 use Rattle.sj_bind.specs.Meaning.{bound_value, bound_values, bound_members, column_number}
-use Rattle.sj_bind.specs.Parts.{Call, calls_in, calls_in_values, calls_in_members, keys_in, keys_in_values, keys_in_members, names_in, names_in_values, names_in_members}
-use Rattle.sj_bind.specs.Rules.{call_lacks_variable, call_default_fails, is_key, is_key_literal}
-use Rattle.sj_bind.specs.Bindable.{IsBindableCall}
+use Rattle.sj_bind.specs.Parts.{calls_in, calls_in_values, calls_in_members, keys_in, keys_in_values, keys_in_members, names_in, names_in_values, names_in_members}
+use Rattle.sj_bind.specs.Rules.{is_key, is_key_literal}
 use Rattle.sj_bound.specs.Sound.{IsTextColumn, IsKey, IsSoundValue, AreSoundValues, AreSoundMembers}
-use Rattle.sj_bind.proofs.BindableValues.{neither}
+use Rattle.sj_bind.proofs.BindableValues.{IsKept, AreKept}
+use Rattle.sj_bind.proofs.Lists.{holds, neither, apart, halves}
 use Rattle.sj_bind.proofs.SoundClauses.{sound_clauses}
-
-pub holds : (c : Bool) → not c ≡ false → c ≡ true
-holds true h = refl
-holds false h = absurd cc
-
-both_false : (a c : Bool) → a ≡ false → c ≡ false → (a || c) ≡ false
-both_false true c h k = h
-both_false false c h k = k
-
--- no part of either list passes the test
-pub apart : {A : Type 0} (p : A → Bool) (xs ys : List A) → list_any p (xs ++ ys) ≡ false → (list_any p xs ≡ false) × (list_any p ys ≡ false)
-apart p [] ys h = (refl, h)
-apart p (x ∷ xs) ys h =
-    let n = neither (p x) (list_any p (xs ++ ys)) h in
-    let q = apart p xs ys n.1 in
-    (both_false (p x) (list_any p xs) n.0 q.0, q.1)
-
--- ---- functions
-
-pub record IsKept (c : Call Path) : Type 0 where
-  pub bindable : IsBindableCall c
-  pub covered : call_lacks_variable c ≡ false
-  pub casts : call_default_fails c ≡ false
-
-abbrev pub AreKept : List (Call Path) → Type 0
-AreKept [] = Unit {0}
-AreKept (c ∷ cs) = IsKept c × AreKept cs
-
-pub kept_calls : (cs : List (Call Path)) → All IsBindableCall cs → list_any call_lacks_variable cs ≡ false → list_any call_default_fails cs ≡ false → AreKept cs
-kept_calls [] bindable covered casts = tt
-kept_calls (c ∷ cs) bindable covered casts =
-    let o = neither (call_lacks_variable c) (list_any call_lacks_variable cs) covered in
-    let d = neither (call_default_fails c) (list_any call_default_fails cs) casts in
-    (record { bindable = All-head IsBindableCall c cs bindable; covered = o.0; casts = d.0 }, kept_calls cs (All-tail IsBindableCall c cs bindable) o.1 d.1)
-
-pub kept_parts : (cs ds : List (Call Path)) → AreKept (cs ++ ds) → AreKept cs × AreKept ds
-kept_parts [] ds kept = (tt, kept)
-kept_parts (c ∷ cs) ds kept = let p = kept_parts cs ds kept.1 in ((kept.0, p.0), p.1)
 
 pub text_type : (ty : TypeName) → names_text ty ≡ true → is_text_type (sql_type ty) ≡ true
 text_type (Known ty) h = h
@@ -103,7 +64,7 @@ module _ (names texts : List (List ℕ)) (columns : List b.ColumnOf)
         → list_any (λ key. not (is_key texts key)) (keys_in_values xs) ≡ false → AreSoundValues columns (bound_values names xs)
     sound_values NoValues kept known keys = tt
     sound_values (MoreValues x others) kept known keys =
-        let c = kept_parts (calls_in x) (calls_in_values others) kept in
+        let c = halves IsKept (calls_in x) (calls_in_values others) kept in
         let n = apart (λ (name : List ℕ). not (is_among names name)) (names_in x) (names_in_values others) known in
         let k = apart (λ (key : Value Path). not (is_key texts key)) (keys_in x) (keys_in_values others) keys in
         (sound_value x c.0 n.0 k.0, sound_values others c.1 n.1 k.1)
@@ -112,8 +73,8 @@ module _ (names texts : List (List ℕ)) (columns : List b.ColumnOf)
         → list_any (λ key. not (is_key texts key)) (keys_in_members xs) ≡ false → AreSoundMembers columns (bound_members names xs)
     sound_members NoMembers kept known keys = tt
     sound_members (MoreMembers key x others) kept known keys =
-        let c = kept_parts (calls_in key ++ calls_in x) (calls_in_members others) kept in
-        let d = kept_parts (calls_in key) (calls_in x) c.0 in
+        let c = halves IsKept (calls_in key ++ calls_in x) (calls_in_members others) kept in
+        let d = halves IsKept (calls_in key) (calls_in x) c.0 in
         let n = apart (λ (name : List ℕ). not (is_among names name)) (names_in key ++ names_in x) (names_in_members others) known in
         let m = apart (λ (name : List ℕ). not (is_among names name)) (names_in key) (names_in x) n.0 in
         let own = neither (not (is_key texts key)) (list_any (λ k. not (is_key texts k)) (keys_in key ++ keys_in x ++ keys_in_members others)) keys in

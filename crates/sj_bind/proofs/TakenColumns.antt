@@ -1,5 +1,5 @@
 -- What is taken from the columns of a table is what it is bound to.
-use Rattle.std.proofs.Common.{◌≡◌, ℕ, suc, ◌+◌, Bool, true, false, ◌||◌, List, [], ◌∷◌, ◌++◌, length, refl, sym, ap, subst, ◌∙◌}
+use Rattle.std.proofs.Common.{◌≡◌, ℕ, suc, ◌+◌, false, List, [], ◌∷◌, ◌++◌, length, refl, sym, ap, subst, ◌∙◌}
 use Rattle.std.specs.List.{All, AllByRecursion, list_any}
 use Rattle.std.proofs.lemmas.List.Elements.{recursion_from_All}
 use Rattle.sj_path_grammar.specs.Tree as g
@@ -11,6 +11,7 @@ use Rattle.sj_bound.specs.View.{paths_of, columns_of, column_of}
 use Rattle.sj_bind.specs.Clauses.{sql_type, default_fails}
 use Rattle.sj_bind.specs.Rules.{columns_alone, paths_alone, column_default_fails}
 use Rattle.sj_bind.specs.Leaves.{leaves_in, leaves}
+use Rattle.sj_bind.proofs.Lists.{neither, apart, halves}
 use Rattle.sj_bind.proofs.LeafLists.{leaves_of_columns, paths_alone-append}
 use Rattle.sj_bind.specs.Bindable.{IsBindableColumn}
 use Rattle.sj_bind.specs.Meaning.{bound_column, bound_columns}
@@ -72,30 +73,13 @@ mutual
 
 -- ---- that they can be taken
 
-parts : (xs ys : List (ColumnOf g.Path)) → AllByRecursion IsBindableColumn (xs ++ ys) → AllByRecursion IsBindableColumn xs × AllByRecursion IsBindableColumn ys
-parts [] ys h = (tt, h)
-parts (x ∷ xs) ys h = let p = parts xs ys h.1 in ((h.0, p.0), p.1)
-
-no_parts : (xs ys : List (ColumnOf g.Path)) → list_any column_default_fails (xs ++ ys) ≡ false → (list_any column_default_fails xs ≡ false) × (list_any column_default_fails ys ≡ false)
-no_parts [] ys h = (refl, h)
-no_parts (x ∷ xs) ys h = go (column_default_fails x) h (no_parts xs ys)
-  where
-    go : (b : Bool) → (b || list_any column_default_fails (xs ++ ys)) ≡ false
-        → (list_any column_default_fails (xs ++ ys) ≡ false → (list_any column_default_fails xs ≡ false) × (list_any column_default_fails ys ≡ false))
-        → ((b || list_any column_default_fails xs) ≡ false) × (list_any column_default_fails ys ≡ false)
-    go true e f = cc
-    go false e f = f e
-
-neither : (b c : Bool) → ((b || c) || false) ≡ false → (b ≡ false) × (c ≡ false)
-neither true c h = cc
-neither false true h = cc
-neither false false h = (refl, refl)
-
 mutual
   take_in : (column : ColumnOf g.Path) → AllByRecursion IsBindableColumn (leaves_in column) → list_any column_default_fails (leaves_in column) ≡ false → CanTakeIn column
   take_in (Ordinality name) good fine = tt
   take_in (Regular c) good fine =
-      let both = neither (default_fails (sql_type c.ty) c.on_empty) (default_fails (sql_type c.ty) c.on_error) fine in record { bindable = good.0; empty_casts = both.0; error_casts = both.1 }
+      let own = neither (column_default_fails (Regular c)) false fine in
+      let both = neither (default_fails (sql_type c.ty) c.on_empty) (default_fails (sql_type c.ty) c.on_error) own.0 in
+      record { bindable = good.0; empty_casts = both.0; error_casts = both.1 }
   take_in (Formatted c) good fine = tt
   take_in (Existence name own on_error) good fine = tt
   take_in (Nested below name columns) good fine = take_all columns good fine
@@ -103,8 +87,8 @@ mutual
   take_all : (columns : Columns g.Path) → AllByRecursion IsBindableColumn (leaves columns) → list_any column_default_fails (leaves columns) ≡ false → CanTake columns
   take_all (Last column) good fine = take_in column good fine
   take_all (More column others) good fine =
-      let p = parts (leaves_in column) (leaves others) good in
-      let q = no_parts (leaves_in column) (leaves others) fine in
+      let p = halves IsBindableColumn (leaves_in column) (leaves others) good in
+      let q = apart column_default_fails (leaves_in column) (leaves others) fine in
       (take_in column p.0 q.0, take_all others p.1 q.1)
 
 pub can_take : (path next : ℕ) (columns : Columns g.Path) → All IsBindableColumn (columns_alone (columns_below path next columns))

@@ -12,7 +12,8 @@ use Rattle.sj_bind.specs.Plans.{has_plan_mismatch}
 use Rattle.sj_bind.specs.Rules.{bind_fault, call_passes_twice, call_lacks_variable, call_quotes_clash, call_default_fails, passes_twice, table_lacks_variable, column_quotes_clash, column_default_fails, all_columns, unknown_column, aggregate_mixed, key_type}
 use Rattle.sj_bind.specs.Bindable.{IsBindable}
 use Rattle.sj_bind.specs.Tables.{column_names, has_too_many, has_column_twice, has_path_name_twice, lacks_path_name}
-use Rattle.sj_bind.proofs.BindableValues.{neither, list_is_fit, items_are_named}
+use Rattle.sj_bind.proofs.BindableValues.{AreKept, kept_calls, fit_list, items_are_named}
+use Rattle.sj_bind.proofs.Lists.{neither}
 use Rattle.sj_bind.proofs.Groups.{plain_groups, all_groups, listed_groups}
 
 -- where nothing is the first, the test fails and nothing is the rest
@@ -30,8 +31,7 @@ not_over n h = grind (arith, nat_tests)
 pub record IsCleanPlain (xs : List (Value Path)) : Type 0 where
   pub few : length xs ≤ 1000
   pub fit : AreListFit xs
-  pub covered : list_any call_lacks_variable (calls_in_list xs) ≡ false
-  pub casts : list_any call_default_fails (calls_in_list xs) ≡ false
+  pub kept : AreKept (calls_in_list xs)
   pub keys : key_type (Plain xs) ≡ false
 
 pub clean_plain : (xs : List (Value Path)) → IsBindable (Plain xs) → bind_fault (Plain xs) ≡ None → IsCleanPlain xs
@@ -42,7 +42,8 @@ clean_plain xs bindable h =
     let lacks = stop_none (list_any call_lacks_variable (calls_in_list xs)) _ _ twice.1 in
     let clash = stop_none (list_any call_quotes_clash (calls_in_list xs)) _ _ lacks.1 in
     let casts = stop_none (list_any call_default_fails (calls_in_list xs)) _ _ clash.1 in
-    record { few = not_over (length xs) a.0; fit = list_is_fit xs bindable twice.0 casts.0; covered = lacks.0; casts = casts.0; keys = (stop_none (key_type (Plain xs)) _ _ b.1).0 }
+    let kept = kept_calls (calls_in_list xs) bindable twice.0 lacks.0 casts.0 in
+    record { few = not_over (length xs) a.0; fit = fit_list xs kept; kept = kept; keys = (stop_none (key_type (Plain xs)) _ _ b.1).0 }
 
 pub record IsCleanTable (t : Table Path) : Type 0 where
   pub few : has_too_many t ≡ false

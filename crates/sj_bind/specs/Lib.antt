@@ -14,6 +14,7 @@ pub mod PartsView
 pub mod Paths
 pub mod Places
 pub mod Plans
+pub mod RowRules
 pub mod Rules
 pub mod Tables
 pub mod Taken

@@ -1,14 +1,13 @@
 -- The parts of a SELECT list, without where they lie in memory.
-use Rattle.std.specs.Prelude.{ℕ, List, [], ◌∷◌}
+use Rattle.std.specs.Prelude.{List, [], ◌∷◌}
 use Rattle.std.specs.Borrow.{Bor}
 use Rattle.sj_path_grammar.specs.Tree.{Path}
 use Rattle.sj_sql_grammar.specs.Tree as t
 use Rattle.sj_sql_tree.specs.declared.tree.SValue.{SValue}
-use Rattle.sj_sql_tree.specs.declared.tree.TValue.{TValue}
 use Rattle.sj_sql_tree.specs.declared.tree.Column.{Column}
 use Rattle.sj_path_tree.specs.declared.tree.Path.{Path as ParsedPath}
 use Rattle.sj_path_tree.specs.Tree.{path_of}
-use Rattle.sj_sql_tree.specs.View.{svalue_of, tvalue_of, column_of, exists_of, value_call_of, query_of}
+use Rattle.sj_sql_tree.specs.View.{svalue_of, column_of, exists_of, value_call_of, query_of}
 use Rattle.sj_bind.specs.declared.parts.Call.{Call}
 use Rattle.sj_bind.specs.declared.parts.Call.TheVariants as c
 use Rattle.sj_bind.specs.Parts as p
@@ -25,15 +24,6 @@ calls_of (x ∷ xs) = call_of x ∷ calls_of xs
 abbrev pub keys_of : List (Bor SValue) → List (t.Value Path)
 keys_of [] = []
 keys_of (x ∷ xs) = svalue_of x.now ∷ keys_of xs
-
-abbrev pub row_keys_of : List (Bor TValue) → List (t.Value Path)
-row_keys_of [] = []
-row_keys_of (x ∷ xs) = tvalue_of x.now ∷ row_keys_of xs
-
--- texts that are lent
-abbrev pub texts_of : List (Bor (List ℕ)) → List (List ℕ)
-texts_of [] = []
-texts_of (x ∷ xs) = x.now ∷ texts_of xs
 
 abbrev pub columns_at : List (Bor Column) → List (t.ColumnOf Path)
 columns_at [] = []

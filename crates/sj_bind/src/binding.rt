@@ -16,7 +16,7 @@ use crate::fault::{all_fault, listed_fault, plain_fault};
 use crate::name_set::NameSet;
 use crate::refusal::BindRefusal;
 use crate::row_values::bind_item;
-use crate::table::{bind_table, column_index};
+use crate::table::{bind_table, column_count, column_index};
 use crate::values::bind_value;
 use sj_base::Memory;
 use sj_bound::{Bound, BoundItem, BoundValue};
@@ -71,21 +71,12 @@ fn bind_all(alloc: Global, table: Table) -> Result<Bound, BindRefusal>
     if let Some(kind) = all_fault(alloc, &table)? {
         return Err(BindRefusal::Kind(kind));
     }
-    let items = all_columns(alloc, &table)?;
+    let items = first_columns(alloc, column_count(&table))?;
     let table = bind_table(alloc, table)?;
     Ok(Bound {
         items,
         table: Some(table),
     })
-}
-
-fn all_columns(alloc: Global, table: &Table) -> Result<Seq<BoundItem>, Memory>
-    requires once { has_column_twice (table_of table.now) ≡ false }
-    requires few { length (column_names (table_of table.now)) ≤ 1000 }
-    ensures { IfOk result (λ items. view.items_of items ≡ columns_below (length (column_names (table_of table.now)))) }
-{
-    let columns = column_index(alloc, table)?;
-    first_columns(alloc, columns.names.len() as u32)
 }
 
 fn first_columns(alloc: Global, count: u32) -> Result<Seq<BoundItem>, Memory>

@@ -2,7 +2,8 @@
 
 ghost use Rattle.std.specs.Prelude.{◌≡◌, IfOk, All};
 ghost use Rattle.std.specs.List.{list_any};
-ghost use Rattle.sj_sql_tree.specs.View.{value_call_of};
+ghost use Rattle.sj_sql_tree.specs.View.{common_of, value_call_of};
+ghost use Rattle.sj_bind.specs.Parts.{call_common};
 ghost use Rattle.sj_bind.specs.PartsView.{call_of, calls_of};
 ghost use Rattle.sj_bind.specs.Clauses.{IsBindableType};
 ghost use Rattle.sj_bind.specs.Rules as spec;
@@ -13,15 +14,16 @@ use crate::parts::Call;
 use crate::variables::{lacks_variable, passes_twice};
 use sj_base::Memory;
 use sj_sql_grammar::{TypeName, ValueDo};
+use sj_sql_tree::Common;
 use std::alloc::Global;
 
-fn call_passes_twice(alloc: Global, call: Call<'_>) -> Result<bool, Memory>
-    ensures { IfOk result (λ b. b ≡ spec.call_passes_twice (call_of call.entry)) }
+fn common_of_call<'s>(call: Call<'s>) -> &'s Common
+    ensures { common_of result.now ≡ call_common (call_of call.entry) }
 {
     match call {
-        Call::Exists(call) => passes_twice(alloc, &call.common),
-        Call::Value(call) => passes_twice(alloc, &call.common),
-        Call::Query(call) => passes_twice(alloc, &call.common),
+        Call::Exists(call) => &call.common,
+        Call::Value(call) => &call.common,
+        Call::Query(call) => &call.common,
     }
 }
 
@@ -30,21 +32,11 @@ pub fn some_passes_twice(alloc: Global, calls: &[Call<'_>]) -> Result<bool, Memo
     ensures { IfOk result (λ b. b ≡ list_any spec.call_passes_twice (calls_of calls.now)) }
 {
     for call in calls {
-        if call_passes_twice(alloc, *call)? {
+        if passes_twice(alloc, common_of_call(*call))? {
             return Ok(true);
         }
     }
     Ok(false)
-}
-
-fn call_lacks_variable(alloc: Global, call: Call<'_>) -> Result<bool, Memory>
-    ensures { IfOk result (λ b. b ≡ spec.call_lacks_variable (call_of call.entry)) }
-{
-    match call {
-        Call::Exists(call) => lacks_variable(alloc, &call.common),
-        Call::Value(call) => lacks_variable(alloc, &call.common),
-        Call::Query(call) => lacks_variable(alloc, &call.common),
-    }
 }
 
 /// Whether a path has a variable that its PASSING clause does not name.
@@ -52,7 +44,7 @@ pub fn some_lacks_variable(alloc: Global, calls: &[Call<'_>]) -> Result<bool, Me
     ensures { IfOk result (λ b. b ≡ list_any spec.call_lacks_variable (calls_of calls.now)) }
 {
     for call in calls {
-        if call_lacks_variable(alloc, *call)? {
+        if lacks_variable(alloc, common_of_call(*call))? {
             return Ok(true);
         }
     }

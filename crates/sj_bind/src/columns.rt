@@ -13,10 +13,20 @@ use sj_sql_tree::{Column, Columns, Table};
 use std::alloc::Global;
 
 /// The columns, and the row path with the nested paths.
-#[derive(Drop)]
+///
+/// Its `drop` is written out, so that whoever holds one gives it up by one call.
 pub struct TableParts<'t> {
     pub columns: Vec<&'t Column>,
     pub paths: Vec<&'t Path>,
+}
+
+impl<'t> Drop for TableParts<'t> {
+    fn drop(self) {
+        let TableParts {
+            columns: _columns,
+            paths: _paths,
+        } = self;
+    }
 }
 
 /// The parts of a table, in the order of the text.
@@ -66,8 +76,7 @@ fn find_column<'t>(column: &'t Column, parts: &mut TableParts<'t>) -> Result<(),
         | Column::Exists(_, _, _) => Ok(parts.columns.push(column)?),
         Column::Nested(path, _, columns) => {
             parts.paths.push(path)?;
-            find_columns(columns, parts)?;
-            Ok(())
+            find_columns(columns, parts)
         }
     }
 }

@@ -1,21 +1,23 @@
 //! The rules, one after another in their order.
 
-ghost use Rattle.std.specs.Prelude.{◌≡◌, ◌||◌, false, not, nat_lt, length, IfOk, All};
-ghost use Rattle.std.specs.List.{list_any};
+ghost use Rattle.std.specs.Prelude.{◌≡◌, ◌||◌, false, nat_lt, length, IfOk, All};
 ghost use Rattle.sj_sql_grammar.specs.Tree as t;
 ghost use Rattle.sj_sql_tree.specs.View.{plain_of, items_of, table_of};
 ghost use Rattle.sj_bind.specs.Faults as group;
-ghost use Rattle.sj_bind.specs.PartsView.{calls_of, row_keys_of};
+ghost use Rattle.sj_bind.specs.Names.{names_of};
+ghost use Rattle.sj_bind.specs.PartsView.{calls_of};
 ghost use Rattle.sj_bind.specs.Rules as spec;
 ghost use Rattle.sj_bind.specs.Tables as tables;
 ghost use Rattle.sj_bind.specs.Bindable.{IsBindable, IsBindableCall, IsBindableTable};
+ghost use Rattle.sj_bind.specs.Variables.{HaveSame};
 
 use crate::calls::{some_default_fails, some_lacks_variable, some_passes_twice, some_quotes_clash};
 use crate::columns::table_parts;
-use crate::items::{are_mixed, some_name_is_unknown};
-use crate::keys::{some_key_is_wrong, some_row_key_is_wrong, text_names};
+use crate::items::are_mixed;
+use crate::keys::{some_key_is_wrong, text_names};
+use crate::name_set::NameSet;
 use crate::parts::{Call, find_all};
-use crate::row_parts::find_all_items;
+use crate::row_rules::{Broken, KnownNames, broken_by_items};
 use crate::table::{
     column_index, has_column_twice, has_path_name_twice, has_plan_mismatch, has_too_many,
     lacks_path_name,
@@ -26,7 +28,7 @@ use crate::table_rules::{
 use crate::variables::passes_twice;
 use sj_base::Memory;
 use sj_sql_grammar::BindKind;
-use sj_sql_tree::{SValue, Seq, TItem, TValue, Table};
+use sj_sql_tree::{SValue, Seq, TItem, Table};
 use std::alloc::Global;
 
 /// The most items that a SELECT list may have.
@@ -137,12 +139,27 @@ fn table_fault(alloc: Global, table: &Table) -> Result<Option<BindKind>, Memory>
     columns_fault(alloc, table)
 }
 
-fn some_key_is_no_text(alloc: Global, keys: &[&TValue], table: &Table) -> Result<bool, Memory>
-    ensures { IfOk result (λ b. b ≡ list_any (λ key. not (spec.is_key (spec.text_names (spec.all_columns (table_of table.now))) key)) (row_keys_of keys.now)) }
+/// The rules on names and on keys that the list breaks beside a table.
+fn broken_beside(alloc: Global, items: &[TItem], table: &Table) -> Result<Broken, Memory>
+    requires { tables.has_column_twice (table_of table.now) ≡ false }
+    ensures unknown { IfOk result (λ b. b.unknown_name ≡ spec.unknown_column (t.Listed (items_of items.now) (table_of table.now))) }
+    ensures wrong { IfOk result (λ b. b.wrong_key ≡ spec.key_type (t.Listed (items_of items.now) (table_of table.now))) }
+{
+    let columns = column_index(alloc, table)?;
+    let texts = text_columns(alloc, table)?;
+    let known = KnownNames {
+        columns: &columns,
+        texts: &texts,
+    };
+    Ok(broken_by_items(items, known))
+}
+
+/// The names of the columns of a table that are texts. A name that stands there twice is there once.
+fn text_columns<'t>(alloc: Global, table: &'t Table) -> Result<NameSet<'t>, Memory>
+    ensures { IfOk result (λ names. HaveSame (names_of names) (spec.text_names (spec.all_columns (table_of table.now)))) }
 {
     let parts = table_parts(alloc, table)?;
-    let texts = text_names(alloc, parts.columns.as_slice())?;
-    Ok(some_row_key_is_wrong(keys, &texts))
+    text_names(alloc, parts.columns.as_slice())
 }
 
 /// The first rule on the list that it breaks beside a table.
@@ -150,15 +167,14 @@ fn items_fault(alloc: Global, items: &[TItem], table: &Table) -> Result<Option<B
     requires { tables.has_column_twice (table_of table.now) ≡ false }
     ensures { IfOk result (λ f. f ≡ group.items_fault (items_of items.now) (table_of table.now)) }
 {
-    let parts = find_all_items(alloc, items)?;
-    let columns = column_index(alloc, table)?;
-    if some_name_is_unknown(parts.names.as_slice(), &columns) {
+    let broken = broken_beside(alloc, items, table)?;
+    if broken.unknown_name {
         return Ok(Some(BindKind::UnknownColumn));
     }
     if are_mixed(items) {
         return Ok(Some(BindKind::AggregateMixed));
     }
-    if some_key_is_no_text(alloc, parts.keys.as_slice(), table)? {
+    if broken.wrong_key {
         return Ok(Some(BindKind::KeyType));
     }
     Ok(None)

@@ -2,27 +2,10 @@
 
 ghost use Rattle.std.specs.Prelude.{◌≡◌, ◌&&◌, not};
 ghost use Rattle.std.specs.List.{list_any};
-ghost use Rattle.sj_base.specs.Names.{is_among};
 ghost use Rattle.sj_sql_tree.specs.View.{item_of, items_of};
-ghost use Rattle.sj_bind.specs.Names.{names_of};
-ghost use Rattle.sj_bind.specs.PartsView.{texts_of};
 ghost use Rattle.sj_bind.specs.Rules as spec;
 
-use crate::covered::has_name;
-use crate::name_set::NameSet;
 use sj_sql_tree::TItem;
-
-/// Whether a name is that of no column.
-pub fn some_name_is_unknown(names: &[&str], columns: &NameSet<'_>) -> bool
-    ensures { result ≡ list_any (λ name. not (is_among (names_of columns.now) name)) (texts_of names.now) }
-{
-    for name in names {
-        if !has_name(columns, name) {
-            return true;
-        }
-    }
-    false
-}
 
 fn is_aggregate(item: &TItem) -> bool
     ensures { result ≡ spec.is_aggregate (item_of item.now) }

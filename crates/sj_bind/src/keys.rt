@@ -4,7 +4,7 @@ ghost use Rattle.std.specs.Prelude.{◌≡◌, ◌∷◌, [], not, IfOk, OnOk};
 ghost use Rattle.std.specs.List.{list_any};
 ghost use Rattle.sj_sql_tree.specs.View.{column_of, svalue_of, tvalue_of};
 ghost use Rattle.sj_bind.specs.Names.{names_of};
-ghost use Rattle.sj_bind.specs.PartsView.{keys_of, row_keys_of, columns_at};
+ghost use Rattle.sj_bind.specs.PartsView.{keys_of, columns_at};
 ghost use Rattle.sj_bind.specs.Rules as spec;
 ghost use Rattle.sj_bind.specs.Variables.{AddsNames, HaveSame};
 
@@ -51,7 +51,8 @@ pub fn some_key_is_wrong(keys: &[&SValue]) -> bool
     false
 }
 
-fn is_row_key(value: &TValue, texts: &NameSet<'_>) -> bool
+/// Whether a key is allowed beside columns, of which these are texts.
+pub fn is_row_key(value: &TValue, texts: &NameSet<'_>) -> bool
     ensures { result ≡ spec.is_key (names_of texts.now) (tvalue_of value.now) }
 {
     match value {
@@ -59,18 +60,6 @@ fn is_row_key(value: &TValue, texts: &NameSet<'_>) -> bool
         TValue::Column(name) => has_name(texts, name.as_str()),
         TValue::Object(_, _, _) | TValue::Array(_, _) => false,
     }
-}
-
-/// Whether a key is none of those that are allowed beside columns, of which these are texts.
-pub fn some_row_key_is_wrong(keys: &[&TValue], texts: &NameSet<'_>) -> bool
-    ensures { result ≡ list_any (λ key. not (spec.is_key (names_of texts.now) key)) (row_keys_of keys.now) }
-{
-    for key in keys {
-        if !is_row_key(key, texts) {
-            return true;
-        }
-    }
-    false
 }
 
 /// The names of the columns that are texts. A name that stands there twice is there once.

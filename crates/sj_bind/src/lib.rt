@@ -18,7 +18,7 @@ mod law;
 mod name_set;
 mod parts;
 mod refusal;
-mod row_parts;
+mod row_rules;
 mod row_values;
 mod table;
 mod table_rules;

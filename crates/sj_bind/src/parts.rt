@@ -18,10 +18,20 @@ pub enum Call<'s> {
 }
 
 /// The functions that have a path, and the keys of objects.
-#[derive(Drop)]
+///
+/// Its `drop` is written out, so that whoever holds one gives it up by one call.
 pub struct Parts<'s> {
     pub calls: Vec<Call<'s>>,
     pub keys: Vec<&'s SValue>,
+}
+
+impl<'s> Drop for Parts<'s> {
+    fn drop(self) {
+        let Parts {
+            calls: _calls,
+            keys: _keys,
+        } = self;
+    }
 }
 
 /// The parts of the values of a list.

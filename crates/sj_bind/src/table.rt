@@ -9,7 +9,7 @@ mod paths;
 mod plan;
 mod whole;
 
-pub use count::has_too_many;
+pub use count::{column_count, has_too_many};
 pub use matching::has_plan_mismatch;
 pub use names::{column_index, has_column_twice, has_path_name_twice, note};
 pub use paths::lacks_path_name;

@@ -1,6 +1,6 @@
 //! How many columns and paths a table has.
 
-ghost use Rattle.std.specs.Prelude.{◌≡◌, length};
+ghost use Rattle.std.specs.Prelude.{◌≡◌, false, length};
 ghost use Rattle.sj_sql_tree.specs.View.{table_of, columns_of, column_of};
 ghost use Rattle.sj_bind.specs.Tables as spec;
 ghost use Rattle.sj_bind.specs.Tables.{names_in, names_below};
@@ -14,11 +14,29 @@ use sj_sql_tree::{Column, Columns, Table};
 pub fn has_too_many(table: &Table) -> bool
     ensures { result ≡ spec.has_too_many (table_of table.now) }
 {
-    let row_path = Counts {
+    count_columns(&table.columns, row_path()).is_none()
+}
+
+/// How many columns the table has.
+pub fn column_count(table: &Table) -> u32
+    requires { spec.has_too_many (table_of table.now) ≡ false }
+    ensures { result ≡ length (spec.column_names (table_of table.now)) }
+{
+    match count_columns(&table.columns, row_path()) {
+        Some(counts) => counts.columns,
+        None => unreachable!(),
+    }
+}
+
+/// The row path alone.
+fn row_path() -> Counts
+    ensures columns { result.columns ≡ 0 }
+    ensures paths { result.paths ≡ 1 }
+{
+    Counts {
         columns: 0,
         paths: 1,
-    };
-    count_columns(&table.columns, row_path).is_none()
+    }
 }
 
 /// Adds the columns and the nested paths to those counted, or gives nothing where they are too many.

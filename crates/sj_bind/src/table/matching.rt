@@ -29,13 +29,14 @@ fn matches_table(plan: &NamedPlan, table: &Table) -> bool
     match plan {
         NamedPlan::Path(name) => is_called(&table.name, name) && !has_nested(&table.columns),
         NamedPlan::Outer(name, below) | NamedPlan::Inner(name, below) => {
-            is_called(&table.name, name) && fits_below(below, row_path(table))
+            is_called(&table.name, name) && fits_below(below, root_of(table))
         }
         NamedPlan::Union(_, _) | NamedPlan::Cross(_, _) => false,
     }
 }
 
-fn row_path(table: &Table) -> Place<'_>
+/// The row path, as a path beside no other.
+pub fn root_of(table: &Table) -> Place<'_>
     ensures number { result.number ≡ 0 }
     ensures columns { result.columns.now ≡ table.now.columns }
 {

@@ -1,16 +1,18 @@
 //! The plan of a table over the numbers of its paths.
 
-ghost use Rattle.std.specs.Prelude.{◌≡◌, ◌+◌, ◌<◌, ◌≤◌, ◌^◌, ◌∷◌, [], true, false, length, option_map, None, IfOk};
-ghost use Rattle.sj_value.specs.Plans.{plan_tree, outer_join, inner_join, union_of, cross_of, IsPlanOver};
+ghost use Rattle.std.specs.Prelude.{◌≡◌, ◌+◌, ◌<◌, ◌≤◌, ◌^◌, ◌∷◌, [], true, false, length, is_some, option_map, None, Some, IfOk};
+ghost use Rattle.sj_value.specs.Plans.{plan_tree, IsPlanOver};
 ghost use Rattle.sj_sql_tree.specs.View.{table_of, columns_of, column_of, plan_of, plan_tree_of};
 ghost use Rattle.sj_bind.specs.Tables.{has_too_many, has_path_name_twice};
 ghost use Rattle.sj_bind.specs.Paths.{paths_in, paths_below, children, row_path, table_paths};
+ghost use Rattle.sj_bind.specs.Places.{child_of};
 ghost use Rattle.sj_bind.specs.Plans as spec;
 ghost use Rattle.sj_bind.specs.Grown as grown;
 ghost use Rattle.sj_bind.specs.Grown.{one_more, grown_in, grown_below};
 
-use super::paths::{count_paths_in, find_path};
-use sj_base::Memory;
+use super::matching::root_of;
+use super::paths::{Place, count_paths_in, find_path};
+use sj_base::{Memory, Text};
 use sj_sql_grammar::{InOut, Siblings};
 use sj_sql_tree::{Column, Columns, NamedPlan, PlanTree, Table};
 use sj_value::Plan;
@@ -50,48 +52,62 @@ fn numbered_root(alloc: Global, plan: &NamedPlan, table: &Table) -> Result<Plan,
 {
     match plan {
         NamedPlan::Path(_) => Ok(Plan::Path(0)),
-        NamedPlan::Outer(_, below) => outer(alloc, 0, numbered(alloc, below, &table.columns, 1)?),
-        NamedPlan::Inner(_, below) => inner(alloc, 0, numbered(alloc, below, &table.columns, 1)?),
+        NamedPlan::Outer(_, below) => over(alloc, InOut::Outer, root_of(table), below),
+        NamedPlan::Inner(_, below) => over(alloc, InOut::Inner, root_of(table), below),
         NamedPlan::Union(_, _) | NamedPlan::Cross(_, _) => unreachable!(),
     }
 }
 
 /// The plan with numbers in the place of names, which are those of paths right under the columns. The first of these has the
 /// number `next`.
+#[cycle(numbered)]
 fn numbered(alloc: Global, plan: &NamedPlan, columns: &Columns, next: u32) -> Result<Plan, Memory>
     requires few { next + length (paths_below (columns_of columns.now)) < 2 ^ 32 }
     requires fits { spec.fits (plan_of plan.now) (children next (columns_of columns.now)) ≡ true }
     ensures { IfOk result (λ p. plan_tree p ≡ spec.numbered (plan_of plan.now) (children next (columns_of columns.now))) }
 {
     match plan {
-        NamedPlan::Path(name) => match find_path(columns, next, name.as_str()) {
-            Some(path) => Ok(Plan::Path(path.number)),
-            None => unreachable!(),
-        },
-        NamedPlan::Outer(name, below) => match find_path(columns, next, name.as_str()) {
-            Some(path) => {
-                let below = numbered(alloc, below, path.columns, path.number + 1)?;
-                outer(alloc, path.number, below)
-            }
-            None => unreachable!(),
-        },
-        NamedPlan::Inner(name, below) => match find_path(columns, next, name.as_str()) {
-            Some(path) => {
-                let below = numbered(alloc, below, path.columns, path.number + 1)?;
-                inner(alloc, path.number, below)
-            }
-            None => unreachable!(),
-        },
+        NamedPlan::Path(name) => Ok(Plan::Path(known_path(columns, next, name).number)),
+        NamedPlan::Outer(name, below) => {
+            over(alloc, InOut::Outer, known_path(columns, next, name), below)
+        }
+        NamedPlan::Inner(name, below) => {
+            over(alloc, InOut::Inner, known_path(columns, next, name), below)
+        }
         NamedPlan::Union(a, b) => {
             let a = numbered(alloc, a, columns, next)?;
             let b = numbered(alloc, b, columns, next)?;
-            union(alloc, a, b)
+            beside(alloc, Siblings::Union, a, b)
         }
         NamedPlan::Cross(a, b) => {
             let a = numbered(alloc, a, columns, next)?;
             let b = numbered(alloc, b, columns, next)?;
-            cross(alloc, a, b)
+            beside(alloc, Siblings::Cross, a, b)
         }
+    }
+}
+
+/// A path over the plan of its nested paths.
+#[cycle(numbered)]
+fn over(alloc: Global, in_out: InOut, path: Place, below: &NamedPlan) -> Result<Plan, Memory>
+    requires few { path.number + 1 + length (paths_below (columns_of path.columns.now)) < 2 ^ 32 }
+    requires fits { spec.fits (plan_of below.now) (children (path.number + 1) (columns_of path.columns.now)) ≡ true }
+    ensures { IfOk result (λ p. plan_tree p ≡ spec.joined in_out path.entry.number (spec.numbered (plan_of below.now) (children (path.entry.number + 1) (columns_of path.entry.columns.now)))) }
+{
+    let plan = numbered(alloc, below, path.columns, path.number + 1)?;
+    joined(alloc, in_out, path.number, plan)
+}
+
+/// The path of this name among those right under the columns, of which the first has the number `next`.
+fn known_path<'a>(columns: &'a Columns, next: u32, name: &Text) -> Place<'a>
+    requires few { next + length (paths_below (columns_of columns.now)) < 2 ^ 32 }
+    requires known { is_some (spec.path_named name.now (children next (columns_of columns.now))) ≡ true }
+    ensures found { spec.path_named name.now (children next (columns_of columns.now)) ≡ Some (child_of name.now result) }
+    ensures within { result.number + 1 + length (paths_below (columns_of result.columns.now)) ≤ next + length (paths_below (columns_of columns.now)) }
+{
+    match find_path(columns, next, name.as_str()) {
+        Some(path) => path,
+        None => unreachable!(),
     }
 }
 
@@ -145,13 +161,13 @@ fn with_column(
         | Column::Exists(_, _, _) => Ok(below),
         Column::Nested(_, _, columns) => {
             let plan = default_plan(alloc, columns, next, in_out, siblings)?;
-            beside(alloc, below, plan, siblings)
+            with_plan(alloc, below, plan, siblings)
         }
     }
 }
 
 /// The plans so far, and one more beside them.
-fn beside(
+fn with_plan(
     alloc: Global,
     before: Option<Plan>,
     plan: Plan,
@@ -161,10 +177,7 @@ fn beside(
 {
     match before {
         None => Ok(Some(plan)),
-        Some(before) => Ok(Some(match siblings {
-            Siblings::Union => union(alloc, before, plan)?,
-            Siblings::Cross => cross(alloc, before, plan)?,
-        })),
+        Some(before) => Ok(Some(beside(alloc, siblings, before, plan)?)),
     }
 }
 
@@ -174,33 +187,27 @@ fn path_over(alloc: Global, number: u32, below: Option<Plan>, in_out: InOut) -> 
 {
     match below {
         None => Ok(Plan::Path(number)),
-        Some(below) => match in_out {
-            InOut::Outer => outer(alloc, number, below),
-            InOut::Inner => inner(alloc, number, below),
-        },
+        Some(below) => joined(alloc, in_out, number, below),
     }
 }
 
-fn outer(alloc: Global, number: u32, below: Plan) -> Result<Plan, Memory>
-    ensures { IfOk result (λ plan. plan_tree plan ≡ outer_join number (plan_tree below)) }
+fn joined(alloc: Global, in_out: InOut, number: u32, below: Plan) -> Result<Plan, Memory>
+    ensures { IfOk result (λ plan. plan_tree plan ≡ spec.joined in_out number (plan_tree below)) }
 {
-    Ok(Plan::Outer(number, Box::new(alloc, below)?))
+    let below = Box::new(alloc, below)?;
+    Ok(match in_out {
+        InOut::Outer => Plan::Outer(number, below),
+        InOut::Inner => Plan::Inner(number, below),
+    })
 }
 
-fn inner(alloc: Global, number: u32, below: Plan) -> Result<Plan, Memory>
-    ensures { IfOk result (λ plan. plan_tree plan ≡ inner_join number (plan_tree below)) }
+fn beside(alloc: Global, siblings: Siblings, a: Plan, b: Plan) -> Result<Plan, Memory>
+    ensures { IfOk result (λ plan. plan_tree plan ≡ spec.beside siblings (plan_tree a) (plan_tree b)) }
 {
-    Ok(Plan::Inner(number, Box::new(alloc, below)?))
-}
-
-fn union(alloc: Global, a: Plan, b: Plan) -> Result<Plan, Memory>
-    ensures { IfOk result (λ plan. plan_tree plan ≡ union_of (plan_tree a) (plan_tree b)) }
-{
-    Ok(Plan::Union(Box::new(alloc, a)?, Box::new(alloc, b)?))
-}
-
-fn cross(alloc: Global, a: Plan, b: Plan) -> Result<Plan, Memory>
-    ensures { IfOk result (λ plan. plan_tree plan ≡ cross_of (plan_tree a) (plan_tree b)) }
-{
-    Ok(Plan::Cross(Box::new(alloc, a)?, Box::new(alloc, b)?))
+    let a = Box::new(alloc, a)?;
+    let b = Box::new(alloc, b)?;
+    Ok(match siblings {
+        Siblings::Union => Plan::Union(a, b),
+        Siblings::Cross => Plan::Cross(a, b),
+    })
 }

@@ -12,6 +12,6 @@ find_columns-loop-rest-preserved t c = record {
   paths = grind (arith, common_steps, listed);
 }
 
-pub find_column-returns-in_ok-find_columns-in-Nested-clause-paths :
-    goal.find_column-returns-in_ok-find_columns-in-Nested-clause-paths
-find_column-returns-in_ok-find_columns-in-Nested-clause-paths t c = grind (arith, common_steps, found)
+pub find_column-returns-in_ok-push-in-Nested-clause-paths :
+    goal.find_column-returns-in_ok-push-in-Nested-clause-paths
+find_column-returns-in_ok-push-in-Nested-clause-paths t c = grind (arith, common_steps, found)
