@@ -49,7 +49,7 @@ name_added keys after x e name = go (list_any (λ (k : Bor (List ℕ)). bytes_eq
         ∙ ap (λ z. is_among z name) (map-append (λ (k : Bor (List ℕ)). k.now) keys (x ∷ []))
         ∙ added_last (lent keys) x.now name
 
-pub grouped : (a b c : Bool) → ((a || b) || c) ≡ (a || (b || c))
+grouped : (a b c : Bool) → ((a || b) || c) ≡ (a || (b || c))
 grouped true b c = refl
 grouped false b c = refl
 

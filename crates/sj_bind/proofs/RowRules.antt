@@ -1,8 +1,8 @@
 -- Tests of lists behind what was found before.
-use Rattle.std.proofs.Common.{◌≡◌, Bool, true, false, ◌||◌, List, [], ◌∷◌, ◌++◌, refl, ap, ◌∙◌}
+use Rattle.std.proofs.Common.{◌≡◌, Bool, true, false, ◌||◌, List, ◌∷◌, ◌++◌, refl}
 use Rattle.std.specs.List.{list_any}
 use Rattle.std.proofs.lemmas.List.Folds.{list_any-append}
-use Rattle.sj_bind.proofs.AddedNames.{grouped, or_none}
+use Rattle.sj_bind.proofs.AddedNames.{or_none}
 
 pub none_more : (b : Bool) → (b || false) ≡ b
 none_more b = or_none b
