@@ -1,6 +1,6 @@
 -- Plain paths: what their accessors give of a node, and how a trace is gone through.
 use Rattle.std.specs.Prelude.{if◌then◌else◌}
-use Rattle.std.proofs.Common.{◌≡◌, ℕ, ◌+◌, ◌-◌, ◌≤◌, List, [], ◌∷◌, ◌++◌, map, take, drop, get_or, length, Bool, true, false, Option, None, ap, sym, ◌∙◌, refl, arith}
+use Rattle.std.proofs.Common.{◌≡◌, ℕ, ◌+◌, ◌-◌, ◌≤◌, List, [], ◌∷◌, ◌++◌, map, take, drop, get_or, length, Bool, true, false, ap, sym, ◌∙◌, refl, arith}
 use Rattle.std.proofs.lemmas.List.{take_all}
 use Rattle.sj_base.specs.Outside.{raised}
 use Rattle.sj_json.specs.Tree.{Tree, children, numbered, NumberedChild}
@@ -15,7 +15,7 @@ use Rattle.sj_path_grammar.specs.declared.tree.Mode.TheVariants.{Lax}
 use Rattle.sj_item.specs.Items.{ItemValue, node}
 use Rattle.sj_step.specs.Trace.{Trace, stop, visit, give, only, after_visits, join, each}
 use Rattle.sj_step.specs.Reach.{reach, on_kind, by_key, unwrapped, unwrap, child_item, under_key}
-use Rattle.sj_step.proofs.Traces.{join-after_visits, join-stop, join_assoc, each-only, each-after_visits, each_assoc}
+use Rattle.sj_step.proofs.Traces.{join-after_visits, join-stop, join_assoc, each-after_visits, each_assoc}
 use Rattle.sj_step.proofs.Keyed.{gives_first, gives_none}
 use Rattle.sj_path_tree.specs.Vars.{Variables}
 use Rattle.sj_cursor.specs.Meaning.{Env, meaning, start_env, path_trace}

@@ -10,7 +10,7 @@ use Rattle.sj_item.specs.Items.{ItemValue, gives, ends, faults}
 use Rattle.sj_item.specs.Truths.{truth_of}
 use Rattle.sj_item.specs.declared.truth.Truth.{Truth}
 use Rattle.sj_step.specs.Trace.{Trace, stop, fail, visit, give, after_visits, items, count, visits, visits_before, fault_of, visits_to_first}
-use Rattle.sj_cursor.specs.Single.{need, Single, bad, of_items, unless_fault, single}
+use Rattle.sj_cursor.specs.Single.{need, bad, of_items, unless_fault, single}
 use Rattle.sj_cursor.specs.Verdicts.{exists_truth, exists_verdict, is_faulty, has_item}
 use Rattle.sj_cursor.specs.Draws.{Draws}
 use Rattle.sj_cursor.specs.Decides.{Decides}

@@ -1,17 +1,17 @@
 -- What is taken of a trace is what is looked for in it, and what is seen of its row.
 use Rattle.std.specs.Prelude.{if◌then◌else◌, is_some}
-use Rattle.std.proofs.Common.{◌≡◌, ℕ, zero, suc, ◌+◌, ◌≤◌, Bool, true, false, ◌||◌, ◌&&◌, Option, Some, None, ap, sym, ◌∙◌, refl, arith}
+use Rattle.std.proofs.Common.{◌≡◌, ℕ, zero, suc, ◌+◌, ◌≤◌, Bool, true, false, ◌||◌, ◌&&◌, Option, None, ap, sym, ◌∙◌, refl, arith}
 use Rattle.sj_base.specs.Outside.{raised}
 use Rattle.sj_base.specs.declared.state.State.{State}
 use Rattle.sj_item.specs.Items.{ItemValue}
-use Rattle.sj_step.specs.Trace.{Trace, stop, fail, visit, give, after_visits, join}
+use Rattle.sj_step.specs.Trace.{Trace, stop, fail, visit, give, after_visits}
 use Rattle.sj_step.proofs.Traces.{join-stop}
 use Rattle.sj_cursor.specs.Chains.{Sought}
 use Rattle.sj_cursor.specs.Comparisons.{is_true}
 use Rattle.sj_cursor.specs.Looks.{Found, none_found, Look, more, is_enough, looked, look_cost, Finds}
 use Rattle.sj_cursor.specs.Rows.{ItemTruth, row_true, row_doubt, row_cost}
 use Rattle.sj_cursor.specs.RowsSeen.{RowSeen}
-use Rattle.sj_cursor.specs.Takers.{Taken, looking, testing, with_item, suffices, taken_of, taking_cost}
+use Rattle.sj_cursor.specs.Takers.{Taken, looking, testing, taken_of, taking_cost}
 use Rattle.sj_cursor.specs.Verdicts.{is_unknown}
 use Rattle.sj_cursor.specs.declared.look.Limit.{Limit}
 

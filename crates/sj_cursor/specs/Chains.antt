@@ -1,7 +1,7 @@
 -- Plain paths: the root or `@` and, behind it, accessors of members, in lax mode. Private clauses alone cite this; it is proved to be what `Meaning` says.
 use Rattle.std.specs.Prelude.{◌≡◌, ◌≤◌, ℕ, Bool, List, [], ◌∷◌, map, None, if◌then◌else◌}
 use Rattle.sj_base.specs.Outside.{raised}
-use Rattle.sj_json.specs.Tree.{Tree, NumberedChild}
+use Rattle.sj_json.specs.Tree.{NumberedChild}
 use Rattle.sj_doc.specs.Listed.{node_id, node_tree}
 use Rattle.sj_doc.specs.Slots.{texts}
 use Rattle.sj_doc.specs.declared.doc.NodeRef.{NodeRef}

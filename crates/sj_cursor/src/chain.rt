@@ -65,7 +65,7 @@ pub(crate) fn look_below<'d, L: Ledger>(
     ensures { Finds limit (below how (texts keys.now) (node_value node.entry)) (look_value result) steps.old steps.new }
 {
     let mut gathered = Gathered::nothing();
-    seek(how, Aim::Look(limit), keys, node, &mut gathered, steps);
+    seek(how, &Aim::Look(limit), keys, node, &mut gathered, steps);
     Look {
         found: gathered.found,
         fault: None,
@@ -95,13 +95,13 @@ fn collect<'d>(expr: &'d Expr, keys: &mut Vec<&'d str>) -> Result<bool, Memory>
 #[cycle(seek)]
 pub(crate) fn seek<'d, L: Ledger>(
     how: Opening,
-    aim: Aim<'_, 'd>,
+    aim: &Aim<'_, 'd>,
     keys: &[&'d str],
     node: NodeRef<'d>,
     gathered: &mut Gathered<'d>,
     steps: &mut Steps<L>,
 ) -> bool
-    ensures { Sought (taken_value aim.entry gathered.old) (below how (texts keys.now) (node_value node.entry)) (taken_value aim.entry gathered.new) result steps.old steps.new }
+    ensures { Sought (taken_value aim.now gathered.old) (below how (texts keys.now) (node_value node.entry)) (taken_value aim.now gathered.new) result steps.old steps.new }
 {
     match keys {
         [] => take_opened(how, aim, node, gathered, steps),
@@ -115,12 +115,12 @@ pub(crate) fn seek<'d, L: Ledger>(
 // A node at the end of the keys.
 fn take_opened<'d, L: Ledger>(
     how: Opening,
-    aim: Aim<'_, 'd>,
+    aim: &Aim<'_, 'd>,
     node: NodeRef<'d>,
     gathered: &mut Gathered<'d>,
     steps: &mut Steps<L>,
 ) -> bool
-    ensures { Sought (taken_value aim.entry gathered.old) (opened how Lax (node_value node.entry)) (taken_value aim.entry gathered.new) result steps.old steps.new }
+    ensures { Sought (taken_value aim.now gathered.old) (opened how Lax (node_value node.entry)) (taken_value aim.now gathered.new) result steps.old steps.new }
 {
     match how {
         Opening::Unwrapped => match node.kind() {
@@ -133,12 +133,12 @@ fn take_opened<'d, L: Ledger>(
 
 // The elements of an array.
 fn take_elements<'d, L: Ledger>(
-    aim: Aim<'_, 'd>,
+    aim: &Aim<'_, 'd>,
     mut elements: Children<'d>,
     gathered: &mut Gathered<'d>,
     steps: &mut Steps<L>,
 ) -> bool
-    ensures { Sought (taken_value aim.entry gathered.old) (elements_of elements.entry) (taken_value aim.entry gathered.new) result steps.old steps.new }
+    ensures { Sought (taken_value aim.now gathered.old) (elements_of elements.entry) (taken_value aim.now gathered.new) result steps.old steps.new }
 {
     'elements: while let Some(element) = elements.next(steps) {
         if gathered.take(aim, element.node) {
@@ -152,14 +152,14 @@ fn take_elements<'d, L: Ledger>(
 #[cycle(seek)]
 fn seek_elements<'d, L: Ledger>(
     how: Opening,
-    aim: Aim<'_, 'd>,
+    aim: &Aim<'_, 'd>,
     key: &str,
     rest: &[&'d str],
     mut elements: Children<'d>,
     gathered: &mut Gathered<'d>,
     steps: &mut Steps<L>,
 ) -> bool
-    ensures { Sought (taken_value aim.entry gathered.old) (over how key.now (texts rest.now) elements.entry) (taken_value aim.entry gathered.new) result steps.old steps.new }
+    ensures { Sought (taken_value aim.now gathered.old) (over how key.now (texts rest.now) elements.entry) (taken_value aim.now gathered.new) result steps.old steps.new }
 {
     'elements: while let Some(element) = elements.next(steps) {
         if seek_members(how, aim, key, rest, element.node, gathered, steps) {
@@ -173,14 +173,14 @@ fn seek_elements<'d, L: Ledger>(
 #[cycle(seek)]
 fn seek_members<'d, L: Ledger>(
     how: Opening,
-    aim: Aim<'_, 'd>,
+    aim: &Aim<'_, 'd>,
     key: &str,
     rest: &[&'d str],
     node: NodeRef<'d>,
     gathered: &mut Gathered<'d>,
     steps: &mut Steps<L>,
 ) -> bool
-    ensures { Sought (taken_value aim.entry gathered.old) (under how key.now (texts rest.now) (node_value node.entry)) (taken_value aim.entry gathered.new) result steps.old steps.new }
+    ensures { Sought (taken_value aim.now gathered.old) (under how key.now (texts rest.now) (node_value node.entry)) (taken_value aim.now gathered.new) result steps.old steps.new }
 {
     match node.kind() {
         Kind::Object => {}

@@ -55,7 +55,7 @@ impl<'d> Keyed<'d> {
         let keys = [self.key];
         seek(
             Opening::Unwrapped,
-            aim,
+            &aim,
             &keys,
             self.node,
             &mut gathered,

@@ -41,19 +41,19 @@ impl<'d> Gathered<'d> {
     }
 
     /// One more item, a node. It tells whether this is enough.
-    pub(crate) fn take(&mut self, aim: Aim<'_, 'd>, node: NodeRef<'d>) -> bool
-        ensures more { taken_value aim.entry self.new ≡ with_item (taken_value aim.entry self.old) (node_value node.entry) }
-        ensures enough { result ≡ suffices (taken_value aim.entry self.new) }
+    pub(crate) fn take(&mut self, aim: &Aim<'_, 'd>, node: NodeRef<'d>) -> bool
+        ensures more { taken_value aim.now self.new ≡ with_item (taken_value aim.now self.old) (node_value node.entry) }
+        ensures enough { result ≡ suffices (taken_value aim.now self.new) }
     {
         let item = Item::Node(node);
         match aim {
             Aim::Look(limit) => {
                 self.found = self.found.more(item);
-                self.found.is_enough(limit)
+                self.found.is_enough(*limit)
             }
             Aim::Pairs(early, beside) => {
                 self.row = self.row.saw(beside.truth(&item));
-                self.row.halts(early)
+                self.row.halts(*early)
             }
         }
     }
