@@ -1,7 +1,6 @@
 // The rows of a statement for a line.
-ghost use Rattle.std.specs.Prelude.{◌≡◌, [], true, All, IfOk};
+ghost use Rattle.std.specs.Prelude.{◌≡◌, [], All, IfOk};
 ghost use Rattle.sj_value.specs.Values.{IsPrintable};
-ghost use Rattle.sj_table.specs.Series.{done};
 ghost use Rattle.sj_table.specs.Takes.{Spends};
 ghost use Rattle.sj_bound.specs.Bound as b;
 ghost use Rattle.sj_bound.specs.Sound.{IsSound};
@@ -208,18 +207,6 @@ impl<'d> RowsOf<'d> {
         self.stage = Stage::behind(found);
         keep_row(found, &mut self.source.stack);
         Ok(Turn::of(found))
-    }
-
-    /// Whether it is known that no row is left. So it is behind the only row of a statement without a table, where [`RowsOf::next`] need
-    /// not be asked for the end.
-    #[inline(always)]
-    pub fn has_ended(&self) -> bool
-        ensures { result ≡ true → self.now.left ≡ done }
-    {
-        match self.stage {
-            Stage::Ended => true,
-            Stage::Going | Stage::Raised(_) => false,
-        }
     }
 
     /// Takes the row just given, whose values can be printed. Before the first row and after an end it is empty. Then no row is at hand;
