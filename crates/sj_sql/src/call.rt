@@ -28,10 +28,14 @@ pub fn exists(
 ) -> Result<(SValue, Faults, Tokens<'_>), Refusal>
     ensures { Gives (λ x. (svalue_of x.0, faults_of x.1, x.2.now)) result (reading.exists_from parsing (faults_of faults) tokens.now) }
 {
-    let rest = open(tokens).ok_or(Refusal::Syntax)?;
+    let Some(rest) = open(tokens) else {
+        return Err(Refusal::Syntax);
+    };
     let (common, faults, rest) = common(alloc, faults, rest)?;
     let (on_error, rest) = exists_clause(rest).unwrap_or((ExistsAction::False, rest));
-    let rest = close(rest).ok_or(Refusal::Syntax)?;
+    let Some(rest) = close(rest) else {
+        return Err(Refusal::Syntax);
+    };
     let call = Box::new(alloc, ExistsCall { common, on_error })?;
     Ok((SValue::Exists(call), faults, rest))
 }
@@ -45,12 +49,16 @@ pub fn value(
 ) -> Result<(SValue, Faults, Tokens<'_>), Refusal>
     ensures { Gives (λ x. (svalue_of x.0, faults_of x.1, x.2.now)) result (reading.value_from parsing (faults_of faults) tokens.now) }
 {
-    let rest = open(tokens).ok_or(Refusal::Syntax)?;
+    let Some(rest) = open(tokens) else {
+        return Err(Refusal::Syntax);
+    };
     let (common, faults, rest) = common(alloc, faults, rest)?;
     let (ty, rest) = returning(rest).unwrap_or((TypeName::Known(SqlType::Varchar), rest));
     let (on_empty, rest) = value_action(alloc, Keyword::Empty, rest)?;
     let (on_error, rest) = value_action(alloc, Keyword::Error, rest)?;
-    let rest = close(rest).ok_or(Refusal::Syntax)?;
+    let Some(rest) = close(rest) else {
+        return Err(Refusal::Syntax);
+    };
     let call = ValueCall {
         common,
         ty,
@@ -70,13 +78,17 @@ pub fn query(
 ) -> Result<(SValue, Faults, Tokens<'_>), Refusal>
     ensures { Gives (λ x. (svalue_of x.0, faults_of x.1, x.2.now)) result (reading.query_from parsing (faults_of faults) tokens.now) }
 {
-    let rest = open(tokens).ok_or(Refusal::Syntax)?;
+    let Some(rest) = open(tokens) else {
+        return Err(Refusal::Syntax);
+    };
     let (common, faults, rest) = common(alloc, faults, rest)?;
     let (wrapper, rest) = wrapper(rest).unwrap_or((Wrapper::Without, rest));
     let (quotes, rest) = quotes_clause(rest).unwrap_or((Quotes::Absent, rest));
     let (on_empty, rest) = query_clause(Keyword::Empty, rest).unwrap_or((QueryAction::Null, rest));
     let (on_error, rest) = query_clause(Keyword::Error, rest).unwrap_or((QueryAction::Null, rest));
-    let rest = close(rest).ok_or(Refusal::Syntax)?;
+    let Some(rest) = close(rest) else {
+        return Err(Refusal::Syntax);
+    };
     let call = QueryCall {
         common,
         wrapper,

@@ -107,7 +107,9 @@ fn named_column(
     ensures { Gives (λ x. (column_of x.0, faults_of x.1, x.2.now)) result (reading.named_column_at parsing name (faults_of faults) tokens.now) }
 {
     if let Some(rest) = word(Keyword::For, tokens) {
-        let rest = word(Keyword::Ordinality, rest).ok_or(Refusal::Syntax)?;
+        let Some(rest) = word(Keyword::Ordinality, rest) else {
+            return Err(Refusal::Syntax);
+        };
         return Ok((Column::Ordinality(name), faults, rest));
     }
     if let Some(rest) = formatted_type(tokens) {
@@ -182,8 +184,8 @@ impl<
         let (path, faults) = path(self.alloc, faults, text)?;
         let (name, rest) = name_of_path(self.alloc, rest)?;
         let (columns, faults, rest) = self.inner(faults, rest)?;
-        let nested = Column::Nested(path, name, Box::new(self.alloc, columns)?);
-        Ok((nested, faults, rest))
+        let columns = Box::new(self.alloc, columns)?;
+        Ok((Column::Nested(path, name, columns), faults, rest))
     }
 
     #[tactic(auto, unfolding(sj_sql_grammar::specs::Reading::column_at))]
@@ -253,10 +255,16 @@ impl<
         ensures { Gives (λ x. (columns_of x.0, faults_of x.1, x.2.now)) result
             (reading.columns_over parsing (reading.columns_at parsing self.now.depth) (faults_of faults) tokens.now) }
     {
-        let rest = word(Keyword::Columns, tokens).ok_or(Refusal::Syntax)?;
-        let rest = open(rest).ok_or(Refusal::Syntax)?;
+        let Some(rest) = word(Keyword::Columns, tokens) else {
+            return Err(Refusal::Syntax);
+        };
+        let Some(rest) = open(rest) else {
+            return Err(Refusal::Syntax);
+        };
         let (columns, faults, rest) = self.columns(faults, rest)?;
-        let rest = close(rest).ok_or(Refusal::Syntax)?;
+        let Some(rest) = close(rest) else {
+            return Err(Refusal::Syntax);
+        };
         Ok((columns, faults, rest))
     }
 }

@@ -30,7 +30,9 @@ pub fn common(
     let Some((encoding, rest)) = document(tokens) else {
         return Err(Refusal::Syntax);
     };
-    let rest = comma(rest).ok_or(Refusal::Syntax)?;
+    let Some(rest) = comma(rest) else {
+        return Err(Refusal::Syntax);
+    };
     let Some((text, rest)) = string(rest) else {
         return Err(Refusal::Syntax);
     };
@@ -56,7 +58,9 @@ pub fn row_path(
     let Some((encoding, rest)) = document(tokens) else {
         return Err(Refusal::Syntax);
     };
-    let rest = comma(rest).ok_or(Refusal::Syntax)?;
+    let Some(rest) = comma(rest) else {
+        return Err(Refusal::Syntax);
+    };
     let Some((text, rest)) = string(rest) else {
         return Err(Refusal::Syntax);
     };

@@ -11,7 +11,7 @@ use sj_path::{Name, PathRefusal};
 use sj_sql_grammar::{Encoding, FileKind, TypeName};
 
 /// What may refuse a statement that has a tree: the first of each kind, in the order of the text.
-#[derive(Clone, Copy, Debug)]
+#[derive(Clone, Copy)]
 pub struct Faults {
     /// Why a path text is refused, unless this implementation lacks a part of it.
     pub path: Option<FileKind>,

@@ -43,10 +43,14 @@ fn array_agg(
 ) -> Result<(TItem, Faults, Tokens<'_>), Refusal>
     ensures { Gives (λ x. (item_of x.0, faults_of x.1, x.2.now)) result (reading.array_agg_from parsing (faults_of faults) tokens.now) }
 {
-    let rest = open(tokens).ok_or(Refusal::Syntax)?;
+    let Some(rest) = open(tokens) else {
+        return Err(Refusal::Syntax);
+    };
     let (value, faults, rest) = row_value(alloc, rest.len() + 1, faults, rest)?;
     let (nulls, rest) = nulls_clause(rest).unwrap_or((Nulls::Absent, rest));
-    let rest = close(rest).ok_or(Refusal::Syntax)?;
+    let Some(rest) = close(rest) else {
+        return Err(Refusal::Syntax);
+    };
     Ok((TItem::ArrayAgg(value, nulls), faults, rest))
 }
 
@@ -59,7 +63,9 @@ fn object_agg(
 ) -> Result<(TItem, Faults, Tokens<'_>), Refusal>
     ensures { Gives (λ x. (item_of x.0, faults_of x.1, x.2.now)) result (reading.object_agg_from parsing (faults_of faults) tokens.now) }
 {
-    let rest = open(tokens).ok_or(Refusal::Syntax)?;
+    let Some(rest) = open(tokens) else {
+        return Err(Refusal::Syntax);
+    };
     let level = Level {
         alloc,
         depth: rest.len() + 1,
@@ -68,7 +74,9 @@ fn object_agg(
     let (member, faults, rest) = level.member(faults, rest)?;
     let (nulls, rest) = nulls_clause(rest).unwrap_or((Nulls::Null, rest));
     let (unique, rest) = unique_clause(rest).unwrap_or((false, rest));
-    let rest = close(rest).ok_or(Refusal::Syntax)?;
+    let Some(rest) = close(rest) else {
+        return Err(Refusal::Syntax);
+    };
     let key = Box::into_inner(member.key);
     let item = TItem::ObjectAgg(key, Box::into_inner(member.value), nulls, unique);
     Ok((item, faults, rest))

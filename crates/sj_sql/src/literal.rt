@@ -5,10 +5,8 @@ ghost use Rattle.sj_sql.specs.Gives.{Gives};
 ghost use Rattle.sj_sql_grammar.specs.Phrases as phrase;
 
 use crate::meaning::meant;
-use crate::phrase::cause;
 use crate::refusal::Refusal;
 use crate::single::{Tokens, name, number_of, word};
-use sj_base::Text;
 use sj_path::Literal;
 use sj_sql_grammar::{Passed, ValueDo};
 use sj_sql_token::{Keyword, Token};
@@ -60,26 +58,6 @@ pub fn literal(alloc: Global, tokens: Tokens<'_>) -> Result<(Literal, Tokens<'_>
     }
 }
 
-/// A name behind AS.
-#[tactic(auto, unfolding(sj_sql_grammar::specs::Phrases::alias_at))]
-pub fn alias(alloc: Global, tokens: Tokens<'_>) -> Result<(Text, Tokens<'_>), Refusal>
-    ensures { Gives (λ x. (x.0, x.1.now)) result (phrase.alias_at tokens.now) }
-{
-    let Some(rest) = word(Keyword::As, tokens) else {
-        return Err(Refusal::Syntax);
-    };
-    name(alloc, rest)
-}
-
-/// The name of a path.
-#[tactic(auto, unfolding(sj_sql_grammar::specs::Phrases::path_name_at))]
-pub fn path_name(alloc: Global, tokens: Tokens<'_>) -> Result<(Option<Text>, Tokens<'_>), Refusal>
-    ensures { Gives (λ x. (x.0, x.1.now)) result (phrase.path_name_at tokens.now) }
-{
-    let (name, rest) = alias(alloc, tokens)?;
-    Ok((Some(name), rest))
-}
-
 /// A variable of a PASSING clause.
 #[tactic(auto, unfolding(sj_sql_grammar::specs::Phrases::passed_at))]
 pub fn passed(alloc: Global, tokens: Tokens<'_>) -> Result<(Passed, Tokens<'_>), Refusal>
@@ -93,7 +71,11 @@ pub fn passed(alloc: Global, tokens: Tokens<'_>) -> Result<(Passed, Tokens<'_>),
     Ok((Passed { name, value }, rest))
 }
 
-fn value_action_phrase(alloc: Global, tokens: Tokens<'_>) -> Result<(ValueDo, Tokens<'_>), Refusal>
+/// The action of JSON_VALUE, without its cause.
+pub fn value_action_phrase(
+    alloc: Global,
+    tokens: Tokens<'_>,
+) -> Result<(ValueDo, Tokens<'_>), Refusal>
     ensures { Gives (λ x. (x.0, x.1.now)) result (phrase.value_action_at tokens.now) }
 {
     if let Some(rest) = word(Keyword::Default, tokens) {
@@ -101,20 +83,4 @@ fn value_action_phrase(alloc: Global, tokens: Tokens<'_>) -> Result<(ValueDo, To
         return Ok((ValueDo::Default(value), rest));
     }
     meant::<ValueDo>(tokens).ok_or(Refusal::Syntax)
-}
-
-/// The action of JSON_VALUE for a cause.
-#[tactic(auto, unfolding(sj_sql_grammar::specs::Phrases::value_clause_at))]
-pub fn value_clause(
-    alloc: Global,
-    on: Keyword,
-    tokens: Tokens<'_>,
-) -> Result<(ValueDo, Tokens<'_>), Refusal>
-    ensures { Gives (λ x. (x.0, x.1.now)) result (phrase.value_clause_at on tokens.now) }
-{
-    let (action, rest) = value_action_phrase(alloc, tokens)?;
-    let Some(rest) = cause(on, rest) else {
-        return Err(Refusal::Syntax);
-    };
-    Ok((action, rest))
 }

@@ -7,15 +7,17 @@ ghost use Rattle.sj_sql_grammar.specs.Reading as reading;
 ghost use Rattle.sj_sql_grammar.specs.declared.clauses.ValueDo.TheVariants as on_value;
 ghost use Rattle.sj_sql.specs.Gives.{Gives};
 
-use crate::literal::{path_name, value_clause};
+use crate::literal::value_action_phrase;
+use crate::phrase::cause;
 use crate::refusal::Refusal;
-use crate::single::{Tokens, passing, skip_name, word};
+use crate::single::{Tokens, name, passing, skip_name, word};
 use sj_base::Text;
 use sj_sql_grammar::ValueDo;
 use sj_sql_token::Keyword;
 use std::alloc::Global;
 
 /// The action of JSON_VALUE for a cause: NULL, unless a clause says another.
+#[tactic(auto, unfolding(sj_sql_grammar::specs::Phrases::value_clause_at))]
 pub fn value_action(
     alloc: Global,
     on: Keyword,
@@ -23,22 +25,35 @@ pub fn value_action(
 ) -> Result<(ValueDo, Tokens<'_>), Refusal>
     ensures { Gives (λ x. (x.0, x.1.now)) result (reading.optional (phrase.value_clause_at on) on_value.Null tokens.now) }
 {
-    match value_clause(alloc, on, tokens) {
-        Ok(read) => Ok(read),
+    match value_action_phrase(alloc, tokens) {
+        Ok(read) => {
+            let (action, rest) = read;
+            match cause(on, rest) {
+                Some(rest) => Ok((action, rest)),
+                None => Ok((ValueDo::Null, tokens)),
+            }
+        }
         Err(Refusal::Syntax) => Ok((ValueDo::Null, tokens)),
         Err(Refusal::Memory) => Err(Refusal::Memory),
     }
 }
 
 /// The name of a path, if it has one.
+#[tactic(auto, unfolding(sj_sql_grammar::specs::Phrases::path_name_at, sj_sql_grammar::specs::Phrases::alias_at))]
 pub fn name_of_path(
     alloc: Global,
     tokens: Tokens<'_>,
 ) -> Result<(Option<Text>, Tokens<'_>), Refusal>
     ensures { Gives (λ x. (x.0, x.1.now)) result (reading.optional phrase.path_name_at None tokens.now) }
 {
-    match path_name(alloc, tokens) {
-        Ok(read) => Ok(read),
+    let Some(rest) = word(Keyword::As, tokens) else {
+        return Ok((None, tokens));
+    };
+    match name(alloc, rest) {
+        Ok(read) => {
+            let (name, rest) = read;
+            Ok((Some(name), rest))
+        }
         Err(Refusal::Syntax) => Ok((None, tokens)),
         Err(Refusal::Memory) => Err(Refusal::Memory),
     }

@@ -55,7 +55,9 @@ impl<F: Fn(Global, usize, Tokens<'_>) -> Result<(NamedPlan, Tokens<'_>), Refusal
         ensures { Gives (λ x. (plan_of x.0, x.1.now)) result (reading.plan_parens_at (reading.plan_expr_at self.now.depth) tokens.now) }
     {
         let (plan, rest) = self.inner(tokens)?;
-        let rest = close(rest).ok_or(Refusal::Syntax)?;
+        let Some(rest) = close(rest) else {
+            return Err(Refusal::Syntax);
+        };
         Ok((plan, rest))
     }
 
@@ -132,7 +134,9 @@ impl<F: Fn(Global, usize, Tokens<'_>) -> Result<(NamedPlan, Tokens<'_>), Refusal
             let (other, rest) = self.operand(rest)?;
             return self.union(union_of(self.alloc, first, other)?, rest);
         }
-        let rest = word(Keyword::Cross, tokens).ok_or(Refusal::Syntax)?;
+        let Some(rest) = word(Keyword::Cross, tokens) else {
+            return Err(Refusal::Syntax);
+        };
         let (other, rest) = self.operand(rest)?;
         self.cross(cross_of(self.alloc, first, other)?, rest)
     }
@@ -163,11 +167,13 @@ impl<F: Fn(Global, usize, Tokens<'_>) -> Result<(NamedPlan, Tokens<'_>), Refusal
     {
         if let Some(rest) = word(Keyword::Outer, tokens) {
             let (below, rest) = self.operand(rest)?;
-            return Ok((NamedPlan::Outer(name, Box::new(self.alloc, below)?), rest));
+            let below = Box::new(self.alloc, below)?;
+            return Ok((NamedPlan::Outer(name, below), rest));
         }
         if let Some(rest) = word(Keyword::Inner, tokens) {
             let (below, rest) = self.operand(rest)?;
-            return Ok((NamedPlan::Inner(name, Box::new(self.alloc, below)?), rest));
+            let below = Box::new(self.alloc, below)?;
+            return Ok((NamedPlan::Inner(name, below), rest));
         }
         self.joined_or_lone(name, tokens)
     }
@@ -253,9 +259,13 @@ fn default_clause(tokens: Tokens<'_>) -> Option<(PlanTree, Tokens<'_>)>
 fn named_clause(alloc: Global, tokens: Tokens<'_>) -> Result<(PlanTree, Tokens<'_>), Refusal>
     ensures { Gives (λ x. (plan_tree_of x.0, x.1.now)) result (plans.named_clause tokens.now) }
 {
-    let rest = open(tokens).ok_or(Refusal::Syntax)?;
+    let Some(rest) = open(tokens) else {
+        return Err(Refusal::Syntax);
+    };
     let (plan, rest) = named_plan(alloc, rest.len() + 1, rest)?;
-    let rest = close(rest).ok_or(Refusal::Syntax)?;
+    let Some(rest) = close(rest) else {
+        return Err(Refusal::Syntax);
+    };
     if has_few_operators(&plan) {
         Ok((PlanTree::Named(plan), rest))
     } else {

@@ -4,16 +4,13 @@ ghost use Rattle.std.specs.Prelude.{◌≡◌};
 ghost use Rattle.sj_sql.specs.declared.refusal.Refusal.TheVariants.{Memory};
 
 use std::alloc::{AllocError, AllocFailed};
-use thiserror::Error;
 
 /// Why tokens were not read.
-#[derive(Debug, Drop, Error)]
+#[derive(Drop)]
 pub enum Refusal {
     /// No tree begins there.
-    #[error("syntax error")]
     Syntax,
     /// Memory ran out.
-    #[error("out of memory")]
     Memory,
 }
 

@@ -58,7 +58,9 @@ fn ended(
 fn all(alloc: Global, faults: Faults, tokens: Tokens<'_>) -> Result<(Statement, Faults), Refusal>
     ensures { Gives (λ x. (statement_of x.0, faults_of x.1)) result (reading.all_at parsing (faults_of faults) tokens.now) }
 {
-    let rest = word(Keyword::From, tokens).ok_or(Refusal::Syntax)?;
+    let Some(rest) = word(Keyword::From, tokens) else {
+        return Err(Refusal::Syntax);
+    };
     let (table, faults, rest) = table(alloc, faults, rest)?;
     ended(Statement::All(table), faults, rest)
 }
@@ -69,7 +71,9 @@ fn listed(alloc: Global, faults: Faults, tokens: Tokens<'_>) -> Result<(Statemen
     ensures { Gives (λ x. (statement_of x.0, faults_of x.1)) result (reading.listed_at parsing (faults_of faults) tokens.now) }
 {
     let (items, faults, rest) = listed_items(alloc, faults, tokens)?;
-    let rest = word(Keyword::From, rest).ok_or(Refusal::Syntax)?;
+    let Some(rest) = word(Keyword::From, rest) else {
+        return Err(Refusal::Syntax);
+    };
     let (table, faults, rest) = table(alloc, faults, rest)?;
     ended(Statement::Listed(items, table), faults, rest)
 }
@@ -90,7 +94,9 @@ fn plain(alloc: Global, faults: Faults, tokens: Tokens<'_>) -> Result<(Statement
 pub fn select(alloc: Global, tokens: Tokens<'_>) -> Result<(Statement, Faults), Refusal>
     ensures { Gives (λ x. (statement_of x.0, faults_of x.1)) result (reading.select_at parsing nothing_noted tokens.now) }
 {
-    let rest = word(Keyword::Select, tokens).ok_or(Refusal::Syntax)?;
+    let Some(rest) = word(Keyword::Select, tokens) else {
+        return Err(Refusal::Syntax);
+    };
     if let Some(rest) = star(rest) {
         return all(alloc, Faults::none(), rest);
     }

@@ -44,9 +44,8 @@ pub fn word(wanted: Keyword, tokens: Tokens<'_>) -> Option<Tokens<'_>>
 pub fn open(tokens: Tokens<'_>) -> Option<Tokens<'_>>
     ensures { option_copied result ≡ phrase.open_at tokens.now }
 {
-    let (token, rest) = tokens.split_first()?;
-    match token {
-        Token::Open => Some(rest),
+    match tokens {
+        [Token::Open, rest @ ..] => Some(rest),
         _ => None,
     }
 }
@@ -55,9 +54,8 @@ pub fn open(tokens: Tokens<'_>) -> Option<Tokens<'_>>
 pub fn close(tokens: Tokens<'_>) -> Option<Tokens<'_>>
     ensures { option_copied result ≡ phrase.close_at tokens.now }
 {
-    let (token, rest) = tokens.split_first()?;
-    match token {
-        Token::Close => Some(rest),
+    match tokens {
+        [Token::Close, rest @ ..] => Some(rest),
         _ => None,
     }
 }
@@ -66,9 +64,8 @@ pub fn close(tokens: Tokens<'_>) -> Option<Tokens<'_>>
 pub fn comma(tokens: Tokens<'_>) -> Option<Tokens<'_>>
     ensures { option_copied result ≡ phrase.comma_at tokens.now }
 {
-    let (token, rest) = tokens.split_first()?;
-    match token {
-        Token::Comma => Some(rest),
+    match tokens {
+        [Token::Comma, rest @ ..] => Some(rest),
         _ => None,
     }
 }
@@ -77,9 +74,8 @@ pub fn comma(tokens: Tokens<'_>) -> Option<Tokens<'_>>
 pub fn colon(tokens: Tokens<'_>) -> Option<Tokens<'_>>
     ensures { option_copied result ≡ phrase.colon_at tokens.now }
 {
-    let (token, rest) = tokens.split_first()?;
-    match token {
-        Token::Colon => Some(rest),
+    match tokens {
+        [Token::Colon, rest @ ..] => Some(rest),
         _ => None,
     }
 }
@@ -88,9 +84,8 @@ pub fn colon(tokens: Tokens<'_>) -> Option<Tokens<'_>>
 pub fn star(tokens: Tokens<'_>) -> Option<Tokens<'_>>
     ensures { option_copied result ≡ phrase.star_at tokens.now }
 {
-    let (token, rest) = tokens.split_first()?;
-    match token {
-        Token::Star => Some(rest),
+    match tokens {
+        [Token::Star, rest @ ..] => Some(rest),
         _ => None,
     }
 }

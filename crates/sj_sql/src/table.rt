@@ -29,13 +29,19 @@ pub fn table(
 ) -> Result<(Table, Faults, Tokens<'_>), Refusal>
     ensures { Gives (λ x. (table_of x.0, faults_of x.1, x.2.now)) result (reading.table_at parsing (faults_of faults) tokens.now) }
 {
-    let rest = word(Keyword::JsonTable, tokens).ok_or(Refusal::Syntax)?;
-    let rest = open(rest).ok_or(Refusal::Syntax)?;
+    let Some(rest) = word(Keyword::JsonTable, tokens) else {
+        return Err(Refusal::Syntax);
+    };
+    let Some(rest) = open(rest) else {
+        return Err(Refusal::Syntax);
+    };
     let ((common, name), faults, rest) = row_path(alloc, faults, rest)?;
     let (columns, faults, rest) = columns(alloc, rest.len() + 1, faults, rest)?;
     let (plan, rest) = plan(alloc, rest)?;
     let (on_error, rest) = table_clause(rest).unwrap_or((TableAction::Empty, rest));
-    let rest = close(rest).ok_or(Refusal::Syntax)?;
+    let Some(rest) = close(rest) else {
+        return Err(Refusal::Syntax);
+    };
     let table = Table {
         common,
         name,

@@ -102,32 +102,14 @@ impl<
     {
         let (key, faults, rest) = self.inner(faults, tokens)?;
         let key = Box::new(self.alloc, key)?;
-        let rest = word(Keyword::Value, rest).ok_or(Refusal::Syntax)?;
-        self.member_value(key, faults, rest)
-    }
-
-    /// A member without KEY.
-    #[tactic(auto, unfolding(sj_sql_grammar::specs::Reading::valued_at))]
-    fn valued<'a>(
-        &self,
-        faults: Faults,
-        tokens: Tokens<'a>,
-    ) -> Result<(Member<V>, Faults, Tokens<'a>), Refusal>
-        requires { Nests V.value_of V.source self.now.depth (F.pre self.now.inner) (F.post self.now.inner) }
-        ensures { Gives (λ x. (member_of V.value_of x.0, faults_of x.1, x.2.now)) result
-            (reading.valued_at parsing (reading.value_at parsing V.source self.now.depth) (faults_of faults) tokens.now) }
-    {
-        let (key, faults, rest) = self.inner(faults, tokens)?;
-        let key = Box::new(self.alloc, key)?;
-        if let Some(rest) = word(Keyword::Value, rest) {
-            return self.member_value(key, faults, rest);
-        }
-        let rest = colon(rest).ok_or(Refusal::Syntax)?;
+        let Some(rest) = word(Keyword::Value, rest) else {
+            return Err(Refusal::Syntax);
+        };
         self.member_value(key, faults, rest)
     }
 
     /// A member, of a key and a value.
-    #[tactic(auto, unfolding(sj_sql_grammar::specs::Reading::member_at))]
+    #[tactic(auto, unfolding(sj_sql_grammar::specs::Reading::member_at, sj_sql_grammar::specs::Reading::valued_at))]
     pub fn member<'a>(
         &self,
         faults: Faults,
@@ -137,10 +119,18 @@ impl<
         ensures { Gives (λ x. (member_of V.value_of x.0, faults_of x.1, x.2.now)) result
             (reading.member_at parsing (reading.value_at parsing V.source self.now.depth) (faults_of faults) tokens.now) }
     {
-        match word(Keyword::Key, tokens) {
-            Some(rest) => self.keyed(faults, rest),
-            None => self.valued(faults, tokens),
+        if let Some(rest) = word(Keyword::Key, tokens) {
+            return self.keyed(faults, rest);
         }
+        let (key, faults, rest) = self.inner(faults, tokens)?;
+        let key = Box::new(self.alloc, key)?;
+        if let Some(rest) = word(Keyword::Value, rest) {
+            return self.member_value(key, faults, rest);
+        }
+        let Some(rest) = colon(rest) else {
+            return Err(Refusal::Syntax);
+        };
+        self.member_value(key, faults, rest)
     }
 
     /// Members with commas between them.
@@ -170,25 +160,8 @@ impl<
         Err(Refusal::Syntax)
     }
 
-    #[tactic(auto, unfolding(sj_sql_grammar::specs::Reading::members_to_end))]
-    fn members_to_end<'a>(
-        &self,
-        faults: Faults,
-        tokens: Tokens<'a>,
-    ) -> Result<(V, Faults, Tokens<'a>), Refusal>
-        requires { Nests V.value_of V.source self.now.depth (F.pre self.now.inner) (F.post self.now.inner) }
-        ensures { Gives (λ x. (V.value_of x.0, faults_of x.1, x.2.now)) result
-            (reading.members_to_end parsing (reading.value_at parsing V.source self.now.depth) (faults_of faults) tokens.now) }
-    {
-        let (members, faults, rest) = self.members(faults, tokens)?;
-        let (nulls, rest) = nulls_clause(rest).unwrap_or((Nulls::Null, rest));
-        let (unique, rest) = unique_clause(rest).unwrap_or((false, rest));
-        let rest = close(rest).ok_or(Refusal::Syntax)?;
-        Ok((V::object(members, nulls, unique), faults, rest))
-    }
-
     /// JSON_OBJECT, behind its word.
-    #[tactic(auto, unfolding(sj_sql_grammar::specs::Reading::object_from))]
+    #[tactic(auto, unfolding(sj_sql_grammar::specs::Reading::object_from, sj_sql_grammar::specs::Reading::members_to_end))]
     fn object<'a>(
         &self,
         faults: Faults,
@@ -198,32 +171,24 @@ impl<
         ensures { Gives (λ x. (V.value_of x.0, faults_of x.1, x.2.now)) result
             (reading.object_from parsing (reading.value_at parsing V.source self.now.depth) (faults_of faults) tokens.now) }
     {
-        let rest = open(tokens).ok_or(Refusal::Syntax)?;
+        let Some(rest) = open(tokens) else {
+            return Err(Refusal::Syntax);
+        };
         if let Some(rest) = close(rest) {
             let none = V::object(V::no_members(), Nulls::Null, false);
             return Ok((none, faults, rest));
         }
-        self.members_to_end(faults, rest)
-    }
-
-    #[tactic(auto, unfolding(sj_sql_grammar::specs::Reading::values_to_end))]
-    fn values_to_end<'a>(
-        &self,
-        faults: Faults,
-        tokens: Tokens<'a>,
-    ) -> Result<(V, Faults, Tokens<'a>), Refusal>
-        requires { Nests V.value_of V.source self.now.depth (F.pre self.now.inner) (F.post self.now.inner) }
-        ensures { Gives (λ x. (V.value_of x.0, faults_of x.1, x.2.now)) result
-            (reading.values_to_end parsing (reading.value_at parsing V.source self.now.depth) (faults_of faults) tokens.now) }
-    {
-        let (values, faults, rest) = self.values(faults, tokens)?;
-        let (nulls, rest) = nulls_clause(rest).unwrap_or((Nulls::Absent, rest));
-        let rest = close(rest).ok_or(Refusal::Syntax)?;
-        Ok((V::array(values, nulls), faults, rest))
+        let (members, faults, rest) = self.members(faults, rest)?;
+        let (nulls, rest) = nulls_clause(rest).unwrap_or((Nulls::Null, rest));
+        let (unique, rest) = unique_clause(rest).unwrap_or((false, rest));
+        let Some(rest) = close(rest) else {
+            return Err(Refusal::Syntax);
+        };
+        Ok((V::object(members, nulls, unique), faults, rest))
     }
 
     /// JSON_ARRAY, behind its word.
-    #[tactic(auto, unfolding(sj_sql_grammar::specs::Reading::array_from))]
+    #[tactic(auto, unfolding(sj_sql_grammar::specs::Reading::array_from, sj_sql_grammar::specs::Reading::values_to_end))]
     fn array<'a>(
         &self,
         faults: Faults,
@@ -233,12 +198,19 @@ impl<
         ensures { Gives (λ x. (V.value_of x.0, faults_of x.1, x.2.now)) result
             (reading.array_from parsing (reading.value_at parsing V.source self.now.depth) (faults_of faults) tokens.now) }
     {
-        let rest = open(tokens).ok_or(Refusal::Syntax)?;
+        let Some(rest) = open(tokens) else {
+            return Err(Refusal::Syntax);
+        };
         if let Some(rest) = close(rest) {
             let none = V::array(V::no_values(), Nulls::Absent);
             return Ok((none, faults, rest));
         }
-        self.values_to_end(faults, rest)
+        let (values, faults, rest) = self.values(faults, rest)?;
+        let (nulls, rest) = nulls_clause(rest).unwrap_or((Nulls::Absent, rest));
+        let Some(rest) = close(rest) else {
+            return Err(Refusal::Syntax);
+        };
+        Ok((V::array(values, nulls), faults, rest))
     }
 
     /// A value, with the values of a constructor by the function inside.
