@@ -1,8 +1,8 @@
-//! Statements whose names are resolved: each column by its number, each default cast to its type, and the plan of a table
-//! over the numbers of its paths.
+//! The rules that a statement keeps beside its grammar, and what it is bound to: names become numbers, and each default is cast to
+//! its type.
 //!
-//! It stands on the trees of sj_sql. Contracts see a bound statement as its `bound_of` in `specs/View.antt`, in which there are
-//! no pointers, and lists in place of sequences and linked cells.
+//! It stands on the trees of sj_sql_tree and makes the bound statements of sj_bound, by whose `bound_of` contracts see them. `bind`
+//! accepts exactly the statements that break no rule, and names the first rule that another one breaks.
 #![tactic(auto)]
 
 mod binding;

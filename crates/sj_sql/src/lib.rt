@@ -1,7 +1,7 @@
-//! Statements as trees (ISO/IEC 9075-2, SQL/JSON).
+//! The parser of statements (ISO/IEC 9075-2, SQL/JSON), and the reading of a file of them.
 //!
-//! It stands on the definitions of sj_sql_grammar and the paths of sj_path. Contracts see a statement as a tree of sj_sql_grammar,
-//! by `statement_of` in `specs/View.antt`, with lists in place of sequences and linked cells, and without pointers.
+//! It stands on the definitions of sj_sql_grammar, the parser of sj_path and the trees of sj_sql_tree, whose public names it passes
+//! on. Contracts see a statement as a tree of sj_sql_grammar, by `statement_of` of sj_sql_tree.
 #![tactic(auto)]
 
 mod answer;
