@@ -10,7 +10,7 @@ use crate::{Failed, Shelf, Text};
 use std::marker::Model;
 
 /// A shelf of one file in memory. It fails at the calls that a list names and at names that are not its file's, and at
-/// no other. Calls of both kinds are counted together.
+/// no other. Calls of both kinds are counted together. It is for tests and for hosts.
 #[derive(Drop)]
 pub struct MemShelf {
     name: Text,
@@ -103,7 +103,8 @@ impl Shelf for MemShelf {
     }
 }
 
-/// A shelf of one file in memory that fails at names that are not its file's, and at nothing else.
+/// A shelf of one file in memory that fails at names that are not its file's, and at nothing else. It is for tests and
+/// for hosts: the program opens real files.
 #[derive(Drop)]
 pub struct QuietShelf {
     name: Text,

@@ -11,7 +11,7 @@ use std::alloc::Global;
 use std::marker::Model;
 
 /// A sink of a fixed room in memory. It fails at the calls that a list names and where no room is left, and at no
-/// other.
+/// other. It is for tests and for hosts.
 #[derive(Drop)]
 pub struct MemSink {
     bytes: Vec<u8>,
@@ -94,7 +94,8 @@ impl Sink for MemSink {
     }
 }
 
-/// A sink that counts the bytes it takes, and keeps none of them. It never fails.
+/// A sink that counts the bytes it takes, and keeps none of them. It never fails. It is for tests and for hosts: the
+/// program writes to standard output and standard error.
 #[derive(Drop)]
 pub struct CountSink {
     number: u64,

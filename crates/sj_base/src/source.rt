@@ -9,7 +9,7 @@ use crate::{Failed, Source};
 use std::marker::Model;
 
 /// A source over bytes in memory, which fails at the calls that a list names and at no other,
-/// and whose calls can be cut short.
+/// and whose calls can be cut short. It is for tests and for hosts.
 #[derive(Drop)]
 pub struct MemSource {
     bytes: Vec<u8>,
@@ -81,7 +81,7 @@ impl Source for MemSource {
     }
 }
 
-/// A source over bytes in memory that never fails.
+/// A source over bytes in memory that never fails. It is for tests and for hosts: the program reads standard input.
 #[derive(Drop)]
 pub struct QuietSource {
     bytes: Vec<u8>,

@@ -33,6 +33,8 @@ impl Bound {
     ghost use Rattle.sj_bound.specs.View.{bound_of};
 
     /// How many fields a row has: as many as the SELECT list has items, where each column is counted in the place of `*`.
+    ///
+    /// The program does not call this; its tests do, and a host may.
     pub fn width(&self) -> u32
         ensures { result ≡ length (bound_of self.now).items }
     {

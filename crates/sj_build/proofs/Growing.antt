@@ -6,10 +6,11 @@ use Rattle.std.proofs.lemmas.List.Elements.{filter-append}
 use Rattle.std.proofs.lemmas.Grind.{flat_map-append}
 use Rattle.std.specs.List.{filter, flat_map}
 use Rattle.sj_build.specs.Constructors.{joined}
-use Rattle.sj_build.specs.Growing.{place_behind, lead, opening, opened}
+use Rattle.sj_text.specs.Rendering.{comma}
+use Rattle.sj_build.specs.Growing.{place_behind, opening, opened}
 use Rattle.sj_build.specs.Held.{so_far}
-use Rattle.sj_build.specs.declared.place.Place.{Place}
-use Rattle.sj_build.specs.declared.place.Place.TheVariants.{Later}
+use Rattle.sj_text.specs.declared.place.Place.{Place}
+use Rattle.sj_text.specs.declared.place.Place.TheVariants.{Later}
 
 -- one text more stands behind a comma, unless it is the first
 joined-push : {X : Type 0} (text : X → List ℕ) (xs : List X) (x : X) → joined text (xs ++ x ∷ []) ≡ joined text xs ++ (lead (place_behind xs) ++ text x)
@@ -56,33 +57,33 @@ module _ {X : Type 0} (text : X → List ℕ) (keep : X → Bool) (first last : 
 
   -- the text of the elements grows
   pub open_kept : (xs : List X) (x : X) (place : Place) → keep x ≡ true → place ≡ place_behind (filter keep xs)
-      → joined text (filter keep (xs ++ x ∷ [])) ≡ joined text (filter keep xs) ++ (lead place ++ text x)
+      → joined text (filter keep (xs ++ x ∷ [])) ≡ joined text (filter keep xs) ++ (comma place ++ text x)
   open_kept xs x place k p =
       ap (joined text) (kept_more xs x k)
       ∙ joined-push text (filter keep xs) x
-      ∙ ap (λ p. joined text (filter keep xs) ++ (lead p ++ text x)) (sym p)
+      ∙ ap (λ p. joined text (filter keep xs) ++ (comma p ++ text x)) (sym p)
 
   -- and so does that between brackets
   grown : (xs : List X) (x : X) (place : Place) → keep x ≡ true → place ≡ place_behind (filter keep xs)
-      → (first ∷ joined text (filter keep xs)) ++ (lead place ++ (text x ++ last ∷ [])) ≡ whole (xs ++ x ∷ [])
+      → (first ∷ joined text (filter keep xs)) ++ (comma place ++ (text x ++ last ∷ [])) ≡ whole (xs ++ x ∷ [])
   grown xs x place k p =
-      ap (λ l. first ∷ l) (ap (λ l. joined text (filter keep xs) ++ l) (sym (append_assoc (lead place) (text x) (last ∷ [])))
-      ∙ sym (append_assoc (joined text (filter keep xs)) (lead place ++ text x) (last ∷ []))
+      ap (λ l. first ∷ l) (ap (λ l. joined text (filter keep xs) ++ l) (sym (append_assoc (comma place) (text x) (last ∷ [])))
+      ∙ sym (append_assoc (joined text (filter keep xs)) (comma place ++ text x) (last ∷ []))
       ∙ ap (λ l. l ++ last ∷ []) (sym (open_kept xs x place k p)))
 
   -- The text that a call leaves behind one element more, which was appended with what is missing.
   pub text_kept : (xs : List X) (x : X) (place : Place) (end : ℕ) (old new after : List ℕ) → keep x ≡ true → old ≡ so_far whole xs → place ≡ place_behind (filter keep xs)
-      → end ≡ length old → new ≡ old ++ (opening (first ∷ []) old ++ (lead place ++ (text x ++ last ∷ []))) → after ≡ take (end - 1) new ++ drop end new
+      → end ≡ length old → new ≡ old ++ (opening (first ∷ []) old ++ (comma place ++ (text x ++ last ∷ []))) → after ≡ take (end - 1) new ++ drop end new
       → after ≡ so_far whole (xs ++ x ∷ [])
   text_kept [] x place end old new after k o p e n a =
       a
       ∙ ap (λ i. take (i - 1) new ++ drop i new) (e ∙ ap length o)
       ∙ n
-      ∙ ap (λ l. l ++ (opening (first ∷ []) l ++ (lead place ++ (text x ++ last ∷ [])))) o
+      ∙ ap (λ l. l ++ (opening (first ∷ []) l ++ (comma place ++ (text x ++ last ∷ [])))) o
       ∙ grown [] x place k p
   text_kept (y ∷ xs) x place end old new after k o p e n a =
-      without_bracket (first ∷ joined text (filter keep (y ∷ xs))) (lead place ++ (text x ++ last ∷ [])) last end new after (e ∙ ap length o)
-      (n ∙ ap (λ l. l ++ (opening (first ∷ []) l ++ (lead place ++ (text x ++ last ∷ [])))) o) a
+      without_bracket (first ∷ joined text (filter keep (y ∷ xs))) (comma place ++ (text x ++ last ∷ [])) last end new after (e ∙ ap length o)
+      (n ∙ ap (λ l. l ++ (opening (first ∷ []) l ++ (comma place ++ (text x ++ last ∷ [])))) o) a
       ∙ grown (y ∷ xs) x place k p
 
   -- the same where it is dropped

@@ -5,10 +5,10 @@ use Rattle.std.proofs.lemmas.List.{take-append-drop}
 use Rattle.sj_base.specs.Names.{is_among}
 use Rattle.sj_value.specs.declared.clauses.Nulls.{Nulls}
 use Rattle.sj_build.specs.declared.field.Field.{Field}
-use Rattle.sj_build.specs.declared.place.Place.{Place}
-use Rattle.sj_build.specs.declared.place.Place.TheVariants.{Later}
+use Rattle.sj_text.specs.declared.place.Place.{Place}
+use Rattle.sj_text.specs.declared.place.Place.TheVariants.{Later}
 use Rattle.sj_build.specs.Constructors.{is_kept, kept_key, kept_fields, joined, pair_text, member_text}
-use Rattle.sj_build.specs.Growing.{lead}
+use Rattle.sj_text.specs.Rendering.{comma}
 use Rattle.sj_build.specs.Held.{AreTaken}
 use Rattle.sj_build.specs.Keys.{noted}
 use Rattle.sj_build.proofs.Growing.{open_kept, dropped_more}
@@ -33,12 +33,12 @@ module _ (choice : Nulls) (unique : Bool) (fields : List Field) (text : List ℕ
   )
 
   pub open_more : (key leading later : List ℕ) (after : List (List ℕ)) → kept_key choice field ≡ Ok (Some key) → (unique && is_among keys key) ≡ false → after ≡ noted unique keys key
-      → leading ≡ text ++ lead place → later ≡ leading ++ pair_text key field.value → IsOpen choice unique (fields ++ field ∷ []) later Later after
+      → leading ≡ text ++ comma place → later ≡ leading ++ pair_text key field.value → IsOpen choice unique (fields ++ field ∷ []) later Later after
   open_more key leading later after k r n h g = (
     g
-        ∙ ap (λ l. l ++ pair_text key field.value) (h ∙ ap (λ l. l ++ lead place) o.0)
-        ∙ append_assoc (123 ∷ joined member_text (kept_fields choice fields)) (lead place) (pair_text key field.value)
-        ∙ ap (λ k. (123 ∷ joined member_text (kept_fields choice fields)) ++ (lead place ++ pair_text k field.value)) (sym (has_key choice field key k).1)
+        ∙ ap (λ l. l ++ pair_text key field.value) (h ∙ ap (λ l. l ++ comma place) o.0)
+        ∙ append_assoc (123 ∷ joined member_text (kept_fields choice fields)) (comma place) (pair_text key field.value)
+        ∙ ap (λ k. (123 ∷ joined member_text (kept_fields choice fields)) ++ (comma place ++ pair_text k field.value)) (sym (has_key choice field key k).1)
         ∙ ap (λ l. 123 ∷ l) (sym (open_kept member_text (λ f. is_kept choice f.value) 123 125 fields field place (has_key choice field key k).0 o.1.stands)),
     takes_kept choice unique fields place keys o.1 field key after k r n,
   )

@@ -11,8 +11,8 @@ use Rattle.sj_build.specs.Answers.{RefusesAs, RefusesNull, RefusesRepeated}
 use Rattle.sj_build.specs.declared.refusal.BuildRefusal.{BuildRefusal}
 use Rattle.sj_build.specs.declared.refusal.BuildRefusal.TheVariants as refused
 use Rattle.sj_build.specs.declared.field.Field.{Field}
-use Rattle.sj_build.specs.declared.place.Place.{Place}
-use Rattle.sj_build.specs.declared.place.Place.TheVariants.{Later}
+use Rattle.sj_text.specs.declared.place.Place.{Place}
+use Rattle.sj_text.specs.declared.place.Place.TheVariants.{Later}
 use Rattle.sj_build.specs.Constructors.{text_of, or_empty, key_text, is_kept, kept_fields, key_kept, kept_key, key_refusal, refusal, first_of, first_refusal, unless_refused, member_text}
 use Rattle.sj_build.specs.Growing.{place_behind}
 use Rattle.sj_build.specs.Held.{AreTaken}

@@ -1,17 +1,12 @@
 -- Texts that grow by one element after another.
 use Rattle.std.specs.Prelude.{◌≡◌, ℕ, List, [], ◌∷◌, ◌++◌, codes}
-use Rattle.sj_build.specs.declared.place.Place.{Place}
-use Rattle.sj_build.specs.declared.place.Place.TheVariants.{First, Later}
+use Rattle.sj_text.specs.declared.place.Place.{Place}
+use Rattle.sj_text.specs.declared.place.Place.TheVariants.{First, Later}
 
 -- the place behind these elements
 abbrev pub place_behind : {X : Type 0} → List X → Place
 place_behind [] = First
 place_behind (x ∷ xs) = Later
-
--- what stands before an element
-abbrev pub lead : Place → List ℕ
-lead First = []
-lead Later = codes ","
 
 -- the opening bracket, where there is no text yet
 abbrev pub opening : List ℕ → List ℕ → List ℕ

@@ -3,7 +3,7 @@ use Rattle.std.specs.Prelude.{◌≡◌, ℕ, List, [], ◌∷◌, map, Bool, if
 use Rattle.sj_value.specs.declared.clauses.Nulls.{Nulls}
 use Rattle.sj_value.specs.declared.value.SqlValue.{SqlValue}
 use Rattle.sj_build.specs.declared.field.Field.{Field}
-use Rattle.sj_build.specs.declared.place.Place.{Place}
+use Rattle.sj_text.specs.declared.place.Place.{Place}
 use Rattle.sj_build.specs.Growing.{place_behind}
 use Rattle.sj_build.specs.Constructors.{kept_values, array_text, kept_fields, key_text, object_text, first_refusal}
 

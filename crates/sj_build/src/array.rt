@@ -4,8 +4,8 @@ ghost use Rattle.sj_value.specs.Values.{IsPrintable};
 ghost use Rattle.sj_build.specs.Constructors.{array_value};
 
 use crate::element::{is_kept, lead, value_text};
-use crate::place::Place;
 use sj_base::{Bytes, Memory};
+use sj_text::Place;
 use sj_value::{Nulls, SqlValue};
 use std::alloc::Global;
 

@@ -3,12 +3,12 @@ ghost use Rattle.std.specs.Prelude.{◌≡◌, ◌++◌, ◌∷◌, [], List, �
 ghost use Rattle.sj_value.specs.Values.{IsPrintable};
 ghost use Rattle.sj_value.specs.declared.value.SqlValue.{SqlValue};
 ghost use Rattle.sj_build.specs.Constructors as spec;
-ghost use Rattle.sj_build.specs.Growing as growing;
+ghost use Rattle.sj_text.specs.Rendering.{comma};
 ghost use Rattle.sj_build.specs.Growing.{opening, opened, Extends};
 
 use crate::element::{is_kept, lead, take_bracket, value_text};
-use crate::place::Place;
 use sj_base::{Bytes, Memory};
+use sj_text::Place;
 use sj_value::{Nulls, SqlValue};
 use std::alloc::Global;
 use std::marker::Model;
@@ -100,7 +100,7 @@ fn open(text: &mut Bytes) -> Result<(), Memory>
 // Appends what is missing for one element more: the opening bracket where there is no text, what stands before the
 // element, the element and a closing bracket. The one that closed the text so far is left for `take_bracket`.
 fn append(text: &mut Bytes, place: Place, value: &SqlValue) -> Result<(), Memory>
-    ensures ok { OnOk result (text.new ≡ text.old ++ (opening (codes "[") text.old ++ (growing.lead place ++ (spec.value_text value.now ++ codes "]")))) }
+    ensures ok { OnOk result (text.new ≡ text.old ++ (opening (codes "[") text.old ++ (comma place ++ (spec.value_text value.now ++ codes "]")))) }
     ensures err { OnErr result (Extends text.old text.new) }
 {
     if text.is_empty() {

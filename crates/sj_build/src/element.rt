@@ -3,14 +3,13 @@ ghost use Rattle.std.specs.Prelude.{◌≡◌, ◌++◌, ◌≤◌, ◌-◌, len
 ghost use Rattle.sj_build.specs.Constructors as spec;
 ghost use Rattle.sj_build.specs.Constructors.{pair_text};
 ghost use Rattle.sj_build.specs.Answers.{RefusesNull};
-ghost use Rattle.sj_build.specs.Growing as growing;
+ghost use Rattle.sj_text.specs.Rendering.{comma};
 ghost use Rattle.sj_build.specs.Growing.{Extends};
 
 use crate::field::Field;
-use crate::place::Place;
 use crate::refusal::BuildRefusal;
 use sj_base::{Bytes, Memory, State};
-use sj_text::string_text;
+use sj_text::{Place, string_text};
 use sj_value::{Nulls, SqlValue};
 
 // Whether a value is kept: ABSENT ON NULL drops a NULL.
@@ -40,7 +39,7 @@ pub(crate) fn kept_key(field: &Field, nulls: Nulls) -> Result<Option<&str>, Buil
 
 // Appends what stands before an element.
 pub(crate) fn lead(text: &mut Bytes, place: Place) -> Result<(), Memory>
-    ensures ok { OnOk result (text.new ≡ text.old ++ growing.lead place) }
+    ensures ok { OnOk result (text.new ≡ text.old ++ comma place) }
     ensures err { OnErr result (text.new ≡ text.old) }
 {
     match place {

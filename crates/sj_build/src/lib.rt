@@ -18,7 +18,6 @@ mod field;
 mod keys;
 mod object;
 mod object_agg;
-mod place;
 mod refusal;
 
 pub use array::json_array;

@@ -7,10 +7,10 @@ ghost use Rattle.sj_build.specs.Constructors.{object_value};
 use crate::element::{kept_key, lead, member_text};
 use crate::field::Field;
 use crate::keys::{LentKeys, note_lent};
-use crate::place::Place;
 use crate::refusal::BuildRefusal;
 use indexmap::IndexSet;
 use sj_base::Bytes;
+use sj_text::Place;
 use sj_value::{Nulls, SqlValue};
 use std::alloc::Global;
 

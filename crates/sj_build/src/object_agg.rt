@@ -4,7 +4,7 @@ ghost use Rattle.sj_base.specs.Names.{is_among};
 ghost use Rattle.sj_value.specs.Values.{IsPrintable};
 ghost use Rattle.sj_build.specs.declared.field.Field.{Field};
 ghost use Rattle.sj_build.specs.Constructors.{pair_text};
-ghost use Rattle.sj_build.specs.Growing as growing;
+ghost use Rattle.sj_text.specs.Rendering.{comma};
 ghost use Rattle.sj_build.specs.Growing.{opening, opened, Extends};
 ghost use Rattle.sj_build.specs.Answers.{RefusesAs, RefusesRepeated};
 ghost use Rattle.sj_build.specs.Keys.{owned_keys, noted};
@@ -12,10 +12,10 @@ ghost use Rattle.sj_build.specs.Keys.{owned_keys, noted};
 use crate::element::{kept_key, lead, member_text, take_bracket};
 use crate::field::Field;
 use crate::keys::note_copy;
-use crate::place::Place;
 use crate::refusal::BuildRefusal;
 use indexmap::IndexSet;
 use sj_base::{Bytes, Memory};
+use sj_text::Place;
 use sj_value::{Nulls, SqlValue};
 use std::alloc::Global;
 use std::marker::Model;
@@ -162,7 +162,7 @@ fn append(
     key: &str,
     value: &SqlValue,
 ) -> Result<(), BuildRefusal>
-    ensures text { OnOk result (text.new ≡ text.old ++ (opening (codes "{") text.old ++ (growing.lead place ++ (pair_text key.now value.now ++ codes "}")))) }
+    ensures text { OnOk result (text.new ≡ text.old ++ (opening (codes "{") text.old ++ (comma place ++ (pair_text key.now value.now ++ codes "}")))) }
     ensures text_err { OnErr result (Extends text.old text.new) }
     ensures keys { OnOk result (owned_keys keys.new ≡ noted (is_some keys.old) (owned_keys keys.old) key.now) }
     ensures keys_err { OnErr result (owned_keys keys.new ≡ owned_keys keys.old) }

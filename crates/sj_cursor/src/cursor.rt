@@ -198,6 +198,8 @@ impl<'d> Cursor<'d> {
     }
 
     /// How many items the cursor's cells hold, with the root. It is at most three for each node of the path.
+    ///
+    /// The program does not call this; its tests do, and a host may.
     pub fn held(&self) -> u64
         ensures { result ≤ 3 * nodes (path_of self.now.path) }
     {

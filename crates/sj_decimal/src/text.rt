@@ -35,6 +35,7 @@ impl Decimal {
     }
 }
 
+/// The same as [`Decimal::text`]. The program writes that text itself; this is for messages of tests and of hosts.
 impl fmt::Display for Decimal {
     ghost output = { λ d. Some (decimal_text d) };
 

@@ -21,6 +21,8 @@ use std::cmp::Ordering;
 /// Null equals null, and is not equal to anything else. Two exact numbers compare by value, and two strings by
 /// their code points. Of the truth values false is below true. Any other pair is Unknown: each of two kinds,
 /// and each with a number that is not exact, an array or an object.
+///
+/// The program compares items that are lent, by [`Item::compare`].
 pub fn compare<'d>(op: Compare, a: Item<'d>, b: Item<'d>) -> Truth
     ensures { result ≡ items_compare op (item_value a.entry) (item_value b.entry) }
 {
@@ -28,6 +30,8 @@ pub fn compare<'d>(op: Compare, a: Item<'d>, b: Item<'d>) -> Truth
 }
 
 /// Whether the string `a` starts with the string `b`, by code points. Any other pair is Unknown.
+///
+/// The program asks this of items that are lent, by [`Item::starts_with`].
 pub fn starts_with<'d>(a: Item<'d>, b: Item<'d>) -> Truth
     ensures { result ≡ item_starts_with (item_value a.entry) (item_value b.entry) }
 {

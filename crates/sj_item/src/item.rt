@@ -65,6 +65,8 @@ pub enum Pull<'d> {
 
 impl<'d> Item<'d> {
     /// The same item. It takes no memory.
+    ///
+    /// The program does not call this; its tests do, and a host may.
     pub fn copy(&self) -> Item<'d>
         ensures same { result ≡ self.now }
         ensures value { item_value result ≡ item_value self.now }

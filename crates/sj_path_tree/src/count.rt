@@ -77,6 +77,8 @@ fn one_and_two(first: u64, second: u64) -> u64
 
 /// Counts the expressions, accessors, subscripts and predicates of a path. The count stays at
 /// `2^64 - 1`.
+///
+/// The program does not call this; its tests do, and a host may.
 pub fn nodes(path: &Path) -> u64
     ensures { result ≡ min (spec.nodes (path_of path.now)) (2 ^ 64 - 1) }
 {

@@ -48,6 +48,8 @@ impl Vars {
     }
 
     /// Whether a variable has this name.
+    ///
+    /// The program does not call this; its tests do, and a host may.
     pub fn has(&self, name: &str) -> bool
         ensures { result ≡ spec.has_name self.now name.now }
     {
@@ -63,6 +65,8 @@ impl Vars {
     }
 
     /// Whether each variable that the path names is here.
+    ///
+    /// The program does not call this, since `bind` tells it of names alone; its tests do, and a host may.
     pub fn covers(&self, path: &Path) -> bool
         ensures { result ≡ spec.covers self.now (path_of path.now) }
     {

@@ -69,6 +69,8 @@ impl Statements {
     }
 
     /// Takes the first statement out, or nothing where none is left. It takes the same time whatever is left.
+    ///
+    /// The program does not call this; its tests do, and a host may.
     pub fn take_first(&mut self) -> Option<Statement>
         ensures { MatchOption result ((self.old ≡ []) × (self.new ≡ [])) (λ x. self.old ≡ x ∷ self.new) }
     {

@@ -40,6 +40,8 @@ pub(crate) enum Left<'d> {
 impl<'d> Walk<'d> {
     /// The next item or, where none is left, the end. The counter rises by one for each child of a node that is handed
     /// out on the way. An end and a fault come again, without a step.
+    ///
+    /// The program puts the item in its place by [`Walk::put_next`]; this is for tests and for hosts.
     pub fn next<L: Ledger>(&mut self, steps: &mut Steps<L>) -> Pull<'d>
         ensures { Takes (walk_left self.old) (pull_value result) (walk_left self.new) steps.old steps.new }
     {

@@ -4,8 +4,8 @@ use Rattle.sj_base.specs.Outside.{raised}
 use Rattle.sj_json.specs.Tree.{Tree, below}
 use Rattle.sj_json.specs.Printing.{printed}
 use Rattle.sj_doc.specs.Tours.{Visited, enter, leave, leaf, hands_out, Touring, tour}
-use Rattle.sj_text.specs.declared.node.Place.{Place}
-use Rattle.sj_text.specs.declared.node.Place.TheVariants.{Start}
+use Rattle.sj_text.specs.declared.place.Place.{Place}
+use Rattle.sj_text.specs.declared.place.Place.TheVariants.{First}
 use Rattle.sj_text.specs.Prefixes.{AppendsPrefix}
 use Rattle.sj_text.proofs.Appends.{Appending}
 use Rattle.sj_text.specs.Rendering.{visit_printed, place_after, render, IsVisit, AreVisits, nodes, counted}
@@ -38,7 +38,7 @@ pub record IsAt (old : List ℕ) (t : Tree) (before : ℕ) (out : List ℕ) (pla
   pub visit : IsVisit v
   pub visits : AreVisits left.1
 
-pub sets_out : (old : List ℕ) (t : Tree) (before i : ℕ) → IsUnderWay old t before old Start (false, tour None i t) before
+pub sets_out : (old : List ℕ) (t : Tree) (before i : ℕ) → IsUnderWay old t before old First (false, tour None i t) before
 sets_out old t before i =
     record {
       text = subst (Appending old (printed t) old) (sym (render_whole i t)) (begun old (printed t));

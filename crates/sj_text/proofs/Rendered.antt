@@ -4,8 +4,8 @@ use Rattle.sj_json.specs.Tree.{Tree, null, truth, string, number, array, object,
 use Rattle.sj_json.specs.Printing.{printed, printed_items, printed_more_items, printed_members, printed_more_members, printed_string}
 use Rattle.sj_doc.specs.declared.node.Kind.TheVariants as kinds
 use Rattle.sj_doc.specs.Tours.{Visited, enter, leave, leaf, tour, item_tours, member_tours}
-use Rattle.sj_text.specs.declared.node.Place.{Place}
-use Rattle.sj_text.specs.declared.node.Place.TheVariants.{Start, AfterValue}
+use Rattle.sj_text.specs.declared.place.Place.{Place}
+use Rattle.sj_text.specs.declared.place.Place.TheVariants.{First, Later}
 use Rattle.sj_text.specs.Rendering.{lead, closing, render, AreVisits, nodes, counted}
 
 -- a key with its colon, a value, the members behind it, and what follows
@@ -14,60 +14,60 @@ regroup key value more rest =
     append_assoc key (58 ∷ []) (value ++ (more ++ rest)) ∙ ap (λ l. key ++ 58 ∷ l) (sym (append_assoc value more rest)) ∙ sym (append_assoc key (58 ∷ value ++ more) rest)
 
 mutual
-  pub render-tour : (place : Place) (k : Option (List ℕ)) (i : ℕ) (t : Tree) (vs : List Visited) → render place (tour k i t ++ vs) ≡ lead place k ++ (printed t ++ render AfterValue vs)
-  render-tour place k i null vs = append_assoc (lead place k) (printed null) (render AfterValue vs)
-  render-tour place k i (truth b) vs = append_assoc (lead place k) (printed (truth b)) (render AfterValue vs)
-  render-tour place k i (string s) vs = append_assoc (lead place k) (printed (string s)) (render AfterValue vs)
-  render-tour place k i (number v) vs = append_assoc (lead place k) (printed (number v)) (render AfterValue vs)
+  pub render-tour : (place : Place) (k : Option (List ℕ)) (i : ℕ) (t : Tree) (vs : List Visited) → render place (tour k i t ++ vs) ≡ lead place k ++ (printed t ++ render Later vs)
+  render-tour place k i null vs = append_assoc (lead place k) (printed null) (render Later vs)
+  render-tour place k i (truth b) vs = append_assoc (lead place k) (printed (truth b)) (render Later vs)
+  render-tour place k i (string s) vs = append_assoc (lead place k) (printed (string s)) (render Later vs)
+  render-tour place k i (number v) vs = append_assoc (lead place k) (printed (number v)) (render Later vs)
   render-tour place k i (array ts) vs =
-      append_assoc (lead place k) (91 ∷ []) (render Start ((item_tours (i + 1) ts ++ leave kinds.Array ∷ []) ++ vs))
+      append_assoc (lead place k) (91 ∷ []) (render First ((item_tours (i + 1) ts ++ leave kinds.Array ∷ []) ++ vs))
       ∙ ap (λ l. lead place k ++ 91 ∷ l)
-      (ap (render Start) (append_assoc (item_tours (i + 1) ts) (leave kinds.Array ∷ []) vs) ∙ render-items (i + 1) ts vs ∙ sym (append_assoc (printed_items ts) (93 ∷ []) (render AfterValue vs)))
+      (ap (render First) (append_assoc (item_tours (i + 1) ts) (leave kinds.Array ∷ []) vs) ∙ render-items (i + 1) ts vs ∙ sym (append_assoc (printed_items ts) (93 ∷ []) (render Later vs)))
   render-tour place k i (object ms) vs =
-      append_assoc (lead place k) (123 ∷ []) (render Start ((member_tours (i + 1) ms ++ leave kinds.Object ∷ []) ++ vs))
+      append_assoc (lead place k) (123 ∷ []) (render First ((member_tours (i + 1) ms ++ leave kinds.Object ∷ []) ++ vs))
       ∙ ap (λ l. lead place k ++ 123 ∷ l)
-      (ap (render Start) (append_assoc (member_tours (i + 1) ms) (leave kinds.Object ∷ []) vs) ∙ render-members (i + 1) ms vs ∙ sym (append_assoc (printed_members ms) (125 ∷ []) (render AfterValue vs)))
+      (ap (render First) (append_assoc (member_tours (i + 1) ms) (leave kinds.Object ∷ []) vs) ∙ render-members (i + 1) ms vs ∙ sym (append_assoc (printed_members ms) (125 ∷ []) (render Later vs)))
 
   -- before the end of an array it makes no difference whether a value came
-  render-items : (i : ℕ) (ts : Items) (vs : List Visited) → render Start (item_tours i ts ++ leave kinds.Array ∷ vs) ≡ printed_items ts ++ (closing kinds.Array ++ render AfterValue vs)
+  render-items : (i : ℕ) (ts : Items) (vs : List Visited) → render First (item_tours i ts ++ leave kinds.Array ∷ vs) ≡ printed_items ts ++ (closing kinds.Array ++ render Later vs)
   render-items i no_items vs = refl
   render-items i (item t ts) vs =
       let later : List Visited = item_tours (i + 1 + below t) ts in
-      ap (render Start) (append_assoc (tour None i t) later (leave kinds.Array ∷ vs))
-      ∙ render-tour Start None i t (later ++ leave kinds.Array ∷ vs)
+      ap (render First) (append_assoc (tour None i t) later (leave kinds.Array ∷ vs))
+      ∙ render-tour First None i t (later ++ leave kinds.Array ∷ vs)
       ∙ ap (λ l. printed t ++ l) (render-more_items (i + 1 + below t) ts vs)
-      ∙ sym (append_assoc (printed t) (printed_more_items ts) (93 ∷ render AfterValue vs))
+      ∙ sym (append_assoc (printed t) (printed_more_items ts) (93 ∷ render Later vs))
 
-  render-more_items : (i : ℕ) (ts : Items) (vs : List Visited) → render AfterValue (item_tours i ts ++ leave kinds.Array ∷ vs) ≡ printed_more_items ts ++ (closing kinds.Array ++ render AfterValue vs)
+  render-more_items : (i : ℕ) (ts : Items) (vs : List Visited) → render Later (item_tours i ts ++ leave kinds.Array ∷ vs) ≡ printed_more_items ts ++ (closing kinds.Array ++ render Later vs)
   render-more_items i no_items vs = refl
   render-more_items i (item t ts) vs =
       let later : List Visited = item_tours (i + 1 + below t) ts in
-      ap (render AfterValue) (append_assoc (tour None i t) later (leave kinds.Array ∷ vs))
-      ∙ render-tour AfterValue None i t (later ++ leave kinds.Array ∷ vs)
+      ap (render Later) (append_assoc (tour None i t) later (leave kinds.Array ∷ vs))
+      ∙ render-tour Later None i t (later ++ leave kinds.Array ∷ vs)
       ∙ ap (λ l. 44 ∷ printed t ++ l) (render-more_items (i + 1 + below t) ts vs)
-      ∙ ap (λ l. 44 ∷ l) (sym (append_assoc (printed t) (printed_more_items ts) (93 ∷ render AfterValue vs)))
+      ∙ ap (λ l. 44 ∷ l) (sym (append_assoc (printed t) (printed_more_items ts) (93 ∷ render Later vs)))
 
-  render-members : (i : ℕ) (ms : Members) (vs : List Visited) → render Start (member_tours i ms ++ leave kinds.Object ∷ vs) ≡ printed_members ms ++ (closing kinds.Object ++ render AfterValue vs)
+  render-members : (i : ℕ) (ms : Members) (vs : List Visited) → render First (member_tours i ms ++ leave kinds.Object ∷ vs) ≡ printed_members ms ++ (closing kinds.Object ++ render Later vs)
   render-members i no_members vs = refl
   render-members i (member k t ms) vs =
       let later : List Visited = member_tours (i + 1 + below t) ms in
-      ap (render Start) (append_assoc (tour (Some k) i t) later (leave kinds.Object ∷ vs))
-      ∙ render-tour Start (Some k) i t (later ++ leave kinds.Object ∷ vs)
+      ap (render First) (append_assoc (tour (Some k) i t) later (leave kinds.Object ∷ vs))
+      ∙ render-tour First (Some k) i t (later ++ leave kinds.Object ∷ vs)
       ∙ ap (λ l. (printed_string k ++ 58 ∷ []) ++ (printed t ++ l)) (render-more_members (i + 1 + below t) ms vs)
-      ∙ regroup (printed_string k) (printed t) (printed_more_members ms) (125 ∷ render AfterValue vs)
+      ∙ regroup (printed_string k) (printed t) (printed_more_members ms) (125 ∷ render Later vs)
 
-  render-more_members : (i : ℕ) (ms : Members) (vs : List Visited) → render AfterValue (member_tours i ms ++ leave kinds.Object ∷ vs) ≡ printed_more_members ms ++ (closing kinds.Object ++ render AfterValue vs)
+  render-more_members : (i : ℕ) (ms : Members) (vs : List Visited) → render Later (member_tours i ms ++ leave kinds.Object ∷ vs) ≡ printed_more_members ms ++ (closing kinds.Object ++ render Later vs)
   render-more_members i no_members vs = refl
   render-more_members i (member k t ms) vs =
       let later : List Visited = member_tours (i + 1 + below t) ms in
-      ap (render AfterValue) (append_assoc (tour (Some k) i t) later (leave kinds.Object ∷ vs))
-      ∙ render-tour AfterValue (Some k) i t (later ++ leave kinds.Object ∷ vs)
+      ap (render Later) (append_assoc (tour (Some k) i t) later (leave kinds.Object ∷ vs))
+      ∙ render-tour Later (Some k) i t (later ++ leave kinds.Object ∷ vs)
       ∙ ap (λ l. 44 ∷ (printed_string k ++ 58 ∷ []) ++ (printed t ++ l)) (render-more_members (i + 1 + below t) ms vs)
-      ∙ ap (λ l. 44 ∷ l) (regroup (printed_string k) (printed t) (printed_more_members ms) (125 ∷ render AfterValue vs))
+      ∙ ap (λ l. 44 ∷ l) (regroup (printed_string k) (printed t) (printed_more_members ms) (125 ∷ render Later vs))
 
 -- the whole tour of a node
-pub render_whole : (i : ℕ) (t : Tree) → render Start (tour None i t) ≡ printed t
-render_whole i t = ap (render Start) (sym (append-nil (tour None i t))) ∙ render-tour Start None i t [] ∙ append-nil (printed t)
+pub render_whole : (i : ℕ) (t : Tree) → render First (tour None i t) ≡ printed t
+render_whole i t = ap (render First) (sym (append-nil (tour None i t))) ∙ render-tour First None i t [] ∙ append-nil (printed t)
 
 -- ---- its nodes
 

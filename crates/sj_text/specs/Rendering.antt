@@ -6,12 +6,12 @@ use Rattle.sj_doc.specs.declared.node.Kind.{Kind}
 use Rattle.sj_doc.specs.declared.node.Kind.TheVariants as kinds
 use Rattle.sj_doc.specs.Kinds.{kind_of}
 use Rattle.sj_doc.specs.Tours.{Visited, enter, leave, leaf, hands_out, Touring}
-use Rattle.sj_text.specs.declared.node.Place.{Place}
-use Rattle.sj_text.specs.declared.node.Place.TheVariants.{Start, AfterValue}
+use Rattle.sj_text.specs.declared.place.Place.{Place}
+use Rattle.sj_text.specs.declared.place.Place.TheVariants.{First, Later}
 
 abbrev pub comma : Place → List ℕ
-comma Start = []
-comma AfterValue = 44 ∷ []
+comma First = []
+comma Later = 44 ∷ []
 
 abbrev pub key_printed : Option (List ℕ) → List ℕ
 key_printed None = []
@@ -45,9 +45,9 @@ visit_printed place (leave kind) = closing kind
 visit_printed place (leaf n) = lead place n.0 ++ printed n.2
 
 abbrev pub place_after : Visited → Place
-place_after (enter n) = Start
-place_after (leave kind) = AfterValue
-place_after (leaf n) = AfterValue
+place_after (enter n) = First
+place_after (leave kind) = Later
+place_after (leaf n) = Later
 
 abbrev pub render : Place → List Visited → List ℕ
 render place [] = []

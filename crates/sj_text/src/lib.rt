@@ -10,8 +10,10 @@
 
 mod item;
 mod node;
+mod place;
 mod scalar;
 mod string;
 
 pub use item::item_text;
+pub use place::Place;
 pub use string::string_text;

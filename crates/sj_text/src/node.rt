@@ -8,19 +8,11 @@ ghost use Rattle.sj_doc.specs.Visits.{visited};
 ghost use Rattle.sj_text.specs.Prefixes.{AppendsPrefix};
 ghost use Rattle.sj_text.specs.Rendering.{IsScalar, IsVisit, key_printed, lead, opening, closing, visit_printed, place_after};
 
+use crate::place::Place;
 use crate::scalar::{number_text, truth_text};
 use crate::string::string_text;
 use sj_base::{Bytes, Ledger, Memory, Steps};
 use sj_doc::{Kind, NodeRef, Visit};
-
-// Where a value stands in what holds it.
-#[derive(Clone, Copy)]
-enum Place {
-    // before any other
-    Start,
-    // behind another one, and so behind a comma
-    AfterValue,
-}
 
 impl Place {
     // The place of what comes after a visit.
@@ -28,8 +20,8 @@ impl Place {
         ensures { result ≡ place_after (visited visit.entry) }
     {
         match visit {
-            Visit::Enter(_) => Place::Start,
-            Visit::Leave(_) | Visit::Leaf(_) => Place::AfterValue,
+            Visit::Enter(_) => Place::First,
+            Visit::Leave(_) | Visit::Leaf(_) => Place::Later,
         }
     }
 }
@@ -46,7 +38,7 @@ pub(crate) fn node_text<L: Ledger>(
     ensures at_most { OnErr result (steps.new ≤ raised steps.old (below (node_tree node.entry))) }
 {
     let mut tour = node.tour();
-    let mut place = Place::Start;
+    let mut place = Place::First;
     while let Some(visit) = tour.next(steps) {
         visit_text(place, visit, out)?;
         place = Place::after(visit);
@@ -79,8 +71,8 @@ fn lead_text(place: Place, key: Option<&str>, out: &mut Bytes) -> Result<(), Mem
     ensures err { OnErr result (AppendsPrefix out.old (lead place (option_map (λ s. s.now) key.entry)) out.new) }
 {
     match place {
-        Place::Start => key_text(key, out),
-        Place::AfterValue => {
+        Place::First => key_text(key, out),
+        Place::Later => {
             out.push(b",")?;
             key_text(key, out)
         }

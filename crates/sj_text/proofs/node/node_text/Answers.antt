@@ -2,14 +2,14 @@ use Rattle.std.proofs.Common.{sym, subst}
 use Rattle.sj_doc.specs.Tours.{Touring}
 use Rattle.sj_doc.specs.Listed.{node_id, node_tree}
 use Rattle.sj_doc.specs.Visits.{visited}
-use Rattle.sj_text.specs.declared.node.Place.TheVariants.{Start}
+use Rattle.sj_text.specs.declared.place.Place.TheVariants.{First}
 use Rattle.sj_text.proofs.Printings.{IsUnderWay, sets_out, arrives, brings, is_cut}
 use Rattle.sj_text.proofs.node.node_text.Goals as goal
 
 pub loop-visit-init : goal.loop-visit-init
 loop-visit-init g c =
     let t = node_tree c.args.node in
-    subst (λ (left : Touring). IsUnderWay c.args.out.now t c.args.steps.now c.args.out.now Start left c.args.steps.now) (sym c.tour-tour.ensures)
+    subst (λ (left : Touring). IsUnderWay c.args.out.now t c.args.steps.now c.args.out.now First left c.args.steps.now) (sym c.tour-tour.ensures)
     (sets_out c.args.out.now t c.args.steps.now (node_id c.args.node))
 
 pub returns-in_err-visit_text-clause-err : goal.returns-in_err-visit_text-clause-err

@@ -3,10 +3,11 @@ use Rattle.std.proofs.lemmas.Result.{err_from_is_err_and}
 use Rattle.sj_value.specs.declared.value.SqlValue.TheVariants.{Json}
 use Rattle.sj_build.specs.Answers.{RefusesAs}
 use Rattle.sj_build.specs.Constructors.{is_kept, kept_key, pair_text, member_text, object_text, object_value}
-use Rattle.sj_build.specs.Growing.{lead, opening}
+use Rattle.sj_text.specs.Rendering.{comma}
+use Rattle.sj_build.specs.Growing.{opening}
 use Rattle.sj_build.specs.Held.{ObjectHeld, AreTaken, StandsForFields}
 use Rattle.sj_build.specs.Keys.{owned_keys}
-use Rattle.sj_build.specs.declared.place.Place.TheVariants.{Later}
+use Rattle.sj_text.specs.declared.place.Place.TheVariants.{Later}
 use Rattle.sj_build.proofs.Growing.{text_kept, text_dropped}
 use Rattle.sj_build.proofs.Taken.{is_dropped, has_key, shown, refuses_null, refuses_as, takes_dropped, takes_kept}
 use Rattle.sj_build.proofs.object_agg.ObjectAgg.add.Goals as goal
@@ -52,7 +53,7 @@ returns-clause-stands c =
     let kept : kept_key s.nulls field ≡ Ok (Some key) = c.in_ok-key.ensures.ok ∙ ap shown c.in-Some.is in
     let has = has_key s.nulls field key kept in
     let made = c.in_default-added.ensures in
-    let appended = made.text ∙ ap (λ k. s.text ++ (opening (123 ∷ []) s.text ++ (lead s.place ++ (pair_text k field.value ++ 125 ∷ [])))) (sym has.1) in
+    let appended = made.text ∙ ap (λ k. s.text ++ (opening (123 ∷ []) s.text ++ (comma s.place ++ (pair_text k field.value ++ 125 ∷ [])))) (sym has.1) in
     λ fields stand.
     let old = subst (StandsForFields fields) (sym c.self.view_is) stand in
     let taken = takes_kept s.nulls (is_some s.keys) fields s.place (owned_keys s.keys) old.taken field key (owned_keys c.append-added.new.keys) kept made.fresh made.keys in
