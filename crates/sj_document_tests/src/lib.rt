@@ -12,4 +12,6 @@ mod decimals;
 #[cfg(test)]
 mod documents;
 #[cfg(test)]
+mod examples;
+#[cfg(test)]
 mod reading;

@@ -9,6 +9,8 @@ mod building;
 #[cfg(test)]
 mod cases;
 #[cfg(test)]
+mod examples;
+#[cfg(test)]
 mod outside;
 #[cfg(test)]
 mod rows;
