@@ -3,6 +3,7 @@ use Rattle.std.proofs.Common.{◌≡◌, ℕ, ◌-◌, ◌*◌, ◌^◌, ◌<◌
 use mathlib.Core.Bool.{beq}
 use Rattle.std.specs.Ordering.{ordering_reverse, MatchOrdering}
 use Rattle.std.specs.Cmp.{nat_cmp_is, int_cmp_is, int_ranked, ranks, tied_itself}
+use Rattle.sj_decimal.specs.Limits.{magnitude_limit}
 use Rattle.sj_decimal.specs.Normal.{IsDecimal}
 use Rattle.std.proofs.lemmas.Int.{ints}
 use Rattle.sj_decimal.specs.Signed.{signed, IsSignOf}
@@ -35,10 +36,10 @@ right_scaled m j n k h =
     sym (nat_cmp_scaled m (n * 10 ^ (j - k)) (10 ^ k) (power_pos k)) ∙ ap (λ e. nat_cmp (m * 10 ^ k) e) (split_power n k j h)
 
 -- a side that passes the limit is the greater
-pub left_over : (m j n k : ℕ) → j ≤ k → n < 10 ^ 38 → (m * 10 ^ (k - j) < 10 ^ 38 → ⊥) → Greater ≡ nat_cmp (m * 10 ^ k) (n * 10 ^ j)
+pub left_over : (m j n k : ℕ) → j ≤ k → n < magnitude_limit → (m * 10 ^ (k - j) < magnitude_limit → ⊥) → Greater ≡ nat_cmp (m * 10 ^ k) (n * 10 ^ j)
 left_over m j n k h small over = nat_cmp_is (m * 10 ^ (k - j)) n Greater (omega (arith, small, over)) ∙ left_scaled m j n k h
 
-pub right_over : (m j n k : ℕ) → k ≤ j → m < 10 ^ 38 → (n * 10 ^ (j - k) < 10 ^ 38 → ⊥) → Less ≡ nat_cmp (m * 10 ^ k) (n * 10 ^ j)
+pub right_over : (m j n k : ℕ) → k ≤ j → m < magnitude_limit → (n * 10 ^ (j - k) < magnitude_limit → ⊥) → Less ≡ nat_cmp (m * 10 ^ k) (n * 10 ^ j)
 right_over m j n k h small over = nat_cmp_is m (n * 10 ^ (j - k)) Less (omega (arith, small, over)) ∙ right_scaled m j n k h
 
 -- ---- the signs

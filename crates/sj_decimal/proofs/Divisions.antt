@@ -6,6 +6,7 @@ use Rattle.std.proofs.Math.Nat.{mul-div-mul_right, mul-add-div_right, mul-add-mo
 use Rattle.std.proofs.lemmas.Nat.{mod-mul-add}
 use Rattle.std.proofs.lemmas.Int.{ints, quot-rem}
 use Rattle.std.proofs.lemmas.Bool.{cond-true, cond-false, cases_Bool, cases_eq, and_from, and_parts}
+use Rattle.sj_decimal.specs.Limits.{max_scale, magnitude_limit}
 use Rattle.sj_decimal.specs.declared.arithmetic.NumFault.{NumFault}
 use Rattle.sj_decimal.specs.declared.arithmetic.NumFault.TheVariants.{Range}
 use Rattle.sj_decimal.specs.declared.significand.Significand.{Significand}
@@ -30,24 +31,24 @@ pub exact_result : (d : ℤ × ℕ) → IsExact d → exact_or_range d ≡ Ok (n
 unfolding exact_or_range
 exact_result d h =
     let l : IsWithinLimits (normal d) = limits_from_exact d h in
-    cond-true _ _ _ (and_from (nat_lt (unsigned_abs (normal d).0) (10 ^ 38)) (nat_le (normal d).1 38)
-    (lt-ltb (unsigned_abs (normal d).0) (10 ^ 38) l.coefficient) (le-leb (normal d).1 38 l.scale))
+    cond-true _ _ _ (and_from (nat_lt (unsigned_abs (normal d).0) magnitude_limit) (nat_le (normal d).1 max_scale)
+    (lt-ltb (unsigned_abs (normal d).0) magnitude_limit l.coefficient) (le-leb (normal d).1 max_scale l.scale))
 
 pub wide_result : (d : ℤ × ℕ) → ¬ (IsExact d) → exact_or_range d ≡ Err Range
 unfolding exact_or_range
 wide_result d h =
     ⊎_elim
     (λ yes.
-    let both : (nat_lt (unsigned_abs (normal d).0) (10 ^ 38) ≡ true) × (nat_le (normal d).1 38 ≡ true) =
-    and_parts (nat_lt (unsigned_abs (normal d).0) (10 ^ 38)) (nat_le (normal d).1 38) yes in
+    let both : (nat_lt (unsigned_abs (normal d).0) magnitude_limit ≡ true) × (nat_le (normal d).1 max_scale ≡ true) =
+    and_parts (nat_lt (unsigned_abs (normal d).0) magnitude_limit) (nat_le (normal d).1 max_scale) yes in
     absurd (h (exact_from_limits d (record {
-      coefficient = ltb-true (unsigned_abs (normal d).0) (10 ^ 38) both.0;
-      scale = leb-true (normal d).1 38 both.1;
+      coefficient = ltb-true (unsigned_abs (normal d).0) magnitude_limit both.0;
+      scale = leb-true (normal d).1 max_scale both.1;
     }))))
     (λ no. cond-false _ _ _ no)
     (cases_Bool _)
 
-pub limited_is_exact : (b : Bool) (m s : ℕ) → m < 10 ^ 38 → s ≤ 38 → limited (signed b m) s ≡ exact_or_range (signed b m, s)
+pub limited_is_exact : (b : Bool) (m s : ℕ) → m < magnitude_limit → s ≤ max_scale → limited (signed b m) s ≡ exact_or_range (signed b m, s)
 limited_is_exact b m s small few =
     let exact : IsExact (signed b m, s) = exact_small b m s small few in
     limited_exact b m s small exact ∙ sym (exact_result (signed b m, s) exact)
@@ -137,14 +138,14 @@ rest_step l n i some =
     tens q m = mul_assoc q 10 m ∙ ap (λ k. q * k) (mul_comm 10 m) ∙ sym (mul_assoc q m 10)
 
 -- the digits of a whole number, without the zeros at its end
-pub keeps_number : (n : ℕ) (r : ℕ × ℕ) → r ≡ reduced n 38 → n < 10 ^ 38 → (r.1 ≤ 38) × (n ≡ r.0 * 10 ^ (38 - r.1)) × (r.0 % 10 ≡ 0 → r.0 ≡ 0)
+pub keeps_number : (n : ℕ) (r : ℕ × ℕ) → r ≡ reduced n max_scale → n < magnitude_limit → (r.1 ≤ max_scale) × (n ≡ r.0 * 10 ^ (max_scale - r.1)) × (r.0 % 10 ≡ 0 → r.0 ≡ 0)
 keeps_number n r is small =
-    let value : r.0 * 10 ^ 38 ≡ n * 10 ^ r.1 = rw is (reduced_value n 38) in
-    let few : r.1 ≤ 38 = rw is (reduced_le n 38).1 in
-    let both : 38 ≡ 38 - r.1 + r.1 = omega (arith, few) in
-    let split : 10 ^ 38 ≡ 10 ^ (38 - r.1) * 10 ^ r.1 = ap (λ e. 10 ^ e) both ∙ pow-add 10 (38 - r.1) r.1 in
-    let same : n * 10 ^ r.1 ≡ r.0 * 10 ^ (38 - r.1) * 10 ^ r.1 = sym value ∙ ap (λ e. r.0 * e) split ∙ sym (mul_assoc r.0 (10 ^ (38 - r.1)) (10 ^ r.1)) in
-    let number : n ≡ r.0 * 10 ^ (38 - r.1) = eq_of_mul-eq-mul_right (10 ^ r.1) (power_pos r.1) n (r.0 * 10 ^ (38 - r.1)) same in (
+    let value : r.0 * magnitude_limit ≡ n * 10 ^ r.1 = rw is (reduced_value n max_scale) in
+    let few : r.1 ≤ max_scale = rw is (reduced_le n max_scale).1 in
+    let both : max_scale ≡ max_scale - r.1 + r.1 = omega (arith, few) in
+    let split : magnitude_limit ≡ 10 ^ (max_scale - r.1) * 10 ^ r.1 = ap (λ e. 10 ^ e) both ∙ pow-add 10 (max_scale - r.1) r.1 in
+    let same : n * 10 ^ r.1 ≡ r.0 * 10 ^ (max_scale - r.1) * 10 ^ r.1 = sym value ∙ ap (λ e. r.0 * e) split ∙ sym (mul_assoc r.0 (10 ^ (max_scale - r.1)) (10 ^ r.1)) in
+    let number : n ≡ r.0 * 10 ^ (max_scale - r.1) = eq_of_mul-eq-mul_right (10 ^ r.1) (power_pos r.1) n (r.0 * 10 ^ (max_scale - r.1)) same in (
       few,
       number,
       λ ends. ⊎_elim
@@ -153,11 +154,11 @@ keeps_number n r is small =
           (cases_eq r.1 0),
     )
   where
-    all_zeros : (m t k : ℕ) → k ≡ m * 10 ^ (38 - t) → t ≡ 0 → k < 10 ^ 38 → m ≡ 0
-    all_zeros m t k e none below = let same : k ≡ m * 10 ^ 38 = e ∙ ap (λ x. m * 10 ^ (38 - x)) none in omega (arith, same, below)
+    all_zeros : (m t k : ℕ) → k ≡ m * 10 ^ (max_scale - t) → t ≡ 0 → k < magnitude_limit → m ≡ 0
+    all_zeros m t k e none below = let same : k ≡ m * magnitude_limit = e ∙ ap (λ x. m * 10 ^ (max_scale - x)) none in omega (arith, same, below)
 
-    ends_in_none : (q : ℕ × ℕ) → q ≡ reduced n 38 → 0 < q.1 → q.0 % 10 ≢ 0
-    ends_in_none q e = rw e (reduced_normal n 38)
+    ends_in_none : (q : ℕ × ℕ) → q ≡ reduced n max_scale → 0 < q.1 → q.0 % 10 ≢ 0
+    ends_in_none q e = rw e (reduced_normal n max_scale)
 
 -- what the digits of a quotient make of it
 pub quotient_wide : (b : Bool) (n : ℕ) → IsTooLong n → exact_or_range (signed b n, 16) ≡ Err Range
@@ -187,9 +188,9 @@ pub fault_of : (v : ℤ × ℕ) (r : Parsed) → Evaluates v r → (r ≡ Wide) 
 fault_of v r h (inl e) = fault_is v (subst (Evaluates v) e h)
 fault_of v r h (inr e) = absurd (subst (Evaluates v) e h)
 
-pub cut_small : (b : Bool) (m s n p : ℕ) → IsDecimal (signed b m, s) → m / n / p < 10 ^ 38
+pub cut_small : (b : Bool) (m s n p : ℕ) → IsDecimal (signed b m, s) → m / n / p < magnitude_limit
 cut_small b m s n p h =
-    let small : m < 10 ^ 38 = rw (unsigned_abs-signed b m) at h.limits.coefficient in
+    let small : m < magnitude_limit = rw (unsigned_abs-signed b m) at h.limits.coefficient in
     let first : m / n ≤ m = div-le_self m n in
     let second : m / n / p ≤ m / n = div-le_self (m / n) p in
     omega (arith, small, first, second)

@@ -4,7 +4,7 @@ pub mod Comparisons
 pub mod Digits
 -- for `Decimal::div`, `Decimal::rem`, `Significand::of`, `next_digit`, `quotient_digits` and `quotient`
 pub mod Divisions
--- for sj_sql_token and sj_path_token
+-- for sj_json, sj_sql_token and sj_path_token
 pub mod Exactness
 -- for `Decimal::text`, and for crates above
 pub mod Laws

@@ -1,5 +1,6 @@
 -- Normal forms, and which numbers are exact.
 use Rattle.std.proofs.Common.{◌≡◌, ℕ, zero, suc, ◌+◌, ◌*◌, ◌^◌, ◌<◌, ◌≤◌, Bool, true, false, ℤ, pos, negsuc, ◌*ℤ◌, unsigned_abs, refl, sym, ap, ap₂, ◌∙◌, subst, arith, zero-mul, add_comm, Option, Some, None, SomeIff, IfSome, int_lt, le-ltb}
+use Rattle.sj_decimal.specs.Limits.{max_scale, magnitude_limit}
 use Rattle.sj_decimal.specs.Signed.{signed, is_negative, unsigned_abs-signed, signed_parts}
 use Rattle.sj_decimal.specs.Normal.{reduced, normal, IsNormal, IsWithinLimits, IsExact, IsDecimal, IsSameNumber}
 use Rattle.sj_decimal.proofs.Reduced.{reduced_value, reduced_normal, reduced_same, reduced_scaled, reduced_zero, reduced_le}
@@ -53,30 +54,30 @@ pub IsExact-decimal : (d : ℤ × ℕ) → IsDecimal d → IsExact d
 IsExact-decimal d h = exact_from_limits d (rw (normal_decimal d h) h.limits)
 
 -- what the code finds of the reduced magnitude r
-pub exact_from_reduced : (b : Bool) (m s : ℕ) (r : ℕ × ℕ) → r ≡ reduced m s → r.0 < 10 ^ 38 → r.1 ≤ 38 → IsExact (signed b m, s)
+pub exact_from_reduced : (b : Bool) (m s : ℕ) (r : ℕ × ℕ) → r ≡ reduced m s → r.0 < magnitude_limit → r.1 ≤ max_scale → IsExact (signed b m, s)
 exact_from_reduced b m s r e small few =
     exact_from_limits (signed b m, s) (record {
       coefficient = rw (unsigned_abs-normal (signed b m, s), unsigned_abs-signed b m, ← e) small;
       scale = rw (normal_scale (signed b m, s), unsigned_abs-signed b m, ← e) few;
     })
 
-pub reduced_from_exact : (b : Bool) (m s : ℕ) (r : ℕ × ℕ) → r ≡ reduced m s → IsExact (signed b m, s) → (r.0 < 10 ^ 38) × (r.1 ≤ 38)
+pub reduced_from_exact : (b : Bool) (m s : ℕ) (r : ℕ × ℕ) → r ≡ reduced m s → IsExact (signed b m, s) → (r.0 < magnitude_limit) × (r.1 ≤ max_scale)
 reduced_from_exact b m s r e h =
     let l : IsWithinLimits (normal (signed b m, s)) = limits_from_exact (signed b m, s) h in
-    let small : (reduced m s).0 < 10 ^ 38 = rw (unsigned_abs-normal (signed b m, s), unsigned_abs-signed b m) at l.coefficient in
-    let few : (reduced m s).1 ≤ 38 = rw (normal_scale (signed b m, s), unsigned_abs-signed b m) at l.scale in
+    let small : (reduced m s).0 < magnitude_limit = rw (unsigned_abs-normal (signed b m, s), unsigned_abs-signed b m) at l.coefficient in
+    let few : (reduced m s).1 ≤ max_scale = rw (normal_scale (signed b m, s), unsigned_abs-signed b m) at l.scale in
     rw e (small, few)
 
 pub normal_from_reduced : (b : Bool) (m s : ℕ) (r : ℕ × ℕ) → r ≡ reduced m s → (signed b r.0, r.1) ≡ normal (signed b m, s)
 normal_from_reduced b m s r e = ap (λ (q : ℕ × ℕ). (signed b q.0, q.1)) e ∙ sym (normal-signed b m s)
 
 -- a coefficient and a scale within the limits make an exact number
-pub exact_small : (b : Bool) (m s : ℕ) → m < 10 ^ 38 → s ≤ 38 → IsExact (signed b m, s)
+pub exact_small : (b : Bool) (m s : ℕ) → m < magnitude_limit → s ≤ max_scale → IsExact (signed b m, s)
 exact_small b m s small few =
     let below : ((reduced m s).0 ≤ m) × ((reduced m s).1 ≤ s) = reduced_le m s in
     exact_from_reduced b m s (reduced m s) refl (omega (arith, below.0, small)) (omega (arith, below.1, few))
 
-pub whole_decimal : (b : Bool) (m : ℕ) → m < 10 ^ 38 → IsDecimal (signed b m, 0)
+pub whole_decimal : (b : Bool) (m : ℕ) → m < magnitude_limit → IsDecimal (signed b m, 0)
 whole_decimal b m small =
     record {
       normal = λ some. absurd (omega arith);

@@ -3,6 +3,7 @@ use Rattle.std.proofs.Common.{◌≡◌, ℕ, zero, suc, ◌+◌, ◌-◌, ◌*�
 use Rattle.std.proofs.lemmas.Bool.{cond-true, cond-false}
 use Rattle.std.proofs.Math.Nat.{mul-div-mul_right, div-eq_of_lt-le, add-div_right, zero-div, div-eq_of_lt}
 use Rattle.std.specs.Int.{int_div_euclid}
+use Rattle.sj_decimal.specs.Limits.{magnitude_limit}
 use Rattle.sj_decimal.specs.Signed.{signed, IsSignOf, is_negative-signed, unsigned_abs-signed}
 use Rattle.sj_decimal.specs.Normal.{normal, IsDecimal}
 use Rattle.sj_decimal.specs.Rounding.{rounded, rounded_within}
@@ -81,7 +82,7 @@ rounded_down m s t p fewer power less =
     let once : (q + 1) * (2 * p) ≡ 2 * (q * p) + 2 * p = add-mul q 1 (2 * p) ∙ ap₂ (λ (x y : ℕ). x + y) twice (one-mul (2 * p)) in
     rounded_fewer m s t p some split ∙ half_is m p q some (omega (arith, twice, parts)) (omega (arith, once, parts, less))
 
-pub fewer_small : (m s t p : ℕ) → t < s → p ≡ 10 ^ (s - t) → m < 10 ^ 38 → m / p + 1 < 10 ^ 38
+pub fewer_small : (m s t p : ℕ) → t < s → p ≡ 10 ^ (s - t) → m < magnitude_limit → m / p + 1 < magnitude_limit
 fewer_small m s t p fewer power small =
     let ten : 10 ≤ p = rw power (power_le 1 (s - t) (omega (arith, fewer))) in
     let part : m / p * 10 ≤ m / p * p = mul-le-mul (le_refl (m / p)) ten in

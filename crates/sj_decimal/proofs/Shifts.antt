@@ -3,6 +3,7 @@ use Rattle.std.proofs.Common.{◌≡◌, ◌≢◌, ℕ, suc, ◌+◌, ◌*◌, 
 use Rattle.std.specs.Int.{w128}
 use Rattle.std.proofs.lemmas.Int.{ints}
 use Rattle.std.proofs.lemmas.Bool.{cases_eq, cases_lt}
+use Rattle.sj_decimal.specs.Limits.{max_scale, magnitude_limit}
 use Rattle.sj_decimal.specs.declared.parsing.Parsed.{Parsed}
 use Rattle.sj_decimal.specs.declared.parsing.Parsed.TheVariants.{Exact, Wide, NotNumber}
 use Rattle.sj_decimal.specs.Signed.{signed}
@@ -42,14 +43,14 @@ normal_shifted_zero b (negsuc n) = normal_zero b (suc n)
 pub shifted_zero : (b : Bool) (e x : ℤ) → normal (shifted b 0 e) ≡ normal (shifted b 0 x)
 shifted_zero b e x = normal_shifted_zero b e ∙ sym (normal_shifted_zero b x)
 
-pub too_big : (b : Bool) (n : ℕ) → 10 ^ 38 ≤ n → ¬ (IsExact (signed b n, 0))
+pub too_big : (b : Bool) (n : ℕ) → magnitude_limit ≤ n → ¬ (IsExact (signed b n, 0))
 too_big b n h exact =
-    let small : (n < 10 ^ 38) × (0 ≤ 38) = reduced_from_exact b n 0 (n, 0) (sym (reduced_whole n)) exact in
+    let small : (n < magnitude_limit) × (0 ≤ max_scale) = reduced_from_exact b n 0 (n, 0) (sym (reduced_whole n)) exact in
     omega (arith, small.0, h)
 
-pub too_fine : (b : Bool) (m s : ℕ) → m % 10 ≢ 0 → 38 < s → ¬ (IsExact (signed b m, s))
+pub too_fine : (b : Bool) (m s : ℕ) → m % 10 ≢ 0 → max_scale < s → ¬ (IsExact (signed b m, s))
 too_fine b m s ends h exact =
-    let few : (m < 10 ^ 38) × (s ≤ 38) = reduced_from_exact b m s (m, s) (sym (reduced_same m s (λ _. ends))) exact in
+    let few : (m < magnitude_limit) × (s ≤ max_scale) = reduced_from_exact b m s (m, s) (sym (reduced_same m s (λ _. ends))) exact in
     omega (arith, few.1, h)
 
 -- the point of a number that ends in no zero is moved too far
@@ -57,7 +58,7 @@ pub too_far_left : (b : Bool) (m : ℕ) (e : ℤ) → m % 10 ≢ 0 → e <ℤ ne
 too_far_left b m (pos n) ends h = absurd (omega (arith, ints, h))
 too_far_left b m (negsuc n) ends h = too_fine b m (suc n) ends (omega (arith, ints, h))
 
-pub too_far_right : (b : Bool) (m : ℕ) (e : ℤ) → 0 < m → pos 38 <ℤ e → ¬ (IsExact (shifted b m e))
+pub too_far_right : (b : Bool) (m : ℕ) (e : ℤ) → 0 < m → pos max_scale <ℤ e → ¬ (IsExact (shifted b m e))
 too_far_right b m (pos n) some h = too_big b (m * 10 ^ n) (scaled_too_far m n some (omega (arith, ints, h)))
 too_far_right b m (negsuc n) some h = absurd (omega (arith, ints, h))
 
@@ -81,20 +82,20 @@ shifted_zeros b m z (negsuc n) (negsuc k) h =
     ∙ ap (λ (q : ℕ × ℕ). (signed b q.0, q.1)) (ap (reduced (m * 10 ^ z)) sum ∙ reduced_scaled m (suc k) z)
     ∙ sym (normal-signed b m (suc k))
 
-pub too_big_shifted : (b : Bool) (m : ℕ) (e : ℤ) → int_lt e (pos 0) ≡ false → (m * 10 ^ unsigned_abs e < 10 ^ 38 → ⊥) → ¬ (IsExact (shifted b m e))
+pub too_big_shifted : (b : Bool) (m : ℕ) (e : ℤ) → int_lt e (pos 0) ≡ false → (m * 10 ^ unsigned_abs e < magnitude_limit → ⊥) → ¬ (IsExact (shifted b m e))
 too_big_shifted b m (pos n) sign h = too_big b (m * 10 ^ n) (omega (arith, h))
 too_big_shifted b m (negsuc n) sign h = absurd (true≢false sign)
 
-pub far_below : (e : ℤ) (n : ℕ) → int_lt e (pos 0) ≡ true → n ≡ unsigned_abs e → 38 < n → e <ℤ negsuc 37
+pub far_below : (e : ℤ) (n : ℕ) → int_lt e (pos 0) ≡ true → n ≡ unsigned_abs e → max_scale < n → e <ℤ negsuc 37
 far_below (pos k) n sign size far = absurd (grind (arith, ints))
 far_below (negsuc k) n sign size far = omega (arith, ints)
 
-too_far : (b : Bool) (m : ℕ) (e : ℤ) → m % 10 ≢ 0 → (e <ℤ negsuc 37) ⊎ (pos 38 <ℤ e) → ¬ (IsExact (shifted b m e))
+too_far : (b : Bool) (m : ℕ) (e : ℤ) → m % 10 ≢ 0 → (e <ℤ negsuc 37) ⊎ (pos max_scale <ℤ e) → ¬ (IsExact (shifted b m e))
 too_far b m e ends (inl left) = too_far_left b m e ends left
 too_far b m e ends (inr right) = too_far_right b m e (pos_of_ne-zero (λ none. ends (ap (λ k. k % 10) none))) right
 
 -- a great exponent moves the point out of reach, whatever the digits do
-out_of_reach : (s : Bool) (y z l : ℕ) (e : ℤ) → 10 ^ 30 ≤ y → z < 2 ^ 65 → l < 2 ^ 64 → e ≡ (signed s y +ℤ pos z) -ℤ pos l → (e <ℤ negsuc 37) ⊎ (pos 38 <ℤ e)
+out_of_reach : (s : Bool) (y z l : ℕ) (e : ℤ) → 10 ^ 30 ≤ y → z < 2 ^ 65 → l < 2 ^ 64 → e ≡ (signed s y +ℤ pos z) -ℤ pos l → (e <ℤ negsuc 37) ⊎ (pos max_scale <ℤ e)
 out_of_reach false y z l e great few less is = inr (omega (arith, ints))
 out_of_reach true y z l e great few less is = inl (omega (arith, ints))
 

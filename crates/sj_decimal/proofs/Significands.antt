@@ -2,6 +2,7 @@
 use Rattle.std.proofs.Common.{◌≡◌, ◌≢◌, ℕ, zero, suc, ◌+◌, ◌*◌, ◌/◌, ◌%◌, ◌^◌, ◌<◌, ◌≤◌, Bool, eqb, cond, List, [], ◌∷◌, ◌++◌, fold, refl, sym, ap, ◌∙◌, ⊎_elim, arith, ltb, ltb-false, eqb-true, add-one, add-zero, pow-suc, mul_assoc, mul-one, zero-mul, le_refl, le_trans, le-mul_of_pos_right, ℤ, pos, negsuc}
 use borrow.Author.Tests.{eqb-false}
 use Rattle.std.proofs.lemmas.Nat.{mod-mul-add}
+use Rattle.sj_decimal.specs.Limits.{max_scale, magnitude_limit}
 use Rattle.sj_decimal.specs.Normal.{reduced, IsExact}
 use Rattle.sj_decimal.specs.Number.{shifted}
 use Rattle.sj_decimal.proofs.Powers.{power_pos}
@@ -44,7 +45,7 @@ unfolding with_last_digit
 keeps_last n m z d e small some =
     let next : n * 10 + d ≡ m * 10 ^ (z + 1) + d = rw (e, grown m z) refl in
     let ends : (m * 10 ^ (z + 1) + d) % 10 ≡ d = rw (grown m z) (mod-mul-add (m * 10 ^ z) 10 d small) in
-    cond_both (ltb (m * 10 ^ (z + 1) + d) (10 ^ 38)) (Fits (m * 10 ^ (z + 1) + d) 0) TooLong (λ s. Keeps (n * 10 + d) s)
+    cond_both (ltb (m * 10 ^ (z + 1) + d) magnitude_limit) (Fits (m * 10 ^ (z + 1) + d) 0) TooLong (λ s. Keeps (n * 10 + d) s)
     (λ _. (next ∙ sym (mul-one (m * 10 ^ (z + 1) + d)), λ zero_end. absurd (some (sym ends ∙ zero_end))))
     (λ over. record {
       front = m * 10 ^ (z + 1) + d;
@@ -88,7 +89,7 @@ pub keeps_steps : (xs ys : List ℕ) (a b s t : Significand) → a ≡ Fits 0 0 
     → AllDigits 10 xs → AllDigits 10 ys → Keeps (digits_value 10 (xs ++ ys)) t
 keeps_steps xs ys a b s t empty front whole is all more = rw (← is, whole, front, empty) (keeps_both xs ys all more)
 
-shorter_at : (n m k : ℕ) → n % 10 ≡ 0 → 10 ^ 38 ≤ m → m % 10 ≢ 0 → m * 10 ^ k ≤ n → n < (m + 1) * 10 ^ k → IsTooLong (n / 10)
+shorter_at : (n m k : ℕ) → n % 10 ≡ 0 → magnitude_limit ≤ m → m % 10 ≢ 0 → m * 10 ^ k ≤ n → n < (m + 1) * 10 ^ k → IsTooLong (n / 10)
 shorter_at n m zero e long ends from below =
     let low : m ≤ n = rw mul-one at from in
     let high : n < m + 1 = rw mul-one at below in
@@ -102,7 +103,7 @@ shorter_at n m (suc k) e long ends from below =
 shorter : (n : ℕ) → n % 10 ≡ 0 → IsTooLong n → IsTooLong (n / 10)
 shorter n e h = shorter_at n h.front h.places e h.long h.ends h.from h.below
 
-pub reduced_too_long : (n s : ℕ) → IsTooLong n → 10 ^ 38 ≤ (reduced n s).0
+pub reduced_too_long : (n s : ℕ) → IsTooLong n → magnitude_limit ≤ (reduced n s).0
 reduced_too_long n zero h = rw (reduced_whole n) (le_trans h.long (le_trans (le-mul_of_pos_right h.front (power_pos h.places)) h.from))
 reduced_too_long n (suc s) h =
     ⊎_elim
@@ -115,5 +116,5 @@ pub too_long_wide : (b : Bool) (n : ℕ) (e : ℤ) → IsTooLong n → ¬ (IsExa
 too_long_wide b n (pos k) h exact =
     too_big b (n * 10 ^ k) (le_trans (rw (reduced_whole n) at (reduced_too_long n 0 h)) (le-mul_of_pos_right n (power_pos k))) exact
 too_long_wide b n (negsuc k) h exact =
-    let small : ((reduced n (suc k)).0 < 10 ^ 38) × ((reduced n (suc k)).1 ≤ 38) = reduced_from_exact b n (suc k) (reduced n (suc k)) refl exact in
+    let small : ((reduced n (suc k)).0 < magnitude_limit) × ((reduced n (suc k)).1 ≤ max_scale) = reduced_from_exact b n (suc k) (reduced n (suc k)) refl exact in
     omega (arith, small.0, reduced_too_long n (suc k) h)

@@ -3,6 +3,7 @@ use Rattle.std.proofs.Common.{◌≡◌, ℕ, zero, suc, ◌+◌, ◌-◌, ◌*�
 use Rattle.std.proofs.lemmas.Fmt.{decimal_digit, decimal_step_wide}
 use Rattle.std.proofs.Math.Seq.{take-append_seam, drop-append_seam}
 use Rattle.std.proofs.Math.Nat.{div-div-eq-div-mul, div-eq_of_lt, pow-succ'}
+use Rattle.sj_decimal.specs.Limits.{max_scale, magnitude_limit}
 use Rattle.sj_decimal.specs.Text.{last_digits, decimals_text}
 use Rattle.sj_decimal.proofs.Powers.{power_pos, power_le}
 
@@ -40,7 +41,7 @@ decimal_after_one (suc k) f few small =
     ∙ ap (λ (xs : List ℕ). 49 ∷ xs) (sym (last_digits_more k f))
 
 -- what the code writes with a one before it
-pub digits_after_one : (k rest p : ℕ) (text : List ℕ) → k ≤ 38 → rest < 10 ^ k → p ≡ 10 ^ k → text ≡ decimal (p + rest) → text ≡ 49 ∷ last_digits k rest
+pub digits_after_one : (k rest p : ℕ) (text : List ℕ) → k ≤ max_scale → rest < 10 ^ k → p ≡ 10 ^ k → text ≡ decimal (p + rest) → text ≡ 49 ∷ last_digits k rest
 digits_after_one k rest p text few small power is =
     is ∙ ap (λ (x : ℕ). decimal (x + rest)) power ∙ decimal_after_one k rest (omega arith) small
 
@@ -49,7 +50,7 @@ decimals_text-positive zero m h = absurd (omega arith)
 decimals_text-positive (suc s) m h = refl
 
 -- the digits of a number are those of its whole part and its decimals
-decimal_parts : (s m : ℕ) → 10 ^ s ≤ m → m < 10 ^ 38 → decimal m ≡ decimal (m / 10 ^ s) ++ last_digits s m
+decimal_parts : (s m : ℕ) → 10 ^ s ≤ m → m < magnitude_limit → decimal m ≡ decimal (m / 10 ^ s) ++ last_digits s m
 decimal_parts zero m some small = ap decimal (omega arith) ∙ sym (append-nil (decimal (m / 10 ^ 0))) ∙ ap (λ (xs : List ℕ). decimal (m / 10 ^ 0) ++ xs) (sym (last_digits_none m))
 decimal_parts (suc s) m some small =
     let power : 10 ^ suc s ≡ 10 ^ s * 10 = pow-suc 10 s in
@@ -64,7 +65,7 @@ decimal_parts (suc s) m some small =
 -- ---- what the code appends
 
 -- the digits, cut before the last s
-pub cut_digits : (s m : ℕ) (digits : List ℕ) → 10 ^ s ≤ m → m < 10 ^ 38 → digits ≡ decimal m
+pub cut_digits : (s m : ℕ) (digits : List ℕ) → 10 ^ s ≤ m → m < magnitude_limit → digits ≡ decimal m
     → (s ≤ length digits) × (take (length digits - s) digits ≡ decimal (m / 10 ^ s)) × (drop (length digits - s) digits ≡ last_digits s m)
 cut_digits s m digits some small is =
     let whole : List ℕ = decimal (m / 10 ^ s) in

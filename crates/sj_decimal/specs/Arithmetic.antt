@@ -2,15 +2,16 @@
 use Rattle.std.specs.Prelude.{ℕ, ◌+◌, ◌-◌, ◌^◌, max, Bool, ◌&&◌, ◌==◌, nat_lt, nat_le, if◌then◌else◌, ℤ, pos, ◌+ℤ◌, ◌-ℤ◌, ◌*ℤ◌, unsigned_abs, int_div, Result, Ok, Err}
 use Rattle.sj_decimal.specs.declared.arithmetic.NumFault.{NumFault}
 use Rattle.sj_decimal.specs.declared.arithmetic.NumFault.TheVariants.{Range, ZeroDivide}
+use Rattle.sj_decimal.specs.Limits.{max_scale, magnitude_limit}
 use Rattle.sj_decimal.specs.Normal.{normal}
 
--- the coefficient is below 10 ^ 38 in magnitude
+-- the coefficient is below the limit in magnitude
 abbrev pub is_below_limit : ℤ → Bool
-is_below_limit c = nat_lt (unsigned_abs c) (10 ^ 38)
+is_below_limit c = nat_lt (unsigned_abs c) magnitude_limit
 
--- c / 10 ^ s in normal form, where c is below the limit before it is reduced, and the normal form has at most 38 decimals
+-- c / 10 ^ s in normal form, where c is below the limit before it is reduced, and the normal form has no more decimals than may be
 unfoldable pub limited : ℤ → ℕ → Result (ℤ × ℕ) NumFault
-limited c s = if is_below_limit c && nat_le (normal (c, s)).1 38 then Ok (normal (c, s)) else Err Range
+limited c s = if is_below_limit c && nat_le (normal (c, s)).1 max_scale then Ok (normal (c, s)) else Err Range
 
 -- the coefficient of d at the scale s, which is not below its own
 abbrev pub coefficient_at : ℕ → ℤ × ℕ → ℤ
@@ -43,7 +44,7 @@ remainder a b = unless_zero b (at_larger_scale rest a b)
 
 -- d in normal form, where that is exact
 unfoldable pub exact_or_range : ℤ × ℕ → Result (ℤ × ℕ) NumFault
-exact_or_range d = if is_below_limit (normal d).0 && nat_le (normal d).1 38 then Ok (normal d) else Err Range
+exact_or_range d = if is_below_limit (normal d).0 && nat_le (normal d).1 max_scale then Ok (normal d) else Err Range
 
 -- a / b times 10 ^ 16, cut toward zero
 abbrev pub quotient_16 : ℤ × ℕ → ℤ × ℕ → ℤ

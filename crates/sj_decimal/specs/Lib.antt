@@ -1,6 +1,7 @@
 pub mod Arithmetic
 pub mod Compare
 pub mod Exact
+pub mod Limits
 pub mod Magnitudes
 pub mod Normal
 pub mod Number

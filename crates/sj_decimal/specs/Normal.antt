@@ -1,6 +1,7 @@
 -- A decimal is a pair (c, s) of a whole number c, the coefficient, and a count s of decimals, the scale. It stands for c / 10 ^ s.
 -- The definitions here and in the other files are on whole numbers of any size, and know no limit but those that they state.
 use Rattle.std.specs.Prelude.{◌≡◌, ◌≢◌, ℕ, zero, suc, ◌/◌, ◌%◌, ◌^◌, ◌<◌, ◌≤◌, ◌==◌, if◌then◌else◌, ℤ, pos, ◌*ℤ◌, unsigned_abs}
+use Rattle.sj_decimal.specs.Limits.{max_scale, magnitude_limit}
 use Rattle.sj_decimal.specs.Signed.{signed, is_negative}
 
 -- two pairs stand for one number
@@ -20,14 +21,14 @@ reduced n (suc s) = if n % 10 == 0 then reduced (n / 10) s else (n, suc s)
 unfoldable pub normal : ℤ × ℕ → ℤ × ℕ
 normal d = let r = reduced (unsigned_abs d.0) d.1 in (signed (is_negative d.0) r.0, r.1)
 
--- the coefficient has at most 38 digits
+-- the coefficient has no more digits than may be
 abbrev pub IsBelowLimit : ℤ → Type 0
-IsBelowLimit c = unsigned_abs c < 10 ^ 38
+IsBelowLimit c = unsigned_abs c < magnitude_limit
 
--- at most 38 digits and at most 38 decimals
+-- no more digits and no more decimals than may be
 pub record IsWithinLimits (d : ℤ × ℕ) : Type 0 where
   pub coefficient : IsBelowLimit d.0
-  pub scale : d.1 ≤ 38
+  pub scale : d.1 ≤ max_scale
 
 -- the number that d stands for is exact: its normal form is within the limits
 unfoldable pub IsExact : ℤ × ℕ → Type 0

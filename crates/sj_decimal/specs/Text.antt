@@ -1,6 +1,7 @@
 -- The text of a decimal.
 use Rattle.std.specs.Prelude.{ℕ, zero, suc, ◌+◌, ◌-◌, ◌*◌, ◌/◌, ◌<◌, ◌≤◌, ◌%◌, ◌^◌, List, [], ◌∷◌, ◌++◌, ℤ, pos, ◌*ℤ◌, unsigned_abs, decimal}
 use Rattle.std.specs.Fmt.{sign_text}
+use Rattle.sj_decimal.specs.Limits.{magnitude_limit}
 use Rattle.sj_decimal.specs.Signed.{is_negative}
 
 -- the last k digits of n
@@ -21,7 +22,7 @@ decimal_text d = sign_text (is_negative d.0) ++ (decimal (unsigned_abs d.0 / 10 
 abbrev pub with_places : ℕ → ℤ × ℕ → ℤ × ℕ
 with_places places d = (d.0 *ℤ pos (10 ^ (places - d.1)), places)
 
--- d, which is in normal form, times 10 ^ places is a whole number below 10 ^ 38 in magnitude
+-- d, which is in normal form, times 10 ^ places is a whole number below the limit in magnitude
 pub record FitsPlaces (places : ℕ) (d : ℤ × ℕ) : Type 0 where
   pub whole : d.1 ≤ places
-  pub below : unsigned_abs d.0 * 10 ^ (places - d.1) < 10 ^ 38
+  pub below : unsigned_abs d.0 * 10 ^ (places - d.1) < magnitude_limit

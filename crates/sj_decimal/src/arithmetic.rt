@@ -1,5 +1,6 @@
 //! Sums, differences, products, quotients and remainders.
 ghost use Rattle.std.specs.Prelude.{◌≡◌, ◌<◌, ◌≤◌, ◌^◌, ◌+◌, ◌+ℤ◌, max, neg_ℤ, pos, unsigned_abs, IfOk};
+ghost use Rattle.sj_decimal.specs.Limits.{magnitude_limit};
 ghost use Rattle.sj_decimal.specs.Signed.{signed};
 ghost use Rattle.sj_decimal.specs.Normal.{IsDecimal};
 ghost use Rattle.sj_decimal.specs.Arithmetic.{sum, difference, product, remainder, limited};
@@ -153,8 +154,8 @@ fn magnitudes(
 
 /// The sign and magnitude of a sum.
 fn signed_sum(negative: bool, magnitude: u128, other_negative: bool, other: u128) -> (bool, u128)
-    requires left { magnitude < 10 ^ 38 }
-    requires right { other < 10 ^ 38 }
+    requires left { magnitude < magnitude_limit }
+    requires right { other < magnitude_limit }
     ensures { signed result.0 result.1 ≡ signed negative magnitude +ℤ signed other_negative other }
 {
     if negative == other_negative {

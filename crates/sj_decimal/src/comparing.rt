@@ -2,6 +2,7 @@
 ghost use Rattle.std.specs.Prelude.{◌≡◌, ◌↔◌, ◌*◌, ◌^◌, ◌<◌, refl};
 ghost use Rattle.std.specs.declared.cmp.Ordering.TheVariants.{Equal};
 ghost use Rattle.std.specs.Ordering.{nat_cmp};
+ghost use Rattle.sj_decimal.specs.Limits.{magnitude_limit};
 ghost use Rattle.sj_decimal.specs.Normal.{IsDecimal};
 ghost use Rattle.sj_decimal.specs.Compare.{decimal_cmp, decimal_eq, decimal_partial_cmp, decimal_total, decimal_equivalence, decimal_partial_equivalence, decimal_partial_order};
 
@@ -96,8 +97,8 @@ impl PartialOrd for Decimal {
 
 /// Compares `left / 10^left_scale` with `right / 10^right_scale`, where both magnitudes are below the limit.
 fn compare_magnitudes(left: u128, left_scale: u32, right: u128, right_scale: u32) -> Ordering
-    requires left { left < 10 ^ 38 }
-    requires right { right < 10 ^ 38 }
+    requires left { left < magnitude_limit }
+    requires right { right < magnitude_limit }
     ensures { result ≡ nat_cmp (left * 10 ^ right_scale) (right * 10 ^ left_scale) }
 {
     if left_scale == right_scale {

@@ -1,6 +1,7 @@
 //! The type of exact decimals.
 ghost use Rattle.std.specs.Prelude.{◌≡◌, ◌≤◌, IfSome};
 ghost use Rattle.std.specs.Option.{SomeIff};
+ghost use Rattle.sj_decimal.specs.Limits.{max_scale};
 ghost use Rattle.sj_decimal.specs.Signed.{signed};
 ghost use Rattle.sj_decimal.specs.Normal.{normal, IsExact, IsDecimal, IsSameNumber};
 
@@ -78,7 +79,7 @@ impl Decimal {
     /// The decimal `magnitude / 10^scale` with this sign. A magnitude of 64 bits is below 10^38, so it is exact.
     #[inline(always)]
     pub fn from_short(negative: bool, magnitude: u64, scale: u32) -> Decimal
-        requires { scale ≤ 38 }
+        requires { scale ≤ max_scale }
         ensures exact { IsExact (signed negative magnitude, scale) }
         ensures value { result ≡ normal (signed negative magnitude, scale) }
         ensures decimal { IsDecimal result }

@@ -1,5 +1,6 @@
 //! Quotients by long division, a digit at a time.
 ghost use Rattle.std.specs.Prelude.{◌≡◌, ◌<◌, ◌≤◌, ◌^◌, ◌+◌, ◌*◌, ◌/◌, ◌%◌, IfOk};
+ghost use Rattle.sj_decimal.specs.Limits.{max_scale, magnitude_limit};
 ghost use Rattle.sj_decimal.specs.Signed.{signed};
 ghost use Rattle.sj_decimal.specs.Normal.{IsDecimal};
 ghost use Rattle.sj_decimal.specs.Arithmetic.{exact_or_range};
@@ -47,10 +48,10 @@ impl Decimal {
 
 /// The quotient `left * 10^count / right`, cut to a whole number, of whose digits the last 16 are decimals.
 fn quotient(negative: bool, left: u128, right: u128, count: u32) -> Result<Decimal, NumFault>
-    requires left { left < 10 ^ 38 }
-    requires right { right < 10 ^ 38 }
+    requires left { left < magnitude_limit }
+    requires right { right < magnitude_limit }
     requires divisor { 0 < right }
-    requires count { count ≤ 54 }
+    requires count { count ≤ max_scale + QUOTIENT_SCALE }
     ensures value { result ≡ exact_or_range (signed negative (left * 10 ^ count / right), 16) }
     ensures decimal { IfOk result IsDecimal }
 {
@@ -65,11 +66,11 @@ fn quotient(negative: bool, left: u128, right: u128, count: u32) -> Result<Decim
 
 /// The digits of `left * 10^count / right`, cut to a whole number.
 fn quotient_digits(left: u128, right: u128, count: u32) -> Significand
-    requires left { left < 10 ^ 38 }
-    requires right { right < 10 ^ 38 }
+    requires left { left < magnitude_limit }
+    requires right { right < magnitude_limit }
     requires divisor { 0 < right }
     ensures value { Keeps (left * 10 ^ count / right) result }
-    ensures bound { zeros_of result ≤ 38 + count }
+    ensures bound { zeros_of result ≤ max_scale + count }
 {
     let mut significand = Significand::of(left / right);
     let mut rest = left % right;
@@ -84,7 +85,7 @@ fn quotient_digits(left: u128, right: u128, count: u32) -> Significand
 /// The next digit of a quotient, and what is then left. Ten times `rest` may pass 128 bits, so it is made of sums.
 fn next_digit(rest: u128, divisor: u128) -> (u8, u128)
     requires rest { rest < divisor }
-    requires divisor { divisor < 10 ^ 38 }
+    requires divisor { divisor < magnitude_limit }
     ensures digit { result.0 ≡ rest * 10 / divisor }
     ensures rest { result.1 ≡ rest * 10 % divisor }
     ensures bound { result.0 < 10 }
@@ -99,7 +100,7 @@ fn next_digit(rest: u128, divisor: u128) -> (u8, u128)
 
 /// The sum of two numbers, each given as a quotient and a rest of the division by `divisor`.
 fn sum_of(left: (u8, u128), right: (u8, u128), divisor: u128) -> (u8, u128)
-    requires divisor { divisor < 10 ^ 38 }
+    requires divisor { divisor < magnitude_limit }
     requires left { left.1 < divisor }
     requires right { right.1 < divisor }
     requires digits { left.0 + right.0 < 255 }
@@ -121,9 +122,9 @@ impl Significand {
 
     /// The digits of a number below the limit.
     fn of(number: u128) -> Significand
-        requires { number < 10 ^ 38 }
+        requires { number < magnitude_limit }
         ensures value { Keeps number result }
-        ensures bound { zeros_of result ≤ 38 }
+        ensures bound { zeros_of result ≤ max_scale }
     {
         let (magnitude, places) = reduce(number, MAX_SCALE);
         Significand::Fits {

@@ -27,4 +27,6 @@ mod text;
 pub use arithmetic::NumFault;
 pub use comparing::Compare;
 pub use decimal::Decimal;
+pub use magnitude::MAX_DIGITS;
 pub use parsing::{Parsed, is_number};
+pub use text::MAX_TEXT_LEN;

@@ -1,9 +1,13 @@
 //! Whole numbers without a sign.
 ghost use Rattle.std.specs.Prelude.{◌≡◌, ◌*◌, ◌/◌, ◌%◌, ◌^◌, ◌<◌, ◌≤◌};
 ghost use Rattle.std.specs.Option.{SomeIff};
+ghost use Rattle.sj_decimal.specs.Limits.{max_scale, magnitude_limit};
 ghost use Rattle.sj_decimal.specs.Normal.{reduced};
 
-/// No coefficient reaches this number: it has at most 38 digits.
+/// The most digits that the coefficient of an exact number has.
+pub const MAX_DIGITS: u32 = 38;
+
+/// The least number with more digits than that, which no coefficient reaches.
 pub(crate) const LIMIT: u128 = 100_000_000_000_000_000_000_000_000_000_000_000_000;
 
 /// The most decimals that an exact number has.
@@ -54,8 +58,10 @@ fn reduce_long(magnitude: u128, scale: u32) -> (u128, u32)
     (long, places)
 }
 
+const POWER_COUNT: usize = MAX_DIGITS as usize + 1;
+
 /// The powers of ten up to the limit.
-const POWERS: [u128; 39] = [
+const POWERS: [u128; POWER_COUNT] = [
     1,
     10,
     100,
@@ -99,10 +105,10 @@ const POWERS: [u128; 39] = [
 
 /// `10^places`.
 pub(crate) fn power_of_ten(places: u32) -> u128
-    requires { places ≤ 38 }
+    requires { places ≤ max_scale }
     ensures value { result ≡ 10 ^ places }
     ensures positive { 0 < result }
-    ensures bound { result ≤ 10 ^ 38 }
+    ensures bound { result ≤ magnitude_limit }
 {
     POWERS[places as usize]
 }
@@ -123,7 +129,7 @@ pub(crate) fn divided(magnitude: u128, divisor: u128) -> (u128, u128)
 
 /// `magnitude * 10^places`, where that is below the limit.
 pub(crate) fn scaled(magnitude: u128, places: u32) -> Option<u128>
-    ensures { SomeIff result (magnitude * 10 ^ places < 10 ^ 38) (magnitude * 10 ^ places) }
+    ensures { SomeIff result (magnitude * 10 ^ places < magnitude_limit) (magnitude * 10 ^ places) }
 {
     if places == 0 {
         return if magnitude < LIMIT {

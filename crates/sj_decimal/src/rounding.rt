@@ -1,5 +1,6 @@
 //! Whole numbers near a decimal, and rounding.
 ghost use Rattle.std.specs.Prelude.{◌≡◌, ◌<◌, ◌≤◌, ◌^◌, ◌+◌, ◌*◌, ◌/◌, IfOk};
+ghost use Rattle.sj_decimal.specs.Limits.{max_digits, max_scale, magnitude_limit};
 ghost use Rattle.sj_decimal.specs.Signed.{signed};
 ghost use Rattle.sj_decimal.specs.Normal.{IsDecimal};
 ghost use Rattle.sj_decimal.specs.Rounding.{floor_of, ceiling_of, whole_of, rounded_within};
@@ -33,7 +34,7 @@ impl Decimal {
     }
 
     fn whole(negative: bool, magnitude: u128) -> Decimal
-        requires { magnitude < 10 ^ 38 }
+        requires { magnitude < magnitude_limit }
         ensures value { result ≡ (signed negative magnitude, 0) }
         ensures decimal { IsDecimal result }
     {
@@ -57,7 +58,7 @@ impl Decimal {
     #[inline]
     pub fn round_to(self, p: u32, s: u32) -> Result<Decimal, NumFault>
         requires some_digits { 1 ≤ p }
-        requires digits { p ≤ 38 }
+        requires digits { p ≤ max_digits }
         requires decimals { s ≤ p }
         ensures value { result ≡ rounded_within p s self }
         ensures decimal { IfOk result IsDecimal }
@@ -77,7 +78,7 @@ impl Decimal {
     #[inline(never)]
     fn cut_to(self, p: u32, s: u32) -> Result<Decimal, NumFault>
         requires fewer { s < self.1 }
-        requires digits { p ≤ 38 }
+        requires digits { p ≤ max_digits }
         requires decimals { s ≤ p }
         ensures value { result ≡ rounded_within p s self }
         ensures decimal { IfOk result IsDecimal }
@@ -92,8 +93,8 @@ impl Decimal {
 
 /// `magnitude / 10^scale` with its decimals cut off, or with the next whole number in place of any decimals.
 fn whole_magnitude(magnitude: u128, scale: u32, away: bool) -> u128
-    requires magnitude { magnitude < 10 ^ 38 }
-    requires scale { scale ≤ 38 }
+    requires magnitude { magnitude < magnitude_limit }
+    requires scale { scale ≤ max_scale }
     ensures value { result ≡ quotient_toward away magnitude (10 ^ scale) }
     ensures bound { result ≤ magnitude }
 {
@@ -103,11 +104,11 @@ fn whole_magnitude(magnitude: u128, scale: u32, away: bool) -> u128
 
 /// `magnitude / 10^scale * 10^places` rounded half up, where some decimals are cut off.
 fn rounded_magnitude(magnitude: u128, scale: u32, places: u32) -> u128
-    requires magnitude { magnitude < 10 ^ 38 }
-    requires scale { scale ≤ 38 }
+    requires magnitude { magnitude < magnitude_limit }
+    requires scale { scale ≤ max_scale }
     requires fewer { places < scale }
     ensures value { result ≡ (2 * (magnitude * 10 ^ places) + 10 ^ scale) / (2 * 10 ^ scale) }
-    ensures bound { result < 10 ^ 38 }
+    ensures bound { result < magnitude_limit }
 {
     let power = power_of_ten(scale - places);
     let (whole, rest) = divided(magnitude, power);

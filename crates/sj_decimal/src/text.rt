@@ -1,6 +1,7 @@
 //! The text of a decimal.
 ghost use Rattle.std.specs.Prelude.{◌≡◌, ◌+◌, ◌*◌, ◌/◌, ◌^◌, ◌<◌, ◌≤◌, ◌++◌, length, decimal, unsigned_abs, Some};
 ghost use Rattle.std.specs.Fmt.{sign_text};
+ghost use Rattle.sj_decimal.specs.Limits.{max_scale, magnitude_limit};
 ghost use Rattle.sj_decimal.specs.Signed.{signed};
 ghost use Rattle.sj_decimal.specs.Normal.{IsBelowLimit};
 ghost use Rattle.sj_decimal.specs.Number.{SpellsExact};
@@ -13,10 +14,13 @@ use arrayvec::ArrayString;
 use itoa::Buffer;
 use std::fmt;
 
+/// The bytes of a decimal's text, at most.
+pub const MAX_TEXT_LEN: usize = 48;
+
 impl Decimal {
     /// The text: a minus sign where the number is negative, the whole part, and where there are decimals a point and
     /// the decimals. It is a number of RFC 8259, section 6, that spells this decimal.
-    pub fn text(self) -> ArrayString<48>
+    pub fn text(self) -> ArrayString<MAX_TEXT_LEN>
         ensures value { result.bytes ≡ decimal_text self }
         ensures spells { SpellsExact result.bytes self }
     {
@@ -25,8 +29,8 @@ impl Decimal {
 
     /// The text with exactly this many decimals. The number times 10^places has to be whole, and below 10^38 in
     /// magnitude.
-    pub fn text_places(self, places: u32) -> ArrayString<48>
-        requires places { places ≤ 38 }
+    pub fn text_places(self, places: u32) -> ArrayString<MAX_TEXT_LEN>
+        requires places { places ≤ max_scale }
         requires fits { FitsPlaces places self }
         ensures { result.bytes ≡ decimal_text (with_places places self) }
     {
@@ -51,7 +55,7 @@ impl fmt::Debug for Decimal {
 }
 
 /// A minus sign where the number is negative.
-fn sign(negative: bool) -> ArrayString<48>
+fn sign(negative: bool) -> ArrayString<MAX_TEXT_LEN>
     ensures { result.bytes ≡ sign_text negative }
 {
     let mut text = ArrayString::new();
@@ -62,9 +66,9 @@ fn sign(negative: bool) -> ArrayString<48>
 }
 
 /// The text of `magnitude / 10^scale` with this sign.
-fn written(negative: bool, magnitude: u128, scale: u32) -> ArrayString<48>
-    requires magnitude { magnitude < 10 ^ 38 }
-    requires scale { scale ≤ 38 }
+fn written(negative: bool, magnitude: u128, scale: u32) -> ArrayString<MAX_TEXT_LEN>
+    requires magnitude { magnitude < magnitude_limit }
+    requires scale { scale ≤ max_scale }
     ensures { result.bytes ≡ sign_text negative ++ (decimal (magnitude / 10 ^ scale) ++ decimals_text scale magnitude) }
 {
     let mut text = sign(negative);
@@ -79,9 +83,9 @@ fn written(negative: bool, magnitude: u128, scale: u32) -> ArrayString<48>
 }
 
 /// Appends a zero, a point and so many decimals, whose number is `magnitude`.
-fn push_fraction(text: &mut ArrayString<48>, magnitude: u128, scale: u32)
+fn push_fraction(text: &mut ArrayString<MAX_TEXT_LEN>, magnitude: u128, scale: u32)
     requires some { 0 < scale }
-    requires scale { scale ≤ 38 }
+    requires scale { scale ≤ max_scale }
     requires magnitude { magnitude < 10 ^ scale }
     requires room { array_string_len text.old ≤ 1 }
     ensures { text.new.bytes ≡ text.old.bytes ++ (decimal (magnitude / 10 ^ scale) ++ decimals_text scale magnitude) }
@@ -94,10 +98,10 @@ fn push_fraction(text: &mut ArrayString<48>, magnitude: u128, scale: u32)
 }
 
 /// Appends the digits of `magnitude`, with a point before the last `scale` of them.
-fn push_digits(text: &mut ArrayString<48>, magnitude: u128, scale: u32)
+fn push_digits(text: &mut ArrayString<MAX_TEXT_LEN>, magnitude: u128, scale: u32)
     requires some { 0 < scale }
     requires whole { 10 ^ scale ≤ magnitude }
-    requires magnitude { magnitude < 10 ^ 38 }
+    requires magnitude { magnitude < magnitude_limit }
     requires room { array_string_len text.old ≤ 1 }
     ensures { text.new.bytes ≡ text.old.bytes ++ (decimal (magnitude / 10 ^ scale) ++ decimals_text scale magnitude) }
 {

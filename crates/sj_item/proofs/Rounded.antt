@@ -2,6 +2,7 @@
 use Rattle.std.proofs.Common.{◌≡◌, ℕ, ◌+◌, ◌*◌, ◌/◌, ◌^◌, ◌<◌, ◌≤◌, Bool, true, false, cond, nat_lt, ℤ, unsigned_abs, Result, Ok, Err, refl, ap, ◌∙◌, arith, mul-le-mul, le_refl, add-mul, one-mul}
 use Rattle.std.proofs.lemmas.Bool.Decides.{nat_tests}
 use Rattle.std.proofs.Math.Nat.{div-lt_iff_lt-mul}
+use Rattle.sj_decimal.specs.Limits.{max_digits, magnitude_limit}
 use Rattle.sj_decimal.specs.declared.arithmetic.NumFault.{NumFault}
 use Rattle.sj_decimal.specs.declared.arithmetic.NumFault.TheVariants.{Range}
 use Rattle.sj_decimal.specs.Normal.{normal, IsDecimal}
@@ -44,9 +45,9 @@ not_greater m p some =
     (div-lt_iff_lt-mul {k = 2 * p} {x = 2 * (m * 10 ^ 0) + p} {y = m + 1} (omega (arith, some))).1 (rw next (omega (arith, twice, some)))
 
 -- so each decimal has one
-pub whole_exists : (d : ℤ × ℕ) (fault : NumFault) → IsDecimal d → rounded_within 38 0 d ≡ Err fault → ⊥
+pub whole_exists : (d : ℤ × ℕ) (fault : NumFault) → IsDecimal d → rounded_within max_digits 0 d ≡ Err fault → ⊥
 whole_exists d fault h e =
     let q : ℕ = (2 * (unsigned_abs d.0 * 10 ^ 0) + 10 ^ d.1) / (2 * 10 ^ d.1) in
     let size : unsigned_abs (rounded 0 d) ≡ q = unsigned_abs-signed (is_negative d.0) q in
-    let large : 10 ^ 38 ≤ unsigned_abs (rounded 0 d) = not_lt_from (unsigned_abs (rounded 0 d)) (10 ^ 38) (fault_from_test _ _ fault e) in
+    let large : magnitude_limit ≤ unsigned_abs (rounded 0 d) = not_lt_from (unsigned_abs (rounded 0 d)) magnitude_limit (fault_from_test _ _ fault e) in
     omega (arith, size, large, not_greater (unsigned_abs d.0) (10 ^ d.1) (power_pos d.1), h.limits.coefficient)

@@ -14,7 +14,7 @@ ghost use Rattle.sj_item.specs.Answers.{IsText, values, made_texts};
 use crate::held::ShortText;
 use crate::item::Item;
 use sj_base::State;
-use sj_decimal::{Decimal, Parsed};
+use sj_decimal::{Decimal, MAX_DIGITS, Parsed};
 use sj_doc::{Kind, NodeRef, Num};
 
 /// An item as an exact number: a number, or a string that is a number by RFC 8259, with no white space round it.
@@ -73,7 +73,7 @@ pub fn to_truth<'d>(item: Item<'d>) -> Result<bool, State>
 }
 
 /// An item as a text: a string as it is, an exact number by its text, another number by its spelling, and a truth value
-/// as `true` or `false`. The text is lent where it lies, or is of at most 48 bytes, so no memory is taken.
+/// as `true` or `false`. The text is lent where it lies, or is short enough to be held, so no memory is taken.
 ///
 /// # Errors
 /// 2203G on a null. 2203F on an array or an object.
@@ -153,9 +153,9 @@ fn spelled(string: &str) -> Result<Decimal, State>
 fn whole(number: Decimal) -> Decimal
     ensures { result ≡ (rounded 0 number, 0) }
 {
-    // shows the proof that it has at most 38 digits, which rounding keeps
+    // shows the proof that it has no more digits than may be, which rounding keeps
     let _ = number.parts();
-    match number.round_to(38, 0) {
+    match number.round_to(MAX_DIGITS, 0) {
         Ok(whole) => whole,
         Err(_) => unreachable!(),
     }

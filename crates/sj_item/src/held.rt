@@ -1,9 +1,11 @@
 // What an item holds in itself.
 ghost use Rattle.std.specs.Prelude.{◌≡◌, ◌+◌, ◌*◌, ◌^◌, ◌<◌, ◌≤◌, length, take, IsUtf8};
+ghost use Rattle.sj_decimal.specs.Limits.{magnitude_limit};
 ghost use Rattle.sj_decimal.specs.Signed.{signed};
 ghost use Rattle.sj_decimal.specs.Normal.{IsDecimal};
+ghost use Rattle.sj_decimal.specs.declared.text.TheConstants.{MAX_TEXT_LEN};
 
-use sj_decimal::Decimal;
+use sj_decimal::{Decimal, MAX_TEXT_LEN};
 
 /// How much one of the upper half of a magnitude is.
 const UPPER: u128 = 1 << 64;
@@ -46,19 +48,20 @@ impl Exact {
 }
 
 fn coefficient(negative: bool, magnitude: u128) -> i128
-    requires { magnitude < 10 ^ 38 }
+    requires { magnitude < magnitude_limit }
     ensures { result ≡ signed negative magnitude }
 {
     let magnitude = magnitude as i128;
     if negative { -magnitude } else { magnitude }
 }
 
-/// A text of at most 48 bytes, as an item holds it. Contracts see its bytes, `short_text`, which are always UTF-8.
+/// A text as long as that of a decimal may be, as an item holds it. Contracts see its bytes, `short_text`, which are
+/// always UTF-8.
 #[derive(Clone, Copy)]
 pub struct ShortText {
     bytes: [u8; ShortText::MAX_LEN],
     len: usize,
-    ghost fits: { len ≤ 48 },
+    ghost fits: { len ≤ MAX_TEXT_LEN },
     ghost text: { ∥ IsUtf8 (take len bytes) ∥₁ },
 }
 
@@ -66,11 +69,11 @@ impl ShortText {
     ghost use Rattle.sj_item.specs.Held.{short_text};
 
     /// The greatest length, in bytes.
-    pub const MAX_LEN: usize = 48;
+    pub const MAX_LEN: usize = MAX_TEXT_LEN;
 
     /// Holds a copy of the text.
     pub fn new(text: &str) -> ShortText
-        requires { length text.now ≤ 48 }
+        requires { length text.now ≤ ShortText.MAX_LEN }
         ensures { short_text result ≡ text.now }
     {
         let mut bytes = [0; ShortText::MAX_LEN];

@@ -20,7 +20,7 @@ pub enum Item<'d> {
     Num(Exact),
     /// A made text, which lies elsewhere.
     Text(&'d str),
-    /// A made text of at most 48 bytes.
+    /// A made text of at most `ShortText::MAX_LEN` bytes.
     Short(ShortText),
     /// A made truth value.
     Bool(bool),

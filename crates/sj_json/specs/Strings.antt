@@ -1,6 +1,6 @@
 -- The text of a string, between its quotation marks (RFC 8259, section 7). It is cut into pieces: bytes that
 -- stand for themselves, and escapes.
-use Rattle.std.specs.Prelude.{◌≡◌, ℕ, ◌+◌, List, [], ◌∷◌, ◌++◌, length, true, false, Option, Some, None}
+use Rattle.std.specs.Prelude.{◌≡◌, ℕ, List, [], ◌∷◌, ◌++◌, length, true, false, Option, Some, None}
 use Rattle.std.specs.List.{AllByRecursion, flat_map}
 use Rattle.std.specs.Char.{encode_utf8}
 use Rattle.std.specs.Str.Parse.{AllDigits, digits_value}

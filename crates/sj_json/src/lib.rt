@@ -1,7 +1,8 @@
 //! What JSON is here: trees, the texts that spell them (RFC 8259), printed texts, and repeated keys.
 //!
 //! The crate has definitions, in `specs/`, and laws about them, each the contract of a function that
-//! does nothing. The crates that hold, read and print documents cite the definitions.
+//! does nothing. The crates that hold, read and print documents cite the definitions, and those that
+//! read take the greatest length of a text from here.
 //!
 //! - `Tree`: the JSON tree, its nodes numbered in preorder (`numbered`, `subtree`, `below`, `node_count`).
 //! - `Strings`: which texts spell a string, with its escapes.
@@ -23,6 +24,9 @@ ghost use Rattle.sj_json.specs.Document.{document};
 ghost use Rattle.sj_json.specs.Printing.{printed, IsTree};
 ghost use Rattle.sj_json.specs.Keys.{HasUniqueKeys};
 ghost use Rattle.sj_json.specs.UniqueKeys.{has_unique_keys};
+
+/// The greatest length of a JSON text, in bytes.
+pub const MAX_LENGTH: usize = 16_777_216;
 
 /// A text spells at most one tree.
 pub fn one_tree()

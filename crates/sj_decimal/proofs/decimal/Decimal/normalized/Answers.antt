@@ -1,4 +1,5 @@
-use Rattle.std.proofs.Common.{◌<◌, ◌≤◌, ◌^◌, ◌∙◌, arith}
+use Rattle.std.proofs.Common.{◌<◌, ◌≤◌, ◌∙◌, arith}
+use Rattle.sj_decimal.specs.Limits.{max_scale, magnitude_limit}
 use Rattle.sj_decimal.specs.Signed.{signed}
 use Rattle.sj_decimal.proofs.NormalForm.{exact_from_reduced, reduced_from_exact, IsDecimal-normal, normal_from_reduced}
 use Rattle.sj_decimal.proofs.decimal.Decimal.normalized.Goals as goal
@@ -7,7 +8,7 @@ use Rattle.sj_decimal.proofs.decimal.Decimal.normalized.Goals.{then-magnitude-ge
 pub returns-then-magnitude-ge-LIMIT-clause-value :
     goal.returns-then-magnitude-ge-LIMIT-clause-value
 returns-then-magnitude-ge-LIMIT-clause-value c h =
-    let small : (c.reduce-magnitude.result.0 < 10 ^ 38) × (c.reduce-magnitude.result.1 ≤ 38) =
+    let small : (c.reduce-magnitude.result.0 < magnitude_limit) × (c.reduce-magnitude.result.1 ≤ max_scale) =
     reduced_from_exact c.args.negative c.args.magnitude c.args.scale c.reduce-magnitude.result c.reduce-magnitude.ensures h in
     elim c.then-magnitude-ge-LIMIT.branch [
       | then-magnitude-ge-LIMIT-via-then-magnitude-ge-LIMIT w ↦ omega arith

@@ -1,6 +1,7 @@
 use Rattle.std.proofs.Common.{◌≡◌, pos, negsuc, ◌<ℤ◌, arith, to_z, of_z, to_z-of_z, int_lt, true, unsigned_abs}
 use Rattle.std.specs.Int.{w128}
 use Rattle.std.proofs.lemmas.Int.{ints}
+use Rattle.sj_decimal.specs.Limits.{max_scale}
 use Rattle.sj_decimal.specs.Signed.{signed}
 use Rattle.sj_decimal.specs.Number.{shifted}
 use Rattle.sj_decimal.specs.Parses.{option_parsed}
@@ -29,7 +30,7 @@ pub returns-then-shift-clause-value : goal.returns-then-shift-clause-value
 returns-then-shift-clause-value c =
     too_far_right c.args.negative c.args.magnitude c.args.shift (omega (arith, c.if-magnitude-eq0.false))
     (let same : to_z w128 (of_z w128 c.args.shift) ≡ c.args.shift = to_z-of_z c.ranges.shift in
-    let far : int_lt (pos 38) c.args.shift ≡ true = simp same at c.if-shift.true in
+    let far : int_lt (pos max_scale) c.args.shift ≡ true = simp same at c.if-shift.true in
     grind (arith, ints))
 
 pub returns-in-None-clause-value : goal.returns-in-None-clause-value
