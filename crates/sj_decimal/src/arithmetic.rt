@@ -21,6 +21,8 @@ pub enum NumFault {
 impl Decimal {
     /// The sum (ISO/IEC 9075-2, 6.29, numeric value expression). Both numbers are brought to the larger scale.
     ///
+    /// Example: 1.5 and -2.25 give -0.75 (`sj_document_tests::examples::numbers_are_computed`).
+    ///
     /// # Errors
     /// `Range` exactly where one of the coefficients at that scale, or their sum before it is reduced, reaches 10^38 in
     /// magnitude.
@@ -41,6 +43,8 @@ impl Decimal {
     }
 
     /// The difference (ISO/IEC 9075-2, 6.29, numeric value expression). Both numbers are brought to the larger scale.
+    ///
+    /// Example: 1.5 and -2.25 give 3.75 (`sj_document_tests::examples::numbers_are_computed`).
     ///
     /// # Errors
     /// `Range` exactly where one of the coefficients at that scale, or their difference before it is reduced, reaches
@@ -63,6 +67,8 @@ impl Decimal {
 
     /// The product (ISO/IEC 9075-2, 6.29, numeric value expression).
     ///
+    /// Example: 1.5 and -2.25 give -3.375 (`sj_document_tests::examples::numbers_are_computed`).
+    ///
     /// # Errors
     /// `Range` exactly where the product of the coefficients reaches 10^38 in magnitude, or the normal form of the
     /// product has more than 38 decimals.
@@ -82,6 +88,8 @@ impl Decimal {
 
     /// What is left of this number where the divisor is taken from it a whole number of times, which is the quotient
     /// cut toward zero. It has the sign of this number.
+    ///
+    /// Example: -2.25 and 1.5 give -0.75 (`sj_document_tests::examples::numbers_are_computed`).
     ///
     /// # Errors
     /// `ZeroDivide` exactly where the divisor is zero, and else `Range` exactly where a coefficient at the larger of
@@ -105,6 +113,8 @@ impl Decimal {
     }
 
     /// The number with the other sign.
+    ///
+    /// Example: -1.5 gives 1.5 (`sj_document_tests::decimals::signs`).
     pub fn neg(self) -> Decimal
         ensures value { result ≡ (neg_ℤ self.0, self.1) }
         ensures decimal { IsDecimal result }
@@ -113,6 +123,8 @@ impl Decimal {
     }
 
     /// The number without its sign.
+    ///
+    /// Example: -1.5 gives 1.5 (`sj_document_tests::decimals::signs`).
     pub fn abs(self) -> Decimal
         ensures value { result ≡ (pos (unsigned_abs self.0), self.1) }
         ensures decimal { IsDecimal result }

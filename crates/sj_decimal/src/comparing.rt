@@ -29,6 +29,8 @@ pub enum Compare {
 
 impl Decimal {
     /// Compares the two numbers. The answer is `Equal` exactly where they are one decimal.
+    ///
+    /// Example: 0.5 is greater than 0.25 (`sj_document_tests::examples::numbers_are_read`).
     pub fn cmp(self, other: Decimal) -> Ordering
         ensures value { result ≡ decimal_cmp self other }
         ensures equal { (result ≡ Equal) ↔ (self ≡ other) }

@@ -68,6 +68,8 @@ impl Decimal {
 
     /// The decimal `c / 10^s`, or `None` where that number is not exact: its normal form has 10^38 or more as the
     /// magnitude of the coefficient, or more than 38 decimals.
+    ///
+    /// Example: -1500 and 3 give -1.5; 1 and 39 give `None` (`sj_document_tests::decimals::parts`).
     pub fn from_parts(c: i128, s: u32) -> Option<Decimal>
         ensures value { SomeIff result (IsExact (c, s)) (normal (c, s)) }
         ensures decimal { IfSome result IsDecimal }
@@ -77,6 +79,8 @@ impl Decimal {
     }
 
     /// The decimal `magnitude / 10^scale` with this sign. A magnitude of 64 bits is below 10^38, so it is exact.
+    ///
+    /// Example: a sign, 1500 and 3 give -1.5 (`sj_document_tests::decimals::parts`).
     #[inline(always)]
     pub fn from_short(negative: bool, magnitude: u64, scale: u32) -> Decimal
         requires { scale ≤ max_scale }
@@ -90,6 +94,8 @@ impl Decimal {
 
     /// The decimal with this coefficient and this scale, which are in normal form, as those of `parts` are. It costs
     /// nothing but the sign.
+    ///
+    /// Example: -15 and 1 give -1.5 (`sj_document_tests::decimals::parts`).
     #[inline]
     pub fn from_normal(coefficient: i128, scale: u32) -> Decimal
         requires { IsDecimal (coefficient, scale) }
@@ -99,6 +105,8 @@ impl Decimal {
     }
 
     /// The coefficient and the scale, in normal form: the number is the first over 10 to the power of the second.
+    ///
+    /// Example: -1.5 has -15 and 1 (`sj_document_tests::decimals::parts`).
     #[inline]
     pub fn parts(self) -> (i128, u32)
         ensures value { result ≡ self }

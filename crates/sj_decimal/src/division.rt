@@ -20,6 +20,8 @@ impl Decimal {
 
     /// The quotient (ISO/IEC 9075-2, 6.29, numeric value expression), cut toward zero at 16 decimals.
     ///
+    /// Example: 1.5 and -2.25 give -0.6666666666666666 (`sj_document_tests::examples::numbers_are_computed`).
+    ///
     /// # Errors
     /// `ZeroDivide` exactly where the divisor is zero, and else `Range` exactly where the quotient that was cut is not
     /// exact.

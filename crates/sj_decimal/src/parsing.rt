@@ -31,6 +31,9 @@ impl Decimal {
     ///
     /// The exponent is read as an exact power of ten, so `1.50e1` is 15, and `0e999` is 0. Text of any length is read,
     /// in time linear in it.
+    ///
+    /// Example: `-1.50e1` is -15, `1e40` is wide, and `01` is no number
+    /// (`sj_document_tests::examples::numbers_are_read`).
     #[inline]
     pub fn parse(bytes: &[u8]) -> Parsed
         ensures value { ParsesAs bytes.now result }
@@ -56,6 +59,8 @@ impl Decimal {
 }
 
 /// Whether the whole text is a number as RFC 8259, section 6, writes it.
+///
+/// Example: `1e40` is one, and `.5` is none (`sj_document_tests::examples::numbers_are_read`).
 pub fn is_number(bytes: &[u8]) -> bool
     ensures { MatchBool result (IsNumber bytes.now) (IsNumber bytes.now → ⊥) }
 {

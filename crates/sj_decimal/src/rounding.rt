@@ -12,6 +12,8 @@ use crate::magnitude::{divided, power_of_ten};
 
 impl Decimal {
     /// The greatest whole number that is not above this one (ISO/IEC 9075-2, 6.30, numeric value function).
+    ///
+    /// Example: -2.25 gives -3 (`sj_document_tests::examples::numbers_are_rounded`).
     pub fn floor(self) -> Decimal
         ensures value { result ≡ (floor_of self, 0) }
         ensures decimal { IsDecimal result }
@@ -23,6 +25,8 @@ impl Decimal {
     }
 
     /// The least whole number that is not below this one (ISO/IEC 9075-2, 6.30, numeric value function).
+    ///
+    /// Example: -2.25 gives -2 (`sj_document_tests::examples::numbers_are_rounded`).
     pub fn ceiling(self) -> Decimal
         ensures value { result ≡ (ceiling_of self, 0) }
         ensures decimal { IsDecimal result }
@@ -42,6 +46,8 @@ impl Decimal {
     }
 
     /// The whole number that is left where the decimals are cut off.
+    ///
+    /// Example: -1.5 gives -1 (`sj_document_tests::decimals::signs`).
     pub fn to_whole(self) -> i128
         ensures { result ≡ whole_of self }
     {
@@ -52,6 +58,8 @@ impl Decimal {
 
     /// This number rounded to `s` decimals, half away from zero, where that has at most `p` digits: the value of a cast
     /// to NUMERIC(p, s) (ISO/IEC 9075-2, 6.13, cast specification).
+    ///
+    /// Example: -2.25 at 4 digits and 1 decimal gives -2.3 (`sj_document_tests::examples::numbers_are_rounded`).
     ///
     /// # Errors
     /// `Range` exactly where the rounded number times 10^s reaches 10^p in magnitude.

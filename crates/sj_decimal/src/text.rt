@@ -20,6 +20,8 @@ pub const MAX_TEXT_LEN: usize = 48;
 impl Decimal {
     /// The text: a minus sign where the number is negative, the whole part, and where there are decimals a point and
     /// the decimals. It is a number of RFC 8259, section 6, that spells this decimal.
+    ///
+    /// Example: -1500 over 10^3 has the text `-1.5` (`sj_document_tests::decimals::signs`).
     pub fn text(self) -> ArrayString<MAX_TEXT_LEN>
         ensures value { result.bytes ≡ decimal_text self }
         ensures spells { SpellsExact result.bytes self }
@@ -29,6 +31,8 @@ impl Decimal {
 
     /// The text with exactly this many decimals. The number times 10^places has to be whole, and below 10^38 in
     /// magnitude.
+    ///
+    /// Example: 9.5 with 2 decimals has the text `9.50` (`checks/rows/casts.txt`).
     pub fn text_places(self, places: u32) -> ArrayString<MAX_TEXT_LEN>
         requires places { places ≤ max_scale }
         requires fits { FitsPlaces places self }

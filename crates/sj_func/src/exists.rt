@@ -17,6 +17,9 @@ use sj_value::{ExistsAction, SqlValue};
 /// The cursor is rewound, wherever it stood, and then stands anywhere; its path and its variables stay. It takes no
 /// memory. The counter rises by no more than the children of nodes that are handed out before the first item, in strict
 /// mode by no more than all of them, and not at all on a bad context.
+///
+/// Example: on `{"a":[1,2],"b":"x"}` the path `$.a[*]` gives TRUE, and `$.c` gives FALSE
+/// (`sj_row_tests::examples::query_functions`).
 pub fn json_exists<'d, L: Ledger>(
     cursor: &mut Cursor<'d>,
     context: Context<'d>,

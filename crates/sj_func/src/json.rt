@@ -12,6 +12,8 @@ use std::alloc::Global;
 ///
 /// It asks for no steps. Unique keys take memory for the keys of one object at a time.
 ///
+/// Example: `{"a":1,"a":2}` is a JSON object, but not one with unique keys (`sj_row_tests::examples::json_predicate`).
+///
 /// # Errors
 /// [`Memory`] where memory runs out.
 pub fn is_json(

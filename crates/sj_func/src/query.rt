@@ -29,6 +29,9 @@ use std::alloc::Global;
 /// rises by no more than the children of nodes that are handed out on the way, as in `json_value` or with a wrapper all
 /// of them, and the nodes below each item that is printed; and not at all on a bad context.
 ///
+/// Example: on `{"a":[1,2],"b":"x"}` the path `$.a[*]` gives `[1,2]` with a wrapper
+/// (`sj_row_tests::examples::query_functions`).
+///
 /// # Errors
 /// [`Memory`] where memory runs out. What is said of the cursor and of the counter holds then too.
 #[tactic(auto, unfolding(crate::specs::Functions::query_outcome, crate::specs::Functions::query_cost))]

@@ -26,6 +26,9 @@ use std::alloc::Global;
 /// rises by no more than the children of nodes that are handed out before the second item, in strict mode by no more
 /// than all of them, and not at all on a bad context. A value that is given can be printed.
 ///
+/// Example: on `{"a":[1,2],"b":"x"}` the path `$.b` gives `x`, `$.c` is ON EMPTY, and `$.a[*]` is the error 22034
+/// (`sj_row_tests::examples::query_functions`).
+///
 /// # Errors
 /// [`Memory`] where memory runs out. What is said of the cursor and of the counter holds then too.
 pub fn json_value<'d, L: Ledger>(

@@ -64,6 +64,9 @@ fn parse_tokens(alloc: Global, tokens: &[Token]) -> Result<Path, PathRefusal>
 /// The path that the text spells (ISO/IEC 9075-2, 9.46), or the first refusal in the order of
 /// `PathRefusal`. It takes time linear in the text, and recurs only over what the limits of `TooDeep`
 /// bound.
+///
+/// Example: `$.a[*]` is a path, `$.a[` is refused as `Syntax`, and `$.a.double()` as `Unsupported`
+/// (`sj_row_tests::examples::query_functions` and `sj_row_tests::examples::refused_paths`).
 pub fn parse_path(alloc: Global, text: &str) -> Result<Path, PathRefusal>
     ensures path { IfOk result (λ p. Accepts text.now (path_of p)) }
     ensures refusal { IfErr result (λ e. Refuses text.now e) }

@@ -570,6 +570,8 @@ fn turn(
 ///
 /// The answer is `NotJson` exactly where the line is not well-formed UTF-8, has more than `MAX_LENGTH`
 /// bytes, opens more than `MAX_DEPTH` containers at one place, or spells no tree.
+///
+/// Example: `{"a":1,"a":2}` has two members; `[1,]` is not JSON (`sj_document_tests::examples::lines_are_read`).
 pub fn read(alloc: Global, line: &[u8]) -> Result<Doc, ReadRefusal>
     ensures ok { IfOk result (λ doc. SpellsText doc line.now × IsJson line.now) }
     ensures refused { result ≡ Err ReadRefusal.NotJson → IsJson line.now → ⊥ }
@@ -579,6 +581,8 @@ pub fn read(alloc: Global, line: &[u8]) -> Result<Doc, ReadRefusal>
 
 /// The same, in the memory of an earlier document, where there is one. A refusal gives that memory back to the
 /// allocator.
+///
+/// Example: `[1, 2, 3]` is read in the memory of the document before (`sj_document_tests::examples::lines_are_read`).
 pub fn read_over(alloc: Global, earlier: Option<Doc>, line: &[u8]) -> Result<Doc, ReadRefusal>
     ensures ok { IfOk result (λ doc. SpellsText doc line.now × IsJson line.now) }
     ensures refused { result ≡ Err ReadRefusal.NotJson → IsJson line.now → ⊥ }
