@@ -6,12 +6,12 @@ use Rattle.sj_value.specs.declared.value.SqlValue.{SqlValue}
 use Rattle.sj_build.specs.declared.refusal.BuildRefusal.{BuildRefusal}
 use Rattle.sj_build.specs.declared.refusal.BuildRefusal.TheVariants.{State, Memory}
 
--- a refusal with a state is that of the meaning; want of memory has no cause
+-- a refusal with a state is that of the meaning; being out of memory has no cause
 abbrev pub RefusesAs : Result SqlValue SqlState → BuildRefusal → Type 0
 RefusesAs meaning (State state) = meaning ≡ Err state
 RefusesAs meaning Memory = ⊤
 
--- a refusal of a field by itself has its state, and is not for want of memory
+-- a refusal of a field by itself has its state, and is not for being out of memory
 abbrev pub RefusesNull : Result (Option (List ℕ)) SqlState → BuildRefusal → Type 0
 RefusesNull kept (State state) = kept ≡ Err state
 RefusesNull kept Memory = ⊥

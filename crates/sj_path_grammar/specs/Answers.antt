@@ -41,7 +41,7 @@ pub record Accepts (text : List ℕ) (p : Path) : Type 0 where
   pub breaks : HasTokens text tokens
   pub allowed : Allows tokens p
 
--- the text is refused for this reason. Want of memory may come at any place.
+-- the text is refused for this reason. Being out of memory may come at any place.
 abbrev pub Refuses : List ℕ → PathRefusal → Type 0
 Refuses text r.Lex = (ts : Tokens) → HasTokens text ts → ⊥
 Refuses text r.TooDeep = (ts : Tokens) × HasTokens text ts × Forbids ts r.TooDeep

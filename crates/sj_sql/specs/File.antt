@@ -57,7 +57,7 @@ pub record IsFirst (file : List ℕ) (s : t.Statement Path) (behind : List ℕ) 
 abbrev pub RefusesFirst : List ℕ → FileKind → Type 0
 RefusesFirst file why = (k : ℕ) → IsLeft k file [] (Some (k, why))
 
--- the first statement, or that there is none, or why it is refused; want of memory says nothing of it
+-- the first statement, or that there is none, or why it is refused; being out of memory says nothing of it
 abbrev pub IsNext : List ℕ → Result NextStatement Refused → Type 0
 IsNext file (Ok (first.Statement s behind)) = IsFirst file (statement_of s) behind.now
 IsNext file (Ok first.End) = EndsBy file closed

@@ -29,7 +29,7 @@ noting_unsupported name f = record { path = f.path; unsupported = or_first f.uns
 abbrev pub noting_fault : FileKind → Faults → Faults
 noting_fault fault f = record { path = or_first f.path fault; unsupported = f.unsupported }
 
--- A refusal for a part that is lacking is no fault of the text; want of memory says nothing of it.
+-- A refusal for a part that is lacking is no fault of the text; being out of memory says nothing of it.
 abbrev pub noting_refusal : PathRefusal → Faults → Faults
 noting_refusal r.Lex f = noting_fault kind.PathLex f
 noting_refusal r.TooDeep f = noting_fault kind.PathTooDeep f

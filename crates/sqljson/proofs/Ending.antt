@@ -76,7 +76,7 @@ refused_as : (name : List ℕ) (s s' : ShelfSide) (k : ℕ) (kind : FileKind) (f
 refused_as name s s' k kind file shown r =
     subst (λ (f : List ℕ). (length f ≤ max_file) × Refuses f k kind) (same_file s.files name file r.file shown r.holds.is) (r.holds.short, r.refused)
 
--- where the file is accepted and the shelf did not fail, only want of memory is a reason
+-- where the file is accepted and the shelf did not fail, only being out of memory is a reason
 only_memory : (name : List ℕ) (s s' : ShelfSide) (status : Status) (file : List ℕ) (K : List Bound) → file_shown s.files (Some name) ≡ Some file → Accepts file K → length file ≤ max_file → (Rose s.faults s'.faults → ⊥)
     → IsUnaccepted name s s' status → status ≡ Memory
 only_memory name s s' ShelfFault file K shown accepts short shelf why = absurd (shelf why.0)

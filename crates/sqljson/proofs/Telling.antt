@@ -105,7 +105,7 @@ lines_cut number name s s' left faults steps steps' size o o' K rest page r acce
   );
 })
 
--- nothing but want of memory stops it
+-- nothing but being out of memory stops it
 pub lines_stopped : (number : ℕ) (name : List ℕ) (s s' : ShelfSide) (left : Option (List ℕ)) (faults steps steps' size : ℕ) (o : OutputSide) (K : List Bound) (rest : List ℕ) (page : PageSeen) (status : Status)
     → number ≤ most_lines → Accepted name s s' K → OverLines number K rest steps steps' size page status → status ≢ Done → RanLines number name s s' left faults steps steps' o o status
 lines_stopped number name s s' left faults steps steps' size o K rest page status few accepted over not_done = by_status (streamed_complete (job Any K) _ _ _ _ status (generated number) refl (generated_short number few) (λ rose. omega (arith, rose)) (λ rose. omega (arith, rose)) over)
