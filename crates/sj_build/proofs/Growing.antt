@@ -13,7 +13,7 @@ use Rattle.sj_text.specs.declared.place.Place.{Place}
 use Rattle.sj_text.specs.declared.place.Place.TheVariants.{Later}
 
 -- one text more stands behind a comma, unless it is the first
-joined-push : {X : Type 0} (text : X → List ℕ) (xs : List X) (x : X) → joined text (xs ++ x ∷ []) ≡ joined text xs ++ (lead (place_behind xs) ++ text x)
+joined-push : {X : Type 0} (text : X → List ℕ) (xs : List X) (x : X) → joined text (xs ++ x ∷ []) ≡ joined text xs ++ (comma (place_behind xs) ++ text x)
 joined-push text [] x = append-nil (text x)
 joined-push text (y ∷ xs) x =
     ap (λ l. text y ++ l) (flat_map-append (λ z. codes "," ++ text z) xs (x ∷ []) ∙ ap (λ l. flat_map (λ z. codes "," ++ text z) xs ++ l) (append-nil (codes "," ++ text x)))
