@@ -4,6 +4,7 @@ use Rattle.std.proofs.lemmas.Bool.Decides.{nat_tests}
 use Rattle.std.proofs.lemmas.List.{take_all}
 use Rattle.std.proofs.Math.Seq.{take-length}
 use Rattle.sj_base.specs.Options.{◌>>=◌}
+use Rattle.sj_base.specs.Nesting.{max_open}
 use Rattle.sj_path_token.specs.Reading.{lex}
 use Rattle.sj_path_token.proofs.Texts.{lex_sound, lex_full}
 use Rattle.sj_path_grammar.specs.declared.refusal.PathRefusal.{PathRefusal}
@@ -11,7 +12,7 @@ use Rattle.sj_path_grammar.specs.declared.refusal.PathRefusal.TheVariants.{Memor
 use Rattle.sj_path_grammar.specs.declared.refusal.Name.{Name}
 use Rattle.sj_path_grammar.specs.Tree.{Path}
 use Rattle.sj_path_grammar.specs.Grammar.{Tokens}
-use Rattle.sj_path_grammar.specs.Depth.{is_opening, is_closing, is_counted, IsDeepAt, OpensTooMany, IsTooDeep}
+use Rattle.sj_path_grammar.specs.Depth.{is_opening, is_closing, is_counted, max_counted, IsDeepAt, OpensTooMany, IsTooDeep}
 use Rattle.sj_path_grammar.specs.Misplaced.{is_misplaced}
 use Rattle.sj_path_grammar.specs.Unsupported.{unsupported}
 use Rattle.sj_path_grammar.specs.Reading.{path_at}
@@ -68,17 +69,17 @@ deep_anywhere ts h m d = go (nat_le m (length ts)) refl
     go false e =
         let long : length ts ≤ m = grind (arith, nat_tests) in
         let same : take m ts ≡ take (length ts) ts = take_all m ts long ∙ sym (take-length ts) in
-        deep_missed ts (length ts) h (length ts) (omega arith) (subst (λ (us : Tokens). count_by is_closing us + 64 < count_by is_opening us) same d)
+        deep_missed ts (length ts) h (length ts) (omega arith) (subst (λ (us : Tokens). count_by is_closing us + max_open < count_by is_opening us) same d)
 
 pub too_deep_found : (ts : Tokens) → is_too_deep ts ≡ true → IsTooDeep ts
-too_deep_found ts h = elim (or_cases (is_deep_within ts (length ts)) (nat_lt 256 (count_by is_counted ts)) h) [
+too_deep_found ts h = elim (or_cases (is_deep_within ts (length ts)) (nat_lt max_counted (count_by is_counted ts)) h) [
   | inl deep ↦ inl (deep_found ts (length ts) deep)
   | inr many ↦ inr (lt_from _ _ many)
 ]
 
 pub too_deep_missed : (ts : Tokens) → is_too_deep ts ≡ false → IsTooDeep ts → ⊥
-too_deep_missed ts h (inl deep) = deep_anywhere ts (or_left (is_deep_within ts (length ts)) (nat_lt 256 (count_by is_counted ts)) h) deep.0 deep.1
-too_deep_missed ts h (inr many) = lt_not _ _ (or_right (is_deep_within ts (length ts)) (nat_lt 256 (count_by is_counted ts)) h) many
+too_deep_missed ts h (inl deep) = deep_anywhere ts (or_left (is_deep_within ts (length ts)) (nat_lt max_counted (count_by is_counted ts)) h) deep.0 deep.1
+too_deep_missed ts h (inr many) = lt_not _ _ (or_right (is_deep_within ts (length ts)) (nat_lt max_counted (count_by is_counted ts)) h) many
 
 -- ---- the path
 

@@ -33,12 +33,16 @@ is_counted k.Question = true
 is_counted k.Comma = true
 is_counted _ = false
 
+-- the tokens of those, wherever they stand, that a path may have
+abbrev pub max_counted : ℕ
+max_counted = 256
+
 abbrev pub IsDeepAt : Tokens → ℕ → Type 0
 IsDeepAt ts n = LeavesOpen is_opening is_closing ts n
 
 abbrev pub OpensTooMany : Tokens → Type 0
 OpensTooMany ts = NestsTooDeep is_opening is_closing ts
 
--- or more than 256 tokens are of those counted, wherever they stand
+-- or more tokens are of those counted than may be
 abbrev pub IsTooDeep : Tokens → Type 0
-IsTooDeep ts = OpensTooMany ts ⊎ (256 < count_by is_counted ts)
+IsTooDeep ts = OpensTooMany ts ⊎ (max_counted < count_by is_counted ts)

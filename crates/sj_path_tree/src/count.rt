@@ -1,6 +1,7 @@
 //! How many nodes a path has.
 
-ghost use Rattle.std.specs.Prelude.{◌≡◌, ◌+◌, ◌-◌, ◌^◌, min};
+ghost use Rattle.std.specs.Prelude.{◌≡◌, ◌+◌};
+ghost use Rattle.std.specs.Io.Iter.{u64_saturate};
 ghost use Rattle.sj_path_tree.specs.Nodes as spec;
 ghost use Rattle.sj_path_tree.specs.Tree.{path_of, expr_of, step_of, sub_of, subs_of, pred_of};
 
@@ -8,7 +9,7 @@ use crate::tree::{Expr, Path, Pred, Step, Sub, Subs};
 
 #[cycle(nodes)]
 fn expr_nodes(e: &Expr) -> u64
-    ensures { result ≡ min (spec.expr_nodes (expr_of e.now)) (2 ^ 64 - 1) }
+    ensures { result ≡ u64_saturate (spec.expr_nodes (expr_of e.now)) }
 {
     match e {
         Expr::Root | Expr::Var(_) | Expr::Context | Expr::Last | Expr::Lit(_) => 1,
@@ -20,7 +21,7 @@ fn expr_nodes(e: &Expr) -> u64
 
 #[cycle(nodes)]
 fn step_nodes(step: &Step) -> u64
-    ensures { result ≡ min (spec.step_nodes (step_of step.now)) (2 ^ 64 - 1) }
+    ensures { result ≡ u64_saturate (spec.step_nodes (step_of step.now)) }
 {
     match step {
         Step::Member(_) | Step::AllMembers | Step::AllElements | Step::Method(_) => 1,
@@ -31,7 +32,7 @@ fn step_nodes(step: &Step) -> u64
 
 #[cycle(nodes)]
 fn sub_nodes(sub: &Sub) -> u64
-    ensures { result ≡ min (spec.sub_nodes (sub_of sub.now)) (2 ^ 64 - 1) }
+    ensures { result ≡ u64_saturate (spec.sub_nodes (sub_of sub.now)) }
 {
     match sub {
         Sub::One(e) => one_and(expr_nodes(e)),
@@ -41,7 +42,7 @@ fn sub_nodes(sub: &Sub) -> u64
 
 #[cycle(nodes)]
 fn subs_nodes(subs: &Subs) -> u64
-    ensures { result ≡ min (spec.subs_nodes (subs_of subs.now)) (2 ^ 64 - 1) }
+    ensures { result ≡ u64_saturate (spec.subs_nodes (subs_of subs.now)) }
 {
     match subs {
         Subs::Only(sub) => sub_nodes(sub),
@@ -51,7 +52,7 @@ fn subs_nodes(subs: &Subs) -> u64
 
 #[cycle(nodes)]
 fn pred_nodes(p: &Pred) -> u64
-    ensures { result ≡ min (spec.pred_nodes (pred_of p.now)) (2 ^ 64 - 1) }
+    ensures { result ≡ u64_saturate (spec.pred_nodes (pred_of p.now)) }
 {
     match p {
         Pred::Compare(_, a, b) => one_and_two(expr_nodes(a), expr_nodes(b)),
@@ -63,14 +64,14 @@ fn pred_nodes(p: &Pred) -> u64
 
 /// A node with `below` nodes below it.
 fn one_and(below: u64) -> u64
-    ensures { result ≡ min (1 + below) (2 ^ 64 - 1) }
+    ensures { result ≡ u64_saturate (1 + below) }
 {
     below.saturating_add(1)
 }
 
 /// A node with two parts below it.
 fn one_and_two(first: u64, second: u64) -> u64
-    ensures { result ≡ min (1 + first + second) (2 ^ 64 - 1) }
+    ensures { result ≡ u64_saturate (1 + first + second) }
 {
     one_and(first).saturating_add(second)
 }
@@ -80,7 +81,7 @@ fn one_and_two(first: u64, second: u64) -> u64
 ///
 /// The program does not call this; its tests do, and a host may.
 pub fn nodes(path: &Path) -> u64
-    ensures { result ≡ min (spec.nodes (path_of path.now)) (2 ^ 64 - 1) }
+    ensures { result ≡ u64_saturate (spec.nodes (path_of path.now)) }
 {
     expr_nodes(&path.expr)
 }

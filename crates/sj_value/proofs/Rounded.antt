@@ -2,6 +2,7 @@
 use Rattle.std.proofs.Common.{◌≡◌, ℕ, zero, suc, ◌-◌, ◌*◌, ◌/◌, ◌%◌, ◌^◌, ◌≤◌, ℤ, unsigned_abs, Ok, ap, ◌∙◌, arith, ⊎_elim, pow-suc, mul_assoc}
 use Rattle.std.proofs.lemmas.Bool.{cases_eq}
 use Rattle.std.proofs.Math.Nat.{pow-le-pow_right}
+use Rattle.sj_decimal.specs.Limits.{max_digits, magnitude_limit}
 use Rattle.sj_decimal.specs.Normal.{reduced}
 use Rattle.sj_decimal.specs.Rounding.{rounded, rounded_within}
 use Rattle.sj_decimal.proofs.NormalForm.{unsigned_abs-normal, normal_scale}
@@ -30,14 +31,14 @@ reduced_places n (suc s) =
     (λ h. rw (reduced_stop n s h) (no_places n (suc s)))
     (cases_eq (n % 10) 0)
 
-pub rounded_prints : (p s : ℕ) (d r : ℤ × ℕ) → p ≤ 38 → s ≤ p → rounded_within p s d ≡ Ok r → HasPlaces r s
+pub rounded_prints : (p s : ℕ) (d r : ℤ × ℕ) → p ≤ max_digits → s ≤ p → rounded_within p s d ≡ Ok r → HasPlaces r s
 rounded_prints p s d r few decimals h =
     let is = rounded_is p s d r h in
     let n : ℕ = unsigned_abs (rounded s d) in
     let scale : r.1 ≡ (reduced n s).1 = ap (λ (q : ℤ × ℕ). q.1) is.1 ∙ normal_scale (rounded s d, s) in
     let size : unsigned_abs r.0 ≡ (reduced n s).0 = ap (λ (q : ℤ × ℕ). unsigned_abs q.0) is.1 ∙ unsigned_abs-normal (rounded s d, s) in
     let below : (reduced n s).1 ≤ s = (reduced_le n s).1 in
-    let limit : 10 ^ p ≤ 10 ^ 38 = pow-le-pow_right {n = 10} (omega arith) few in
+    let limit : 10 ^ p ≤ magnitude_limit = pow-le-pow_right {n = 10} (omega arith) few in
     record {
       few = omega (arith, few, decimals);
       fits = record {

@@ -1,12 +1,13 @@
 -- Which types an item can be cast to.
 use Rattle.std.specs.Prelude.{ℕ, ◌≤◌}
+use Rattle.sj_decimal.specs.Limits.{max_digits}
 use Rattle.sj_value.specs.declared.types.SqlType.{SqlType}
 use Rattle.sj_value.specs.declared.types.SqlType.TheVariants.{Varchar, VarcharMax, Numeric, NumericFixed, Integer, Bigint, Boolean}
 
--- NUMERIC(p, s) has 1 to 38 digits, of which at most all are decimals
+-- NUMERIC(p, s) has one digit at least, no more than an exact number may have, and of them at most all are decimals
 pub record AreDigits (p s : ℕ) : Type 0 where
   pub some : 1 ≤ p
-  pub few : p ≤ 38
+  pub few : p ≤ max_digits
   pub decimals : s ≤ p
 
 abbrev pub IsCastType : SqlType → Type 0

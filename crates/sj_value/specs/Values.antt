@@ -1,12 +1,13 @@
 -- Which values can be printed.
 use Rattle.std.specs.Prelude.{ℕ, ◌<◌, ◌≤◌, ℤ}
+use Rattle.sj_decimal.specs.Limits.{max_scale}
 use Rattle.sj_decimal.specs.Text.{FitsPlaces}
 use Rattle.sj_value.specs.declared.value.SqlValue.{SqlValue}
 use Rattle.sj_value.specs.declared.value.SqlValue.TheVariants.{Null, Text, Num, Bool, Json}
 
--- the number times 10 ^ k is whole and below 10 ^ 38 in magnitude
+-- the number times 10 ^ k is whole and below the limit in magnitude
 pub record HasPlaces (d : ℤ × ℕ) (k : ℕ) : Type 0 where
-  pub few : k ≤ 38
+  pub few : k ≤ max_scale
   pub fits : FitsPlaces k d
 
 -- a number has as many decimals as it is to print; with 0 it prints its plain text
