@@ -1,5 +1,5 @@
 // A document while it is being built.
-ghost use Rattle.std.specs.Prelude.{◌≡◌, ◌+◌, ◌-◌, ◌^◌, ◌<◌, ◌≤◌, ◌++◌, ◌∷◌, length, IsUtf8, [], IfOk, OnOk, OnErr, MatchResult, Some, true, false};
+ghost use Rattle.std.specs.Prelude.{◌≡◌, ◌+◌, ◌-◌, ◌<◌, ◌≤◌, ◌++◌, ◌∷◌, length, IsUtf8, [], IfOk, OnOk, OnErr, MatchResult, Some, true, false};
 ghost use Rattle.sj_decimal.specs.Number.{SpellsWide};
 ghost use Rattle.sj_decimal.specs.Shorts.{between};
 ghost use Rattle.sj_json.specs.Tree.{null, truth, string, number, exact, wide};

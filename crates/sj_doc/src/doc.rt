@@ -1,5 +1,5 @@
 // The document and its nodes.
-ghost use Rattle.std.specs.Prelude.{◌≡◌, ◌+◌, ◌^◌, ◌<◌, ◌≤◌, length, false, [], None, option_map};
+ghost use Rattle.std.specs.Prelude.{◌≡◌, ◌+◌, ◌<◌, ◌≤◌, length, false, [], None, option_map};
 ghost use Rattle.sj_json.specs.Tree.{node_count, subtree, below, children, numbered, string, truth, number};
 ghost use Rattle.sj_json.specs.Printing.{IsTree};
 ghost use Rattle.sj_json.specs.Building.{fresh};
