@@ -1,5 +1,5 @@
 -- What the calls of a builder keep.
-use Rattle.std.proofs.Common.{◌≡◌, ℕ, suc, zero, ◌+◌, ◌-◌, ◌<◌, ◌≤◌, ◌^◌, List, [], ◌∷◌, ◌++◌, length, take, drop, get_or, set, Bool, true, false, Option, Some, None, option_map, IfSome, Result, Ok, Err, OnOk, OnErr, MatchResult, refl, sym, ap, ap₂, ◌∙◌, subst, length-append, arith}
+use Rattle.std.proofs.Common.{◌≡◌, ℕ, suc, zero, ◌+◌, ◌-◌, ◌<◌, ◌≤◌, List, [], ◌∷◌, ◌++◌, length, take, drop, get_or, set, Bool, true, false, Option, Some, None, option_map, IfSome, Result, Ok, Err, OnOk, OnErr, MatchResult, refl, sym, ap, ap₂, ◌∙◌, subst, length-append, arith}
 use Rattle.std.specs.List.{AllByRecursion}
 use Rattle.std.specs.Str.{IsUtf8}
 use Rattle.std.proofs.Math.ListN.{get_or-map}
@@ -11,6 +11,7 @@ use Rattle.sj_json.specs.Cells.{Cell, string_cell, number_cell, closed, opened, 
 use Rattle.sj_json.specs.Building.{Part, top, elements, pairs, State, TakesValue, TakesKey, TakesClose, put, put_key, empty, with_value, with_key, with_open, put_option, with_close, fresh, IsComplete, part_entries, part_kids, part_key, is_object, laid, place, IsState, state_of}
 use Rattle.sj_json.specs.Layouts.{tree_of-layout}
 use Rattle.sj_json.proofs.Buildings.{seen, outer_state, kids-put, key-put, laid-put, place-put, state-put, closes, kids_le, outer_le, state-put_key, laid-put_key, key-put_key, place-put_key, kids-put_key, laid-empty, state-empty, key-empty, kids-empty}
+use Rattle.sj_doc.specs.Limits.{most_nodes, text_bound}
 use Rattle.sj_doc.specs.Kinds.{opens_object, want_of}
 use Rattle.sj_doc.specs.declared.node.Want.{Want}
 use Rattle.sj_doc.specs.declared.node.Want.TheVariants as wants
@@ -58,10 +59,10 @@ module _ (a : List ℕ) (ns : List Node) (key : Option Span) (inner count depth 
   pub depth_small : depth ≤ length ns
   depth_small = omega (arith, b.depth_is, outer_le b.part b.outer, total a ns key inner count depth b)
 
-  pub room_left : node_total s < 2 ^ 25 → length ns < 2 ^ 25
-  room_left h = subst (λ n. n < 2 ^ 25) (ap node_total (sym state_is) ∙ sym (total a ns key inner count depth b)) h
+  pub room_left : node_total s < most_nodes → length ns < most_nodes
+  room_left h = subst (λ n. n < most_nodes) (ap node_total (sym state_is) ∙ sym (total a ns key inner count depth b)) h
 
-  pub value_comes : (t : Tree) (body : Body) → TakesValue s.0 → node_total s < 2 ^ 25 → IsAlone a t body → IsLeaf t → IsBody a body → (up : ℕ) → up ≡ length ns - inner → (new : List Node) → new ≡ ns ++ record { key = key; up = up; body = body } ∷ []
+  pub value_comes : (t : Tree) (body : Body) → TakesValue s.0 → node_total s < most_nodes → IsAlone a t body → IsLeaf t → IsBody a body → (up : ℕ) → up ≡ length ns - inner → (new : List Node) → new ≡ ns ++ record { key = key; up = up; body = body } ∷ []
       → IsBuilder a new None inner (count + 1) depth × (built a new None ≡ with_value t s)
   value_comes t body wanted room alone single good up far new e =
       let took : TakesValue b.part = subst (λ (x : State). TakesValue x.0) (sym state_is) wanted in
@@ -112,7 +113,7 @@ module _ (a : List ℕ) (ns : List Node) (key : Option Span) (inner count depth 
       (after, now_seen a ns (Some k) inner count depth after ∙ ap (with_key (text_in a k)) state_is)
 
   -- a container opens
-  pub opens : (kind : Bool) → TakesValue s.0 → node_total s < 2 ^ 25 → (up : ℕ) → up ≡ length ns - inner → (new : List Node) → new ≡ ns ++ record { key = key; up = up; body = Opened kind inner count } ∷ []
+  pub opens : (kind : Bool) → TakesValue s.0 → node_total s < most_nodes → (up : ℕ) → up ≡ length ns - inner → (new : List Node) → new ≡ ns ++ record { key = key; up = up; body = Opened kind inner count } ∷ []
       → IsBuilder a new None (length ns) 0 (depth + 1) × (built a new None ≡ with_open kind s)
   opens kind wanted room up far new e =
       let took : TakesValue b.part = subst (λ (x : State). TakesValue x.0) (sym state_is) wanted in
@@ -197,7 +198,7 @@ module _ (a b : List ℕ) (g : Grows a b) where
   all-grown [] h = tt
   all-grown (n ∷ ns) h = ((key_fits-grown n.key h.0.0, body-grown n.body h.0.1), all-grown ns h.1)
 
-  grown_comes : (ns : List Node) (key : Option Span) (inner count depth : ℕ) → IsBuilder a ns key inner count depth → length b < 2 ^ 32
+  grown_comes : (ns : List Node) (key : Option Span) (inner count depth : ℕ) → IsBuilder a ns key inner count depth → length b < text_bound
       → IsBuilder b ns key inner count depth × (built b ns key ≡ built a ns key)
   grown_comes ns key inner count depth m narrow =
       let grown : IsBuilder b ns key inner count depth = record {
@@ -223,11 +224,11 @@ line_kept a x new k within e = (ap (take k) e ∙ take-append-le k a x within, o
 
 -- the text grows
 pub text_comes : (a : List ℕ) (ns : List Node) (key : Option Span) (inner count depth : ℕ) → IsBuilder a ns key inner count depth
-    → (x new : List ℕ) → new ≡ a ++ x → length new < 2 ^ 32
+    → (x new : List ℕ) → new ≡ a ++ x → length new < text_bound
     → IsBuilder new ns key inner count depth × (built new ns key ≡ built a ns key)
 text_comes a ns key inner count depth b x new e small =
     let P : List ℕ → Type 0 = λ l. IsBuilder l ns key inner count depth × (built l ns key ≡ built a ns key) in
-    subst P (sym e) (grown_comes a (a ++ x) (text_grows a x) ns key inner count depth b (subst (λ (l : List ℕ). length l < 2 ^ 32) e small))
+    subst P (sym e) (grown_comes a (a ++ x) (text_grows a x) ns key inner count depth b (subst (λ (l : List ℕ). length l < text_bound) e small))
 
 -- the text that was put at the end
 pub last_span : (a x new : List ℕ) (s : Span) → new ≡ a ++ x → IsUtf8 x → s.start ≡ length a → s.len ≡ length x → IsSpan new s × (text_in new s ≡ x)
@@ -246,7 +247,7 @@ line_span a line k from to s is within later inside start long good =
     (subst (λ (x : List ℕ). IsSpan x s) (sym whole) (span-grown line (drop k a) s span), ap (λ (x : List ℕ). text_in x s) whole ∙ text-grown line (drop k a) s span ∙ here)
 
 -- it has places of 32 bits
-line_room : (a line : List ℕ) (k : ℕ) → take k a ≡ line → k ≤ length a → length a < 2 ^ 32 → length line < 2 ^ 32
+line_room : (a line : List ℕ) (k : ℕ) → take k a ≡ line → k ≤ length a → length a < text_bound → length line < text_bound
 line_room a line k is within small = omega (arith, ap length (sym is), length-take-le k a within)
 
 -- ---- what is seen of a builder
@@ -320,13 +321,13 @@ abbrev pub Comes : List ℕ → ℕ → OpenTree → Building → Tree → {E : 
 Comes a k u b v r = MatchResult r (λ x. Stands a k u (with_value v b.0, b.1)) (λ e. Stands a k u b)
 
 module _ (a : List ℕ) (k : ℕ) (t : OpenTree) (b : Building) (now : Stands a k t b) where
-  pub text_stored : (x new : List ℕ) → new ≡ a ++ x → length new < 2 ^ 32 → Stands new k t b
+  pub text_stored : (x new : List ℕ) → new ≡ a ++ x → length new < text_bound → Stands new k t b
   text_stored x new e small =
       let g = text_comes a t.nodes.items t.key t.inner t.count t.depth now.0.0 x new e small in
       let line = line_kept a x new k now.0.1 e in
       ((g.0, line.1, inside_seen refl now.0.2 g.1), both_seen (g.1 ∙ state_seen now.1) (line.0 ∙ line_seen now.1))
 
-  pub line_narrow : length b.1 < 2 ^ 32
+  pub line_narrow : length b.1 < text_bound
   line_narrow = line_room a b.1 k (line_seen now.1) now.0.1 now.0.0.narrow
 
   inside_now : t.innermost ≡ innermost_of b.0.0
@@ -348,7 +349,7 @@ module _ (a : List ℕ) (k : ℕ) (t : OpenTree) (b : Building) (now : Stands a 
       let p = same_fields (λ ns l i n d. (IsBuilder a ns l i n d × (k ≤ length a)) × (◌≡◌ {A = Building} (built a ns l, take k a) b)) u t.nodes.items t.key t.inner t.count t.depth h.nodes_are h.key_is h.inner_is h.count_is h.depth_is ((now.0.0, now.0.1), now.1) in
       ((p.0.0, p.0.1, inside_seen h.innermost_is inside_now (state_seen p.1)), p.1)
 
-  module _ (room : node_total b.0 < 2 ^ 25) where
+  module _ (room : node_total b.0 < most_nodes) where
     pub has_room : HasRoom t
     has_room = record {
       few = room_left a t.nodes.items t.key t.inner t.count t.depth now.0.0 b.0 (state_seen now.1) room;
@@ -395,7 +396,7 @@ module _ {E : Type 0} (a : List ℕ) (k : ℕ) (u : OpenTree) (b : Building) (v 
 
 -- ---- a new builder
 
-pub starts : (a : List ℕ) (ns : List Node) (t : OpenTree) → IsEmpty ns t → ns ≡ [] → length a < 2 ^ 32 → IsOpenTree a t × (built_tree a t ≡ fresh) × IsInside a t
+pub starts : (a : List ℕ) (ns : List Node) (t : OpenTree) → IsEmpty ns t → ns ≡ [] → length a < text_bound → IsOpenTree a t × (built_tree a t ≡ fresh) × IsInside a t
 starts a ns t h e small =
     let none : IsBuilder a [] None 0 0 0 = record {
       part = top None;
@@ -490,7 +491,7 @@ no_key (pairs ms (Some k)) h = absurd h
 module _ (a : List ℕ) (ns : List Node) (key : Option Span) (n : Node) (inner count depth : ℕ) (kind : Bool) (parent before below : ℕ) (new : List Node) where
   closing : (p : Part) (qs : List Part) → IsState p qs → TakesClose p → entries a ns ≡ laid p qs
       → option_map (text_in a) key ≡ part_key p → inner ≡ place p qs → count ≡ length (part_kids p) → depth ≡ length qs
-      → AllByRecursion (IsNode a) ns → IfSome key (IsSpan a) → length ns ≤ 2 ^ 25 → length a < 2 ^ 32
+      → AllByRecursion (IsNode a) ns → IfSome key (IsSpan a) → length ns ≤ most_nodes → length a < text_bound
       → open_at p qs (entry_of a n) → n.body ≡ Opened kind parent before → IsNode a n
       → links ns ≡ laid_ups p qs → n ≡ get_or ns inner n
       → new ≡ set ns inner (record { key = n.key; up = n.up; body = Closed kind count below }) → below + 1 + inner ≡ length ns

@@ -1,9 +1,10 @@
 -- What the fields of a `DocBuilder` stand for.
-use Rattle.std.specs.Prelude.{◌≡◌, ℕ, ◌+◌, ◌-◌, ◌≤◌, ◌<◌, ◌^◌, List, [], ◌∷◌, ◌++◌, length, get_or, Bool, true, false, Option, None, option_map, IfSome}
+use Rattle.std.specs.Prelude.{◌≡◌, ℕ, ◌+◌, ◌-◌, ◌≤◌, ◌<◌, List, [], ◌∷◌, ◌++◌, length, get_or, Bool, true, false, Option, None, option_map, IfSome}
 use Rattle.std.specs.List.{AllByRecursion}
 use Rattle.std.specs.Coded.{Coded, coded×, coded_list, coded_ℕ}
 use Rattle.sj_json.specs.Coding.{state_code}
 use Rattle.sj_json.specs.Building.{Part, top, elements, pairs, State, IsState, laid, part_key, part_kids, place, state_of}
+use Rattle.sj_doc.specs.Limits.{most_nodes, text_bound}
 use Rattle.sj_doc.specs.declared.node.Span.{Span}
 use Rattle.sj_doc.specs.declared.node.Node.{Node}
 use Rattle.sj_doc.specs.declared.node.Body.{Body}
@@ -40,8 +41,8 @@ pub record IsBuilder (arena : List ℕ) (nodes : List Node) (key : Option Span) 
   pub depth_is : depth ≡ length outer
   pub fits : AllByRecursion (IsNode arena) nodes
   pub key_fits : IfSome key (IsSpan arena)
-  pub small : length nodes ≤ 2 ^ 25
-  pub narrow : length arena < 2 ^ 32
+  pub small : length nodes ≤ most_nodes
+  pub narrow : length arena < text_bound
 
 abbrev pub IsOpenTree : List ℕ → OpenTree → Type 0
 IsOpenTree arena t = IsBuilder arena t.nodes.items t.key t.inner t.count t.depth
@@ -77,7 +78,7 @@ Tells nodes inner depth Object = (0 < depth) × Opens nodes inner true
 -- x was put at the end of the text, and the span has it
 pub record Stores (old : List ℕ) (new : List ℕ) (x : List ℕ) (s : Span) : Type 0 where
   pub grown : new ≡ old ++ x
-  pub narrow : length new < 2 ^ 32
+  pub narrow : length new < text_bound
   pub fits : IsSpan new s
   pub same : text_in new s ≡ x
 
@@ -90,7 +91,7 @@ pub record IsBetween (from : ℕ) (to : ℕ) (s : Span) : Type 0 where
 
 -- there is room for a node
 pub record HasRoom (t : OpenTree) : Type 0 where
-  pub few : length t.nodes.items < 2 ^ 25
+  pub few : length t.nodes.items < most_nodes
   pub within : t.inner ≤ length t.nodes.items
   pub counted : t.count ≤ length t.nodes.items
 

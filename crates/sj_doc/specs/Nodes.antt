@@ -1,11 +1,12 @@
 -- What the nodes stand for, over the text of all strings, keys and numbers.
-use Rattle.std.specs.Prelude.{◌≡◌, ℕ, ◌+◌, ◌<◌, ◌≤◌, ◌^◌, List, take, drop, map, length, None, option_map, unwrap_or, IfSome, IsUtf8, ⊤}
+use Rattle.std.specs.Prelude.{◌≡◌, ℕ, ◌+◌, ◌<◌, ◌≤◌, List, take, drop, map, length, None, option_map, unwrap_or, IfSome, IsUtf8, ⊤}
 use Rattle.std.specs.List.{AllByRecursion}
 use Rattle.sj_decimal.specs.Number.{IsNumber, SpellsWide}
 use Rattle.sj_json.specs.Tree.{Number, wide}
 use Rattle.sj_json.specs.Numbers.{number_of}
 use Rattle.sj_json.specs.Cells.{Cell, null_cell, truth_cell, string_cell, number_cell, closed, opened, Entry, layout, tree_of}
 use Rattle.sj_json.specs.Links.{ups}
+use Rattle.sj_doc.specs.Limits.{most_nodes}
 use Rattle.sj_doc.specs.declared.node.Span.{Span}
 use Rattle.sj_doc.specs.declared.node.Body.{Body}
 use Rattle.sj_doc.specs.declared.node.Body.TheVariants.{Null, Truth, Text, Numeral, Closed, Opened}
@@ -65,4 +66,4 @@ pub record IsDoc (arena : List ℕ) (nodes : List Node) : Type 0 where
   pub laid : entries arena nodes ≡ layout None (tree_of (entries arena nodes))
   pub linked : links nodes ≡ ups 0 (tree_of (entries arena nodes))
   pub fits : AllByRecursion (IsNode arena) nodes
-  pub small : length nodes ≤ 2 ^ 25
+  pub small : length nodes ≤ most_nodes

@@ -1,9 +1,10 @@
 // A document while it is being built.
-ghost use Rattle.std.specs.Prelude.{◌≡◌, ◌+◌, ◌-◌, ◌^◌, ◌<◌, ◌≤◌, ◌++◌, ◌∷◌, length, IsUtf8, [], IfOk, OnOk, OnErr, MatchResult, Some, true, false};
+ghost use Rattle.std.specs.Prelude.{◌≡◌, ◌+◌, ◌-◌, ◌<◌, ◌≤◌, ◌++◌, ◌∷◌, length, IsUtf8, [], IfOk, OnOk, OnErr, MatchResult, Some, true, false};
 ghost use Rattle.sj_decimal.specs.Number.{SpellsWide};
 ghost use Rattle.sj_decimal.specs.Shorts.{between};
 ghost use Rattle.sj_json.specs.Tree.{null, truth, string, number, exact, wide};
 ghost use Rattle.sj_json.specs.Building.{fresh, TakesValue, TakesKey, TakesClose, with_value, with_key, with_open, with_close, IsComplete, top};
+ghost use Rattle.sj_doc.specs.Limits.{most_nodes, text_bound};
 ghost use Rattle.sj_doc.specs.Builders.{node_total, IsBetween, Stores, HasRoom, IsEmpty, Adds, Stays, Tells, innermost_opened};
 ghost use Rattle.sj_doc.specs.Nodes.{IsNumeral, spelled};
 ghost use Rattle.sj_doc.specs.Kinds.{want_of};
@@ -95,7 +96,7 @@ fn push_in<T: Drop>(list: &mut Vec<T>, item: T) -> Result<(), Memory>
 // Puts s at the end of the text, which has room for 2^32 - 1 bytes.
 #[inline(always)]
 fn store(arena: &mut Vec<u8>, s: &str) -> Result<Span, Memory>
-    requires { length arena.old.items < 2 ^ 32 }
+    requires { length arena.old.items < text_bound }
     ensures ok { IfOk result (λ span. Stores arena.old.items arena.new.items s.now span) }
     ensures err { OnErr result (arena.new.items ≡ arena.old.items) }
 {
@@ -114,7 +115,7 @@ fn store(arena: &mut Vec<u8>, s: &str) -> Result<Span, Memory>
 #[inline(always)]
 fn span_between(from: usize, to: usize) -> Span
     requires later { from ≤ to }
-    requires narrow { to < 2 ^ 32 }
+    requires narrow { to < text_bound }
     ensures { IsBetween from to result }
 {
     Span {
@@ -222,7 +223,7 @@ impl DocBuilder {
     #[inline(always)]
     pub fn null(&mut self) -> Result<(), Memory>
         requires wanted { TakesValue self.old.0.0 }
-        requires room { node_total self.old.0 < 2 ^ 25 }
+        requires room { node_total self.old.0 < most_nodes }
         ensures ok { OnOk result (self.new ≡ (with_value null self.old.0, self.old.1)) }
         ensures err { OnErr result (self.new ≡ self.old) }
     {
@@ -233,7 +234,7 @@ impl DocBuilder {
     #[inline(always)]
     pub fn truth(&mut self, b: bool) -> Result<(), Memory>
         requires wanted { TakesValue self.old.0.0 }
-        requires room { node_total self.old.0 < 2 ^ 25 }
+        requires room { node_total self.old.0 < most_nodes }
         ensures ok { OnOk result (self.new ≡ (with_value (truth b) self.old.0, self.old.1)) }
         ensures err { OnErr result (self.new ≡ self.old) }
     {
@@ -244,7 +245,7 @@ impl DocBuilder {
     #[inline(always)]
     pub fn text(&mut self, s: &str) -> Result<(), Memory>
         requires wanted { TakesValue self.old.0.0 }
-        requires room { node_total self.old.0 < 2 ^ 25 }
+        requires room { node_total self.old.0 < most_nodes }
         ensures ok { OnOk result (self.new ≡ (with_value (string s.now) self.old.0, self.old.1)) }
         ensures err { OnErr result (self.new ≡ self.old) }
     {
@@ -256,7 +257,7 @@ impl DocBuilder {
     #[inline(always)]
     pub fn text_at(&mut self, from: usize, to: usize) -> Result<(), Memory>
         requires wanted { TakesValue self.old.0.0 }
-        requires room { node_total self.old.0 < 2 ^ 25 }
+        requires room { node_total self.old.0 < most_nodes }
         requires within { (from ≤ to) × (to ≤ length self.old.1) }
         requires utf8 { IsUtf8 (between self.old.1 from to) }
         ensures ok { OnOk result (self.new ≡ (with_value (string (between self.old.1 from to)) self.old.0, self.old.1)) }
@@ -268,7 +269,7 @@ impl DocBuilder {
     /// An exact number.
     pub fn exact(&mut self, n: Decimal) -> Result<(), Memory>
         requires wanted { TakesValue self.old.0.0 }
-        requires room { node_total self.old.0 < 2 ^ 25 }
+        requires room { node_total self.old.0 < most_nodes }
         ensures ok { OnOk result (self.new ≡ (with_value (number (exact n)) self.old.0, self.old.1)) }
         ensures err { OnErr result (self.new ≡ self.old) }
     {
@@ -278,7 +279,7 @@ impl DocBuilder {
     /// A number whose value is not exact, by its spelling.
     pub fn wide(&mut self, spelling: &str) -> Result<(), Memory>
         requires wanted { TakesValue self.old.0.0 }
-        requires room { node_total self.old.0 < 2 ^ 25 }
+        requires room { node_total self.old.0 < most_nodes }
         requires wide { SpellsWide spelling.now }
         ensures ok { OnOk result (self.new ≡ (with_value (number (wide spelling.now)) self.old.0, self.old.1)) }
         ensures err { OnErr result (self.new ≡ self.old) }
@@ -291,7 +292,7 @@ impl DocBuilder {
     #[inline(always)]
     pub fn number(&mut self, spelling: &str) -> Result<(), Memory>
         requires wanted { TakesValue self.old.0.0 }
-        requires room { node_total self.old.0 < 2 ^ 25 }
+        requires room { node_total self.old.0 < most_nodes }
         requires number { IsNumeral spelling.now }
         ensures ok { OnOk result (self.new ≡ (with_value (number (spelled spelling.now)) self.old.0, self.old.1)) }
         ensures err { OnErr result (self.new ≡ self.old) }
@@ -304,7 +305,7 @@ impl DocBuilder {
     #[inline(always)]
     pub fn number_at(&mut self, from: usize, to: usize) -> Result<(), Memory>
         requires wanted { TakesValue self.old.0.0 }
-        requires room { node_total self.old.0 < 2 ^ 25 }
+        requires room { node_total self.old.0 < most_nodes }
         requires within { (from ≤ to) × (to ≤ length self.old.1) }
         requires number { IsNumeral (between self.old.1 from to) }
         ensures ok { OnOk result (self.new ≡ (with_value (number (spelled (between self.old.1 from to))) self.old.0, self.old.1)) }
@@ -341,7 +342,7 @@ impl DocBuilder {
     #[inline(always)]
     pub fn open_array(&mut self) -> Result<(), Memory>
         requires wanted { TakesValue self.old.0.0 }
-        requires room { node_total self.old.0 < 2 ^ 25 }
+        requires room { node_total self.old.0 < most_nodes }
         ensures ok { OnOk result (self.new ≡ (with_open false self.old.0, self.old.1)) }
         ensures err { OnErr result (self.new ≡ self.old) }
     {
@@ -352,7 +353,7 @@ impl DocBuilder {
     #[inline(always)]
     pub fn open_object(&mut self) -> Result<(), Memory>
         requires wanted { TakesValue self.old.0.0 }
-        requires room { node_total self.old.0 < 2 ^ 25 }
+        requires room { node_total self.old.0 < most_nodes }
         ensures ok { OnOk result (self.new ≡ (with_open true self.old.0, self.old.1)) }
         ensures err { OnErr result (self.new ≡ self.old) }
     {
@@ -362,7 +363,7 @@ impl DocBuilder {
     #[inline(always)]
     fn begin(&mut self, is_object: bool) -> Result<(), Memory>
         requires wanted { TakesValue self.old.0.0 }
-        requires room { node_total self.old.0 < 2 ^ 25 }
+        requires room { node_total self.old.0 < most_nodes }
         ensures ok { OnOk result (self.new ≡ (with_open is_object self.old.0, self.old.1)) }
         ensures err { OnErr result (self.new ≡ self.old) }
     {

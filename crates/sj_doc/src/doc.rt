@@ -1,8 +1,9 @@
 // The document and its nodes.
-ghost use Rattle.std.specs.Prelude.{◌≡◌, ◌+◌, ◌^◌, ◌<◌, ◌≤◌, length, false, [], None, option_map};
+ghost use Rattle.std.specs.Prelude.{◌≡◌, ◌+◌, ◌<◌, ◌≤◌, length, false, [], None, option_map};
 ghost use Rattle.sj_json.specs.Tree.{node_count, subtree, below, children, numbered, string, truth, number};
 ghost use Rattle.sj_json.specs.Printing.{IsTree};
 ghost use Rattle.sj_json.specs.Building.{fresh};
+ghost use Rattle.sj_doc.specs.Limits.{most_nodes};
 ghost use Rattle.sj_doc.specs.Kinds.{kind_of};
 ghost use Rattle.sj_doc.specs.Nodes.{text_in, IsSpan, IsNumeral, spelled};
 ghost use Rattle.sj_doc.specs.Numbers.{number_in};
@@ -46,7 +47,7 @@ pub struct NodeRef<'d> {
     pub(crate) doc: &'d Doc,
     pub(crate) at: u32,
     ghost in_range: { at < node_count doc.now },
-    ghost small: { at < 2 ^ 25 },
+    ghost small: { at < most_nodes },
 }
 
 /// A child of a node. The key is there exactly where the parent is an object.
@@ -165,7 +166,7 @@ impl Doc {
     // The number of nodes.
     pub(crate) fn count(&self) -> u32
         ensures number { result ≡ node_count self.now }
-        ensures small { result ≤ 2 ^ 25 }
+        ensures small { result ≤ most_nodes }
     {
         self.nodes.len() as u32
     }
@@ -177,7 +178,7 @@ impl<'d> NodeRef<'d> {
     /// Its number: the root has 0, and the nodes follow in preorder. It is below 2^25.
     pub fn id(self) -> u64
         ensures number { result ≡ node_id self.entry }
-        ensures small { result < 2 ^ 25 }
+        ensures small { result < most_nodes }
     {
         u64::from(self.at)
     }

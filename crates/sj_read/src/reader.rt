@@ -126,6 +126,36 @@ fn escaped_key(builder: &mut DocBuilder, buffer: &mut String, text: &str, at: us
     }
 }
 
+// `escaped_value`, from where it is rarely called. The place in memory for its answer is cleared here, and not on each of the other
+// ways.
+#[inline(always)]
+fn rare_value(builder: &mut DocBuilder, buffer: &mut String, text: &str, at: usize, c: u8) -> Turn
+    requires within { (at < length text.now) × (length text.now ≤ MAX_LENGTH) }
+    requires here { slice_index text.now at ≡ c }
+    requires quote { c ≡ 34 }
+    requires ready { Ready value_mode builder.old.0 }
+    requires room { node_total builder.old.0 ≤ at }
+    ensures turns { Turns MAX_DEPTH Mode.AfterValue result value_mode builder.old.0 text.now at builder.new.0 }
+    ensures line { builder.new.1 ≡ builder.old.1 }
+{
+    anew(escaped_value(builder, buffer, text, at, c))
+}
+
+// `escaped_key`, from where it is rarely called. The place in memory for its answer is cleared here, and not on each of the other
+// ways.
+#[inline(always)]
+fn rare_key(builder: &mut DocBuilder, buffer: &mut String, text: &str, at: usize, c: u8) -> Turn
+    requires within { (at < length text.now) × (length text.now ≤ MAX_LENGTH) }
+    requires here { slice_index text.now at ≡ c }
+    requires quote { c ≡ 34 }
+    requires ready { Ready key_mode builder.old.0 }
+    requires room { node_total builder.old.0 ≤ at }
+    ensures turns { Turns MAX_DEPTH Mode.Colon result key_mode builder.old.0 text.now at builder.new.0 }
+    ensures line { builder.new.1 ≡ builder.old.1 }
+{
+    anew(escaped_key(builder, buffer, text, at, c))
+}
+
 // The number that begins with the byte c at the place, with an exponent or without.
 #[inline(never)]
 fn any_number(builder: &mut DocBuilder, text: &str, at: usize, c: u8) -> Turn
@@ -146,6 +176,21 @@ fn any_number(builder: &mut DocBuilder, text: &str, at: usize, c: u8) -> Turn
     }
 }
 
+// `any_number` in the same way.
+#[inline(always)]
+fn rare_number(builder: &mut DocBuilder, text: &str, at: usize, c: u8) -> Turn
+    requires line { builder.old.1 ≡ text.now }
+    requires within { (at < length text.now) × (length text.now ≤ MAX_LENGTH) }
+    requires here { slice_index text.now at ≡ c }
+    requires begins { beginning_byte c ≡ true }
+    requires ready { Ready value_mode builder.old.0 }
+    requires room { node_total builder.old.0 ≤ at }
+    ensures turns { Turns MAX_DEPTH Mode.AfterValue result value_mode builder.old.0 text.now at builder.new.0 }
+    ensures line { builder.new.1 ≡ builder.old.1 }
+{
+    anew(any_number(builder, text, at, c))
+}
+
 // The same, where few numbers need the general way.
 #[inline(always)]
 fn number(builder: &mut DocBuilder, text: &str, at: usize, c: u8) -> Turn
@@ -160,7 +205,7 @@ fn number(builder: &mut DocBuilder, text: &str, at: usize, c: u8) -> Turn
 {
     match plain_number_end(text.as_bytes(), at, c) {
         Some(end) => after(builder.number_at(at, end), end),
-        None => anew(any_number(builder, text, at, c)),
+        None => rare_number(builder, text, at, c),
     }
 }
 
@@ -181,7 +226,7 @@ fn scalar(builder: &mut DocBuilder, buffer: &mut String, text: &str, at: usize, 
     match c {
         b'"' => match text_end(text, at + 1) {
             Some(end) => after(builder.text_at(at + 1, end), end + 1),
-            None => anew(escaped_value(builder, buffer, text, at, c)),
+            None => rare_value(builder, buffer, text, at, c),
         },
         b'n' => {
             if !follows(text.as_bytes(), at + 1, b"ull") {
@@ -303,7 +348,7 @@ fn quoted_key(builder: &mut DocBuilder, buffer: &mut String, text: &str, at: usi
             builder.key_at(at + 1, end);
             Ok(end + 1)
         }
-        None => anew(escaped_key(builder, buffer, text, at, c)),
+        None => rare_key(builder, buffer, text, at, c),
     }
 }
 

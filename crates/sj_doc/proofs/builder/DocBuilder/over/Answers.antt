@@ -1,9 +1,10 @@
-use Rattle.std.proofs.Common.{◌<◌, ◌^◌, length, ap, arith, refl}
+use Rattle.std.proofs.Common.{◌<◌, length, ap, arith, refl}
+use Rattle.sj_doc.specs.Limits.{text_bound}
 use Rattle.sj_doc.proofs.Builders.{starts, both_seen}
 use Rattle.sj_doc.proofs.builder.DocBuilder.over.Goals as goal
 use Rattle.sj_doc.proofs.builder.DocBuilder.over.Goals.{Start}
 
-small : (c : Start) → length c.args.arena.items < 2 ^ 32
+small : (c : Start) → length c.args.arena.items < text_bound
 small c = omega (arith, ap length c.requires.no_text)
 
 pub invariant_of-result : goal.invariant_of-result

@@ -1,5 +1,6 @@
-use Rattle.std.proofs.Common.{◌≡◌, ◌+◌, ◌-◌, ◌≤◌, ◌^◌, ℕ, List, ◌∷◌, Option, Some, option_map, IfSome, arith, sym, ap, ◌∙◌, subst}
+use Rattle.std.proofs.Common.{◌≡◌, ◌+◌, ◌-◌, ◌≤◌, ℕ, List, ◌∷◌, Option, Some, option_map, IfSome, arith, sym, ap, ◌∙◌, subst}
 use Rattle.sj_json.specs.Tree.{Tree, below, subtree}
+use Rattle.sj_doc.specs.Limits.{most_nodes}
 use Rattle.sj_doc.specs.declared.node.Span.{Span}
 use Rattle.sj_doc.specs.Nodes.{IsSpan, text_in}
 use Rattle.sj_doc.specs.Children.{children_left, IsChildren}
@@ -30,7 +31,7 @@ below_is c =
     let a = c.self.inside in
     c.below.ensures ∙ node_below d.arena.items d.nodes.items a.doc.now c.doc.invariant c.doc.view_is a.at a.left (first (goal.at-After-below c).After-doc) c.index-node.result.now c.index-node.ensures
 
-small : (c : After-below) → c.self.inside.at + 1 + c.below.result ≤ 2 ^ 25
+small : (c : After-below) → c.self.inside.at + 1 + c.below.result ≤ most_nodes
 small c =
     let d = c.doc.inside in
     let a = c.self.inside in
