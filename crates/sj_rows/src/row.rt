@@ -1,14 +1,17 @@
 // The texts of rows and error rows.
-ghost use Rattle.std.specs.Prelude.{◌≡◌, ◌++◌, All, OnOk, OnErr};
+ghost use Rattle.std.specs.Prelude.{◌≡◌, ◌∷◌, [], ◌++◌, All, OnOk, OnErr};
 ghost use Rattle.std.specs.List.{flat_map};
 ghost use Rattle.sj_text.specs.Prefixes.{AppendsPrefix};
 ghost use Rattle.sj_value.specs.Values.{IsPrintable};
 ghost use Rattle.sj_rows.specs.RowText.{row_head, tabbed, row_bytes, error_bytes};
 
 use crate::field::field_text;
-use itoa::Buffer;
+use itoa::write_digits;
 use sj_base::{Bytes, Memory, State};
 use sj_value::SqlValue;
+
+/// The most bytes before the fields of a row: 20 digits, TAB, 10 digits, TAB and a letter.
+const MAX_HEAD: usize = 33;
 
 /// Appends a row: the line's number, TAB, the statement's number, TAB, `R`, then TAB and a field for each value, and
 /// LF.
@@ -29,8 +32,7 @@ pub fn row_text(
     ensures ok { OnOk result (out.new ≡ out.old ++ row_bytes line statement fields.now) }
     ensures err { OnErr result (AppendsPrefix out.old (row_bytes line statement fields.now) out.new) }
 {
-    head_text(out, line, statement)?;
-    out.push(b"\tR")?;
+    head_text(out, line, statement, b'R')?;
     fields_text(out, fields)?;
     out.push(b"\n")
 }
@@ -44,21 +46,23 @@ pub fn error_text(out: &mut Bytes, line: u64, statement: u32, state: State) -> R
     ensures ok { OnOk result (out.new ≡ out.old ++ error_bytes line statement state) }
     ensures err { OnErr result (AppendsPrefix out.old (error_bytes line statement state) out.new) }
 {
-    head_text(out, line, statement)?;
-    out.push(b"\tE\t")?;
+    head_text(out, line, statement, b'E')?;
+    out.push(b"\t")?;
     out.push(state.code().as_bytes())?;
     out.push(b"\n")
 }
 
-// Appends the two numbers.
-fn head_text(out: &mut Bytes, line: u64, statement: u32) -> Result<(), Memory>
-    ensures ok { OnOk result (out.new ≡ out.old ++ row_head line statement) }
-    ensures err { OnErr result (AppendsPrefix out.old (row_head line statement) out.new) }
+// Appends the two numbers, TAB and the letter of the row, all at once: each call that grows the output costs more than
+// its few bytes. They are written from the last to the first over TABs, of which two stay.
+fn head_text(out: &mut Bytes, line: u64, statement: u32, letter: u8) -> Result<(), Memory>
+    ensures ok { OnOk result (out.new ≡ out.old ++ (row_head line statement ++ 9 ∷ letter ∷ [])) }
+    ensures err { OnErr result (out.new ≡ out.old) }
 {
-    let mut buffer = Buffer::new();
-    out.push(buffer.format(line).as_bytes())?;
-    out.push(b"\t")?;
-    out.push(buffer.format(statement).as_bytes())
+    let mut head = [b'\t'; MAX_HEAD];
+    head[MAX_HEAD - 1] = letter;
+    let second = write_digits(statement as u64, &mut head, MAX_HEAD - 2);
+    let first = write_digits(line, &mut head, second - 1);
+    out.push(&head[first..])
 }
 
 // Appends a TAB and a field for each value.
