@@ -3,10 +3,11 @@
 ghost use Rattle.std.specs.Prelude.{◌≡◌};
 ghost use Rattle.sj_path.specs.Raw as raw;
 ghost use Rattle.sj_path_tree.specs.Tree as tree;
-ghost use Rattle.sj_path_grammar.specs.Gives.{Finishes};
+ghost use Rattle.sj_path_grammar.specs.Finishes.{Finishes};
 ghost use Rattle.sj_path_grammar.specs.Unsupported as unsupported;
 
 use crate::raw::{Expr, Path, Pred, Step, Sub, Subs};
+use sj_base::boxed;
 use sj_path_grammar::{Name, PathRefusal};
 use sj_path_tree as tree;
 use std::alloc::Global;
@@ -32,7 +33,7 @@ fn expr(alloc: Global, e: Box<Expr>) -> Result<Box<tree::Expr>, PathRefusal>
             tree::Expr::Binary(op, a, expr(alloc, b)?)
         }
     };
-    Ok(Box::new(alloc, finished)?)
+    Ok(boxed(alloc, finished)?)
 }
 
 #[cycle(finish)]
@@ -59,13 +60,13 @@ fn sub(alloc: Global, s: Sub) -> Result<Box<tree::Sub>, PathRefusal>
     match s {
         Sub::One(e) => {
             let e = expr(alloc, e)?;
-            Ok(Box::new(alloc, tree::Sub::One(Box::into_inner(e)))?)
+            Ok(boxed(alloc, tree::Sub::One(Box::into_inner(e)))?)
         }
         Sub::Range(from, to) => {
             let from = expr(alloc, from)?;
             let to = expr(alloc, to)?;
             let range = tree::Sub::Range(Box::into_inner(from), Box::into_inner(to));
-            Ok(Box::new(alloc, range)?)
+            Ok(boxed(alloc, range)?)
         }
     }
 }
@@ -77,12 +78,12 @@ fn subs(alloc: Global, all: Box<Subs>) -> Result<Box<tree::Subs>, PathRefusal>
     match Box::into_inner(all) {
         Subs::Only(s) => {
             let s = sub(alloc, s)?;
-            Ok(Box::new(alloc, tree::Subs::Only(Box::into_inner(s)))?)
+            Ok(boxed(alloc, tree::Subs::Only(Box::into_inner(s)))?)
         }
         Subs::More(s, others) => {
             let s = sub(alloc, s)?;
             let others = subs(alloc, others)?;
-            Ok(Box::new(alloc, tree::Subs::More(Box::into_inner(s), others))?)
+            Ok(boxed(alloc, tree::Subs::More(Box::into_inner(s), others))?)
         }
     }
 }
@@ -120,7 +121,7 @@ fn pred(alloc: Global, p: Box<Pred>) -> Result<Box<tree::Pred>, PathRefusal>
             return Err(PathRefusal::Unsupported(Name::LikeRegex));
         }
     };
-    Ok(Box::new(alloc, finished)?)
+    Ok(boxed(alloc, finished)?)
 }
 
 /// The parsed path, or the first part in the text that it lacks.

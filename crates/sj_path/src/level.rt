@@ -1,14 +1,14 @@
 //! What may stand at one level of parentheses, with a function that reads what stands inside them.
 
 ghost use Rattle.std.specs.Prelude.{◌≡◌, length};
+ghost use Rattle.sj_base.specs.Gives.{Gives};
 ghost use Rattle.sj_path_grammar.specs.Reading as reading;
 ghost use Rattle.sj_path.specs.Raw.{expr_of, step_of, sub_of, subs_of, pred_of, expr_or_pred_of};
-ghost use Rattle.sj_path_grammar.specs.Gives.{Gives};
 ghost use Rattle.sj_path.specs.Nests.{Nests};
 
 use crate::raw::{Expr, ExprOrPred, Pred, Step, Sub, Subs};
 use crate::{make, predicate, single, step};
-use sj_path_grammar::PathRefusal;
+use sj_base::{ParseRefusal, boxed};
 use sj_path_token::{Keyword, Token};
 use std::alloc::Global;
 
@@ -21,8 +21,8 @@ pub struct Level<F> {
     pub inner: F,
 }
 
-impl<F: Fn(Global, usize, &[Token]) -> Result<(ExprOrPred, &[Token]), PathRefusal>> Level<F> {
-    fn inner<'a>(&self, tokens: &'a [Token]) -> Result<(ExprOrPred, &'a [Token]), PathRefusal>
+impl<F: Fn(Global, usize, &[Token]) -> Result<(ExprOrPred, &[Token]), ParseRefusal>> Level<F> {
+    fn inner<'a>(&self, tokens: &'a [Token]) -> Result<(ExprOrPred, &'a [Token]), ParseRefusal>
         requires { Nests self.now.depth (F.pre self.now.inner) (F.post self.now.inner) }
         ensures { Gives (λ x. (expr_or_pred_of x.0, x.1.now)) result (reading.expr_or_pred_at self.now.depth tokens.now) }
     {
@@ -33,19 +33,19 @@ impl<F: Fn(Global, usize, &[Token]) -> Result<(ExprOrPred, &[Token]), PathRefusa
     pub fn inner_expr<'a>(
         &self,
         tokens: &'a [Token],
-    ) -> Result<(Box<Expr>, &'a [Token]), PathRefusal>
+    ) -> Result<(Box<Expr>, &'a [Token]), ParseRefusal>
         requires { Nests self.now.depth (F.pre self.now.inner) (F.post self.now.inner) }
         ensures { Gives (λ x. (expr_of x.0.value, x.1.now)) result (reading.inner_expr (reading.expr_or_pred_at self.now.depth) tokens.now) }
     {
         let (found, rest) = self.inner(tokens)?;
         match found {
             ExprOrPred::Value(e) => Ok((e, rest)),
-            ExprOrPred::Test(_) => Err(PathRefusal::Syntax),
+            ExprOrPred::Test(_) => Err(ParseRefusal::Syntax),
         }
     }
 
     #[tactic(auto, unfolding(sj_path_grammar::specs::Reading::sub_at))]
-    fn sub<'a>(&self, tokens: &'a [Token]) -> Result<(Sub, &'a [Token]), PathRefusal>
+    fn sub<'a>(&self, tokens: &'a [Token]) -> Result<(Sub, &'a [Token]), ParseRefusal>
         requires { Nests self.now.depth (F.pre self.now.inner) (F.post self.now.inner) }
         ensures { Gives (λ x. (sub_of x.0, x.1.now)) result (reading.sub_at (reading.expr_or_pred_at self.now.depth) tokens.now) }
     {
@@ -62,69 +62,69 @@ impl<F: Fn(Global, usize, &[Token]) -> Result<(ExprOrPred, &[Token]), PathRefusa
         &self,
         turns: usize,
         tokens: &'a [Token],
-    ) -> Result<(Box<Subs>, &'a [Token]), PathRefusal>
+    ) -> Result<(Box<Subs>, &'a [Token]), ParseRefusal>
         requires { Nests self.now.depth (F.pre self.now.inner) (F.post self.now.inner) }
         ensures { Gives (λ x. (subs_of x.0.value, x.1.now)) result (reading.subs_at (reading.expr_or_pred_at self.now.depth) turns tokens.now) }
     {
         if turns == 0 {
-            return Err(PathRefusal::Syntax);
+            return Err(ParseRefusal::Syntax);
         }
         let (sub, rest) = self.sub(tokens)?;
         let Some(rest) = single::comma(rest) else {
-            return Ok((Box::new(self.alloc, Subs::Only(sub))?, rest));
+            return Ok((boxed(self.alloc, Subs::Only(sub))?, rest));
         };
         let (others, rest) = self.subs(turns - 1, rest)?;
-        Ok((Box::new(self.alloc, Subs::More(sub, others))?, rest))
+        Ok((boxed(self.alloc, Subs::More(sub, others))?, rest))
     }
 
     #[tactic(auto, unfolding(sj_path_grammar::specs::Reading::after_bracket))]
-    fn after_bracket<'a>(&self, tokens: &'a [Token]) -> Result<(Step, &'a [Token]), PathRefusal>
+    fn after_bracket<'a>(&self, tokens: &'a [Token]) -> Result<(Step, &'a [Token]), ParseRefusal>
         requires { Nests self.now.depth (F.pre self.now.inner) (F.post self.now.inner) }
         ensures { Gives (λ x. (step_of x.0, x.1.now)) result (reading.after_bracket (reading.expr_or_pred_at self.now.depth) tokens.now) }
     {
         if let Some(rest) = single::star(tokens) {
             let Some(rest) = single::bracket(rest) else {
-                return Err(PathRefusal::Syntax);
+                return Err(ParseRefusal::Syntax);
             };
             return Ok((Step::AllElements, rest));
         }
         let (subs, rest) = self.subs(tokens.len(), tokens)?;
         let Some(rest) = single::bracket(rest) else {
-            return Err(PathRefusal::Syntax);
+            return Err(ParseRefusal::Syntax);
         };
         Ok((Step::Elements(subs), rest))
     }
 
     /// A predicate, behind the parenthesis that it stands in.
     #[tactic(auto, unfolding(sj_path_grammar::specs::Reading::group_at, sj_path_grammar::specs::Reading::inner_pred))]
-    fn group<'a>(&self, tokens: &'a [Token]) -> Result<(Box<Pred>, &'a [Token]), PathRefusal>
+    fn group<'a>(&self, tokens: &'a [Token]) -> Result<(Box<Pred>, &'a [Token]), ParseRefusal>
         requires { Nests self.now.depth (F.pre self.now.inner) (F.post self.now.inner) }
         ensures { Gives (λ x. (pred_of x.0.value, x.1.now)) result (reading.group_at (reading.expr_or_pred_at self.now.depth) tokens.now) }
     {
         let (found, rest) = self.inner(tokens)?;
         let ExprOrPred::Test(p) = found else {
-            return Err(PathRefusal::Syntax);
+            return Err(ParseRefusal::Syntax);
         };
         let Some(rest) = single::close(rest) else {
-            return Err(PathRefusal::Syntax);
+            return Err(ParseRefusal::Syntax);
         };
         Ok((p, rest))
     }
 
     #[tactic(auto, unfolding(sj_path_grammar::specs::Reading::after_question, sj_path_grammar::specs::Reading::group_at))]
-    fn after_question<'a>(&self, tokens: &'a [Token]) -> Result<(Step, &'a [Token]), PathRefusal>
+    fn after_question<'a>(&self, tokens: &'a [Token]) -> Result<(Step, &'a [Token]), ParseRefusal>
         requires { Nests self.now.depth (F.pre self.now.inner) (F.post self.now.inner) }
         ensures { Gives (λ x. (step_of x.0, x.1.now)) result (reading.after_question (reading.expr_or_pred_at self.now.depth) tokens.now) }
     {
         let Some(rest) = single::open(tokens) else {
-            return Err(PathRefusal::Syntax);
+            return Err(ParseRefusal::Syntax);
         };
         let (p, rest) = self.group(rest)?;
         Ok((Step::Filter(p), rest))
     }
 
     #[tactic(auto, unfolding(sj_path_grammar::specs::Reading::step_at))]
-    fn step<'a>(&self, tokens: &'a [Token]) -> Result<(Step, &'a [Token]), PathRefusal>
+    fn step<'a>(&self, tokens: &'a [Token]) -> Result<(Step, &'a [Token]), ParseRefusal>
         requires { Nests self.now.depth (F.pre self.now.inner) (F.post self.now.inner) }
         ensures { Gives (λ x. (step_of x.0, x.1.now)) result (reading.step_at (reading.expr_or_pred_at self.now.depth) tokens.now) }
     {
@@ -132,7 +132,7 @@ impl<F: Fn(Global, usize, &[Token]) -> Result<(ExprOrPred, &[Token]), PathRefusa
             [Token::Dot, rest @ ..] => step::after_dot(self.alloc, rest),
             [Token::OpenBracket, rest @ ..] => self.after_bracket(rest),
             [Token::Question, rest @ ..] => self.after_question(rest),
-            _ => Err(PathRefusal::Syntax),
+            _ => Err(ParseRefusal::Syntax),
         }
     }
 
@@ -141,7 +141,7 @@ impl<F: Fn(Global, usize, &[Token]) -> Result<(ExprOrPred, &[Token]), PathRefusa
         &self,
         x: Box<Expr>,
         tokens: &'a [Token],
-    ) -> Result<(Box<Expr>, &'a [Token]), PathRefusal>
+    ) -> Result<(Box<Expr>, &'a [Token]), ParseRefusal>
         requires { Nests self.now.depth (F.pre self.now.inner) (F.post self.now.inner) }
         ensures { Gives (λ x. (expr_of x.0.value, x.1.now)) result (reading.access_from (reading.expr_or_pred_at self.now.depth) (length tokens.now) (expr_of x.value) tokens.now) }
     {
@@ -160,40 +160,40 @@ impl<F: Fn(Global, usize, &[Token]) -> Result<(ExprOrPred, &[Token]), PathRefusa
 
     /// An operand and the accessors behind it.
     #[tactic(auto, unfolding(sj_path_grammar::specs::Reading::access_at, sj_path_grammar::specs::Reading::primary_at))]
-    fn access<'a>(&self, tokens: &'a [Token]) -> Result<(Box<Expr>, &'a [Token]), PathRefusal>
+    fn access<'a>(&self, tokens: &'a [Token]) -> Result<(Box<Expr>, &'a [Token]), ParseRefusal>
         requires { Nests self.now.depth (F.pre self.now.inner) (F.post self.now.inner) }
         ensures { Gives (λ x. (expr_of x.0.value, x.1.now)) result (reading.access_at (reading.expr_or_pred_at self.now.depth) tokens.now) }
     {
         match tokens {
-            [] => Err(PathRefusal::Syntax),
+            [] => Err(ParseRefusal::Syntax),
             [Token::Open, rest @ ..] => {
                 let (e, rest) = self.inner_expr(rest)?;
                 let Some(rest) = single::close(rest) else {
-                    return Err(PathRefusal::Syntax);
+                    return Err(ParseRefusal::Syntax);
                 };
                 self.access_from(e, rest)
             }
             [token, rest @ ..] => {
                 let e = single::expr(self.alloc, token)?;
-                self.access_from(Box::new(self.alloc, e)?, rest)
+                self.access_from(boxed(self.alloc, e)?, rest)
             }
         }
     }
 
     #[tactic(auto, unfolding(sj_path_grammar::specs::Reading::unary_at))]
-    fn unary<'a>(&self, tokens: &'a [Token]) -> Result<(Box<Expr>, &'a [Token]), PathRefusal>
+    fn unary<'a>(&self, tokens: &'a [Token]) -> Result<(Box<Expr>, &'a [Token]), ParseRefusal>
         requires { Nests self.now.depth (F.pre self.now.inner) (F.post self.now.inner) }
         ensures { Gives (λ x. (expr_of x.0.value, x.1.now)) result (reading.unary_at (reading.expr_or_pred_at self.now.depth) tokens.now) }
     {
         match tokens {
-            [] => Err(PathRefusal::Syntax),
+            [] => Err(ParseRefusal::Syntax),
             [Token::Plus, rest @ ..] => {
                 let (e, rest) = self.unary(rest)?;
-                Ok((Box::new(self.alloc, Expr::Plus(e))?, rest))
+                Ok((boxed(self.alloc, Expr::Plus(e))?, rest))
             }
             [Token::Minus, rest @ ..] => {
                 let (e, rest) = self.unary(rest)?;
-                Ok((Box::new(self.alloc, Expr::Minus(e))?, rest))
+                Ok((boxed(self.alloc, Expr::Minus(e))?, rest))
             }
             _ => self.access(tokens),
         }
@@ -204,7 +204,7 @@ impl<F: Fn(Global, usize, &[Token]) -> Result<(ExprOrPred, &[Token]), PathRefusa
         &self,
         x: Box<Expr>,
         tokens: &'a [Token],
-    ) -> Result<(Box<Expr>, &'a [Token]), PathRefusal>
+    ) -> Result<(Box<Expr>, &'a [Token]), ParseRefusal>
         requires { Nests self.now.depth (F.pre self.now.inner) (F.post self.now.inner) }
         ensures { Gives (λ x. (expr_of x.0.value, x.1.now)) result (reading.product_from (reading.expr_or_pred_at self.now.depth) (length tokens.now) (expr_of x.value) tokens.now) }
     {
@@ -222,7 +222,7 @@ impl<F: Fn(Global, usize, &[Token]) -> Result<(ExprOrPred, &[Token]), PathRefusa
     }
 
     #[tactic(auto, unfolding(sj_path_grammar::specs::Reading::term_at))]
-    fn term<'a>(&self, tokens: &'a [Token]) -> Result<(Box<Expr>, &'a [Token]), PathRefusal>
+    fn term<'a>(&self, tokens: &'a [Token]) -> Result<(Box<Expr>, &'a [Token]), ParseRefusal>
         requires { Nests self.now.depth (F.pre self.now.inner) (F.post self.now.inner) }
         ensures { Gives (λ x. (expr_of x.0.value, x.1.now)) result (reading.term_at (reading.expr_or_pred_at self.now.depth) tokens.now) }
     {
@@ -235,7 +235,7 @@ impl<F: Fn(Global, usize, &[Token]) -> Result<(ExprOrPred, &[Token]), PathRefusa
         &self,
         x: Box<Expr>,
         tokens: &'a [Token],
-    ) -> Result<(Box<Expr>, &'a [Token]), PathRefusal>
+    ) -> Result<(Box<Expr>, &'a [Token]), ParseRefusal>
         requires { Nests self.now.depth (F.pre self.now.inner) (F.post self.now.inner) }
         ensures { Gives (λ x. (expr_of x.0.value, x.1.now)) result (reading.sum_from (reading.expr_or_pred_at self.now.depth) (length tokens.now) (expr_of x.value) tokens.now) }
     {
@@ -253,7 +253,7 @@ impl<F: Fn(Global, usize, &[Token]) -> Result<(ExprOrPred, &[Token]), PathRefusa
     }
 
     #[tactic(auto, unfolding(sj_path_grammar::specs::Reading::expr_at))]
-    fn expr<'a>(&self, tokens: &'a [Token]) -> Result<(Box<Expr>, &'a [Token]), PathRefusal>
+    fn expr<'a>(&self, tokens: &'a [Token]) -> Result<(Box<Expr>, &'a [Token]), ParseRefusal>
         requires { Nests self.now.depth (F.pre self.now.inner) (F.post self.now.inner) }
         ensures { Gives (λ x. (expr_of x.0.value, x.1.now)) result (reading.expr_at (reading.expr_or_pred_at self.now.depth) tokens.now) }
     {
@@ -267,19 +267,19 @@ impl<F: Fn(Global, usize, &[Token]) -> Result<(ExprOrPred, &[Token]), PathRefusa
         &self,
         e: Box<Expr>,
         tokens: &'a [Token],
-    ) -> Result<(ExprOrPred, &'a [Token]), PathRefusal>
+    ) -> Result<(ExprOrPred, &'a [Token]), ParseRefusal>
         requires { Nests self.now.depth (F.pre self.now.inner) (F.post self.now.inner) }
         ensures { Gives (λ x. (expr_or_pred_of x.0, x.1.now)) result (reading.test_from (reading.expr_or_pred_at self.now.depth) (expr_of e.value) tokens.now) }
     {
         match tokens {
             [Token::Compare(op), rest @ ..] => {
                 let (b, rest) = self.expr(rest)?;
-                let p = Box::new(self.alloc, Pred::Compare(*op, e, b))?;
+                let p = boxed(self.alloc, Pred::Compare(*op, e, b))?;
                 Ok((ExprOrPred::Test(p), rest))
             }
             [Token::Word(Keyword::Starts, _), rest @ ..] => {
                 let Some(rest) = single::with(rest) else {
-                    return Err(PathRefusal::Syntax);
+                    return Err(ParseRefusal::Syntax);
                 };
                 predicate::initial(self.alloc, e, rest)
             }
@@ -292,7 +292,7 @@ impl<F: Fn(Global, usize, &[Token]) -> Result<(ExprOrPred, &[Token]), PathRefusa
     }
 
     #[tactic(auto, unfolding(sj_path_grammar::specs::Reading::tested))]
-    fn tested<'a>(&self, tokens: &'a [Token]) -> Result<(ExprOrPred, &'a [Token]), PathRefusal>
+    fn tested<'a>(&self, tokens: &'a [Token]) -> Result<(ExprOrPred, &'a [Token]), ParseRefusal>
         requires { Nests self.now.depth (F.pre self.now.inner) (F.post self.now.inner) }
         ensures { Gives (λ x. (expr_or_pred_of x.0, x.1.now)) result (reading.tested (reading.expr_or_pred_at self.now.depth) tokens.now) }
     {
@@ -306,7 +306,7 @@ impl<F: Fn(Global, usize, &[Token]) -> Result<(ExprOrPred, &[Token]), PathRefusa
         &self,
         x: ExprOrPred,
         tokens: &'a [Token],
-    ) -> Result<(ExprOrPred, &'a [Token]), PathRefusal>
+    ) -> Result<(ExprOrPred, &'a [Token]), ParseRefusal>
         requires { Nests self.now.depth (F.pre self.now.inner) (F.post self.now.inner) }
         ensures { Gives (λ x. (expr_or_pred_of x.0, x.1.now)) result (reading.after_group (reading.expr_or_pred_at self.now.depth) (expr_or_pred_of x) tokens.now) }
     {
@@ -322,49 +322,49 @@ impl<F: Fn(Global, usize, &[Token]) -> Result<(ExprOrPred, &[Token]), PathRefusa
     }
 
     #[tactic(auto, unfolding(sj_path_grammar::specs::Reading::exists_at))]
-    fn exists<'a>(&self, tokens: &'a [Token]) -> Result<(Box<Pred>, &'a [Token]), PathRefusal>
+    fn exists<'a>(&self, tokens: &'a [Token]) -> Result<(Box<Pred>, &'a [Token]), ParseRefusal>
         requires { Nests self.now.depth (F.pre self.now.inner) (F.post self.now.inner) }
         ensures { Gives (λ x. (pred_of x.0.value, x.1.now)) result (reading.exists_at (reading.expr_or_pred_at self.now.depth) tokens.now) }
     {
         let Some(rest) = single::open(tokens) else {
-            return Err(PathRefusal::Syntax);
+            return Err(ParseRefusal::Syntax);
         };
         let (e, rest) = self.inner_expr(rest)?;
         let Some(rest) = single::close(rest) else {
-            return Err(PathRefusal::Syntax);
+            return Err(ParseRefusal::Syntax);
         };
-        Ok((Box::new(self.alloc, Pred::Exists(e))?, rest))
+        Ok((boxed(self.alloc, Pred::Exists(e))?, rest))
     }
 
     #[tactic(auto, unfolding(sj_path_grammar::specs::Reading::delim_at))]
-    fn delim<'a>(&self, tokens: &'a [Token]) -> Result<(Box<Pred>, &'a [Token]), PathRefusal>
+    fn delim<'a>(&self, tokens: &'a [Token]) -> Result<(Box<Pred>, &'a [Token]), ParseRefusal>
         requires { Nests self.now.depth (F.pre self.now.inner) (F.post self.now.inner) }
         ensures { Gives (λ x. (pred_of x.0.value, x.1.now)) result (reading.delim_at (reading.expr_or_pred_at self.now.depth) tokens.now) }
     {
         match tokens {
             [Token::Open, rest @ ..] => self.group(rest),
             [Token::Word(Keyword::Exists, _), rest @ ..] => self.exists(rest),
-            _ => Err(PathRefusal::Syntax),
+            _ => Err(ParseRefusal::Syntax),
         }
     }
 
     /// A predicate with no `&&` and no `||`, or an expression.
     #[tactic(auto, unfolding(sj_path_grammar::specs::Reading::neg_at))]
-    fn neg<'a>(&self, tokens: &'a [Token]) -> Result<(ExprOrPred, &'a [Token]), PathRefusal>
+    fn neg<'a>(&self, tokens: &'a [Token]) -> Result<(ExprOrPred, &'a [Token]), ParseRefusal>
         requires { Nests self.now.depth (F.pre self.now.inner) (F.post self.now.inner) }
         ensures { Gives (λ x. (expr_or_pred_of x.0, x.1.now)) result (reading.neg_at (reading.expr_or_pred_at self.now.depth) tokens.now) }
     {
         match tokens {
-            [] => Err(PathRefusal::Syntax),
+            [] => Err(ParseRefusal::Syntax),
             [Token::Not, rest @ ..] => {
                 let (p, rest) = self.delim(rest)?;
-                let p = Box::new(self.alloc, Pred::Not(p))?;
+                let p = boxed(self.alloc, Pred::Not(p))?;
                 Ok((ExprOrPred::Test(p), rest))
             }
             [Token::Open, rest @ ..] => {
                 let (x, rest) = self.inner(rest)?;
                 let Some(rest) = single::close(rest) else {
-                    return Err(PathRefusal::Syntax);
+                    return Err(ParseRefusal::Syntax);
                 };
                 self.after_group(x, rest)
             }
@@ -377,13 +377,13 @@ impl<F: Fn(Global, usize, &[Token]) -> Result<(ExprOrPred, &[Token]), PathRefusa
     }
 
     #[tactic(auto, unfolding(sj_path_grammar::specs::Reading::test_at))]
-    fn test<'a>(&self, tokens: &'a [Token]) -> Result<(Box<Pred>, &'a [Token]), PathRefusal>
+    fn test<'a>(&self, tokens: &'a [Token]) -> Result<(Box<Pred>, &'a [Token]), ParseRefusal>
         requires { Nests self.now.depth (F.pre self.now.inner) (F.post self.now.inner) }
         ensures { Gives (λ x. (pred_of x.0.value, x.1.now)) result (reading.test_at (reading.expr_or_pred_at self.now.depth) tokens.now) }
     {
         let (found, rest) = self.neg(tokens)?;
         match found {
-            ExprOrPred::Value(_) => Err(PathRefusal::Syntax),
+            ExprOrPred::Value(_) => Err(ParseRefusal::Syntax),
             ExprOrPred::Test(p) => Ok((p, rest)),
         }
     }
@@ -393,7 +393,7 @@ impl<F: Fn(Global, usize, &[Token]) -> Result<(ExprOrPred, &[Token]), PathRefusa
         &self,
         p: Box<Pred>,
         tokens: &'a [Token],
-    ) -> Result<(Box<Pred>, &'a [Token]), PathRefusal>
+    ) -> Result<(Box<Pred>, &'a [Token]), ParseRefusal>
         requires { Nests self.now.depth (F.pre self.now.inner) (F.post self.now.inner) }
         ensures { Gives (λ x. (pred_of x.0.value, x.1.now)) result (reading.and_from (reading.expr_or_pred_at self.now.depth) (length tokens.now) (pred_of p.value) tokens.now) }
     {
@@ -411,7 +411,7 @@ impl<F: Fn(Global, usize, &[Token]) -> Result<(ExprOrPred, &[Token]), PathRefusa
     }
 
     #[tactic(auto, unfolding(sj_path_grammar::specs::Reading::conj_at))]
-    fn conj<'a>(&self, tokens: &'a [Token]) -> Result<(Box<Pred>, &'a [Token]), PathRefusal>
+    fn conj<'a>(&self, tokens: &'a [Token]) -> Result<(Box<Pred>, &'a [Token]), ParseRefusal>
         requires { Nests self.now.depth (F.pre self.now.inner) (F.post self.now.inner) }
         ensures { Gives (λ x. (pred_of x.0.value, x.1.now)) result (reading.conj_at (reading.expr_or_pred_at self.now.depth) tokens.now) }
     {
@@ -424,7 +424,7 @@ impl<F: Fn(Global, usize, &[Token]) -> Result<(ExprOrPred, &[Token]), PathRefusa
         &self,
         p: Box<Pred>,
         tokens: &'a [Token],
-    ) -> Result<(Box<Pred>, &'a [Token]), PathRefusal>
+    ) -> Result<(Box<Pred>, &'a [Token]), ParseRefusal>
         requires { Nests self.now.depth (F.pre self.now.inner) (F.post self.now.inner) }
         ensures { Gives (λ x. (pred_of x.0.value, x.1.now)) result (reading.or_from (reading.expr_or_pred_at self.now.depth) (length tokens.now) (pred_of p.value) tokens.now) }
     {
@@ -446,7 +446,7 @@ impl<F: Fn(Global, usize, &[Token]) -> Result<(ExprOrPred, &[Token]), PathRefusa
         &self,
         x: ExprOrPred,
         tokens: &'a [Token],
-    ) -> Result<(ExprOrPred, &'a [Token]), PathRefusal>
+    ) -> Result<(ExprOrPred, &'a [Token]), ParseRefusal>
         requires { Nests self.now.depth (F.pre self.now.inner) (F.post self.now.inner) }
         ensures { Gives (λ x. (expr_or_pred_of x.0, x.1.now)) result (reading.pred_from (reading.expr_or_pred_at self.now.depth) (expr_or_pred_of x) tokens.now) }
     {
@@ -461,7 +461,7 @@ impl<F: Fn(Global, usize, &[Token]) -> Result<(ExprOrPred, &[Token]), PathRefusa
     }
 
     #[tactic(auto, unfolding(sj_path_grammar::specs::Reading::expr_or_pred_over))]
-    fn over<'a>(&self, tokens: &'a [Token]) -> Result<(ExprOrPred, &'a [Token]), PathRefusal>
+    fn over<'a>(&self, tokens: &'a [Token]) -> Result<(ExprOrPred, &'a [Token]), ParseRefusal>
         requires { Nests self.now.depth (F.pre self.now.inner) (F.post self.now.inner) }
         ensures { Gives (λ x. (expr_or_pred_of x.0, x.1.now)) result (reading.expr_or_pred_over (reading.expr_or_pred_at self.now.depth) tokens.now) }
     {
@@ -475,11 +475,11 @@ pub fn expr_or_pred(
     alloc: Global,
     depth: usize,
     tokens: &[Token],
-) -> Result<(ExprOrPred, &[Token]), PathRefusal>
+) -> Result<(ExprOrPred, &[Token]), ParseRefusal>
     ensures { Gives (λ x. (expr_or_pred_of x.0, x.1.now)) result (reading.expr_or_pred_at depth tokens.now) }
 {
     if depth == 0 {
-        return Err(PathRefusal::Syntax);
+        return Err(ParseRefusal::Syntax);
     }
     Level {
         alloc,

@@ -5,29 +5,30 @@ ghost use Rattle.sj_path_grammar.specs.Tree as tree;
 ghost use Rattle.sj_path.specs.Raw.{expr_of, step_of, pred_of};
 
 use crate::raw::{Expr, Pred, Step};
+use sj_base::{Memory, boxed};
 use sj_path_grammar::Arith;
-use std::alloc::{AllocError, Global};
+use std::alloc::Global;
 
-pub fn binary(alloc: Global, op: Arith, a: Box<Expr>, b: Box<Expr>) -> Result<Box<Expr>, AllocError>
+pub fn binary(alloc: Global, op: Arith, a: Box<Expr>, b: Box<Expr>) -> Result<Box<Expr>, Memory>
     ensures { IfOk result (λ e. expr_of e.value ≡ tree.Binary op (expr_of a.value) (expr_of b.value)) }
 {
-    Ok(Box::new(alloc, Expr::Binary(op, a, b))?)
+    boxed(alloc, Expr::Binary(op, a, b))
 }
 
-pub fn access(alloc: Global, a: Box<Expr>, step: Step) -> Result<Box<Expr>, AllocError>
+pub fn access(alloc: Global, a: Box<Expr>, step: Step) -> Result<Box<Expr>, Memory>
     ensures { IfOk result (λ e. expr_of e.value ≡ tree.Access (expr_of a.value) (step_of step)) }
 {
-    Ok(Box::new(alloc, Expr::Access(a, step))?)
+    boxed(alloc, Expr::Access(a, step))
 }
 
-pub fn and(alloc: Global, a: Box<Pred>, b: Box<Pred>) -> Result<Box<Pred>, AllocError>
+pub fn and(alloc: Global, a: Box<Pred>, b: Box<Pred>) -> Result<Box<Pred>, Memory>
     ensures { IfOk result (λ p. pred_of p.value ≡ tree.And (pred_of a.value) (pred_of b.value)) }
 {
-    Ok(Box::new(alloc, Pred::And(a, b))?)
+    boxed(alloc, Pred::And(a, b))
 }
 
-pub fn or(alloc: Global, a: Box<Pred>, b: Box<Pred>) -> Result<Box<Pred>, AllocError>
+pub fn or(alloc: Global, a: Box<Pred>, b: Box<Pred>) -> Result<Box<Pred>, Memory>
     ensures { IfOk result (λ p. pred_of p.value ≡ tree.Or (pred_of a.value) (pred_of b.value)) }
 {
-    Ok(Box::new(alloc, Pred::Or(a, b))?)
+    boxed(alloc, Pred::Or(a, b))
 }

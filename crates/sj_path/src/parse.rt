@@ -1,8 +1,8 @@
 //! Whole paths.
 
 ghost use Rattle.std.specs.Prelude.{◌≡◌, IfOk, IfErr, MatchResult};
+ghost use Rattle.sj_base.specs.Gives.{Gives};
 ghost use Rattle.sj_path_grammar.specs.Reading as reading;
-ghost use Rattle.sj_path_grammar.specs.Gives.{Gives};
 ghost use Rattle.sj_path_grammar.specs.Answers.{Allows, Forbids, Accepts, Refuses};
 ghost use Rattle.sj_path.specs.Raw as raw;
 ghost use Rattle.sj_path_tree.specs.Tree.{path_of};
@@ -12,14 +12,15 @@ use crate::depth::is_too_deep;
 use crate::finish::finished;
 use crate::level::{Level, expr_or_pred};
 use crate::{raw, single};
+use sj_base::ParseRefusal;
 use sj_path_grammar::{Mode, PathRefusal};
-use sj_path_token::{LexError, Token, tokens_of};
+use sj_path_token::{Token, tokens_of};
 use sj_path_tree::Path;
 use std::alloc::Global;
 
 /// A path, behind its mode.
 #[tactic(auto, unfolding(sj_path_grammar::specs::Reading::whole_at))]
-fn in_mode(alloc: Global, mode: Mode, tokens: &[Token]) -> Result<raw::Path, PathRefusal>
+fn in_mode(alloc: Global, mode: Mode, tokens: &[Token]) -> Result<raw::Path, ParseRefusal>
     ensures { Gives raw.path_of result (reading.in_mode mode tokens.now) }
 {
     let level = Level {
@@ -30,12 +31,12 @@ fn in_mode(alloc: Global, mode: Mode, tokens: &[Token]) -> Result<raw::Path, Pat
     let (expr, rest) = level.inner_expr(tokens)?;
     match rest {
         [] => Ok(raw::Path { mode, expr }),
-        _ => Err(PathRefusal::Syntax),
+        _ => Err(ParseRefusal::Syntax),
     }
 }
 
 #[tactic(auto, unfolding(sj_path_grammar::specs::Reading::path_at))]
-fn path(alloc: Global, tokens: &[Token]) -> Result<raw::Path, PathRefusal>
+fn path(alloc: Global, tokens: &[Token]) -> Result<raw::Path, ParseRefusal>
     ensures { Gives raw.path_of result (reading.path_at tokens.now) }
 {
     if let Some(rest) = single::lax(tokens) {
@@ -54,7 +55,11 @@ fn parse_tokens(alloc: Global, tokens: &[Token]) -> Result<Path, PathRefusal>
     if is_too_deep(tokens) {
         return Err(PathRefusal::TooDeep);
     }
-    let path = path(alloc, tokens)?;
+    let path = match path(alloc, tokens) {
+        Ok(path) => path,
+        Err(ParseRefusal::Syntax) => return Err(PathRefusal::Syntax),
+        Err(ParseRefusal::Memory) => return Err(PathRefusal::Memory),
+    };
     if misplaced_expr(&path.expr, false, false) {
         return Err(PathRefusal::Misplaced);
     }
@@ -73,7 +78,7 @@ pub fn parse_path(alloc: Global, text: &str) -> Result<Path, PathRefusal>
 {
     match tokens_of(alloc, text) {
         Ok(tokens) => parse_tokens(alloc, tokens.as_slice()),
-        Err(LexError::Lex) => Err(PathRefusal::Lex),
-        Err(LexError::Memory) => Err(PathRefusal::Memory),
+        Err(ParseRefusal::Syntax) => Err(PathRefusal::Lex),
+        Err(ParseRefusal::Memory) => Err(PathRefusal::Memory),
     }
 }

@@ -1,14 +1,14 @@
 //! The ends of predicates.
 
 ghost use Rattle.std.specs.Prelude.{◌≡◌};
+ghost use Rattle.sj_base.specs.Gives.{Gives};
 ghost use Rattle.sj_path_grammar.specs.Reading as reading;
 ghost use Rattle.sj_path.specs.Raw.{expr_of, pred_of, expr_or_pred_of};
-ghost use Rattle.sj_path_grammar.specs.Gives.{Gives};
 
 use crate::raw::{Expr, ExprOrPred, Pred};
 use crate::single;
-use sj_base::Text;
-use sj_path_grammar::{Initial, PathRefusal};
+use sj_base::{ParseRefusal, Text, boxed};
+use sj_path_grammar::Initial;
 use sj_path_token::Token;
 use std::alloc::Global;
 
@@ -18,21 +18,21 @@ pub fn initial(
     alloc: Global,
     e: Box<Expr>,
     tokens: &[Token],
-) -> Result<(ExprOrPred, &[Token]), PathRefusal>
+) -> Result<(ExprOrPred, &[Token]), ParseRefusal>
     ensures { Gives (λ x. (expr_or_pred_of x.0, x.1.now)) result (reading.initial_at (expr_of e.value) tokens.now) }
 {
     match tokens {
         [Token::Quoted(text), rest @ ..] => {
             let initial = Initial::Lit(single::copy(alloc, text)?);
-            let p = Box::new(alloc, Pred::StartsWith(e, initial))?;
+            let p = boxed(alloc, Pred::StartsWith(e, initial))?;
             Ok((ExprOrPred::Test(p), rest))
         }
         [Token::Variable(name), rest @ ..] => {
             let initial = Initial::Var(single::copy(alloc, name)?);
-            let p = Box::new(alloc, Pred::StartsWith(e, initial))?;
+            let p = boxed(alloc, Pred::StartsWith(e, initial))?;
             Ok((ExprOrPred::Test(p), rest))
         }
-        _ => Err(PathRefusal::Syntax),
+        _ => Err(ParseRefusal::Syntax),
     }
 }
 
@@ -43,15 +43,15 @@ pub fn flags(
     e: Box<Expr>,
     pattern: Text,
     tokens: &[Token],
-) -> Result<(ExprOrPred, &[Token]), PathRefusal>
+) -> Result<(ExprOrPred, &[Token]), ParseRefusal>
     ensures { Gives (λ x. (expr_or_pred_of x.0, x.1.now)) result (reading.flags_at (expr_of e.value) pattern tokens.now) }
 {
     let Some(rest) = single::flag(tokens) else {
-        let p = Box::new(alloc, Pred::LikeRegex(e, pattern))?;
+        let p = boxed(alloc, Pred::LikeRegex(e, pattern))?;
         return Ok((ExprOrPred::Test(p), tokens));
     };
     let (flags, rest) = single::quoted(alloc, rest)?;
-    let p = Box::new(alloc, Pred::LikeRegexBy(e, pattern, flags))?;
+    let p = boxed(alloc, Pred::LikeRegexBy(e, pattern, flags))?;
     Ok((ExprOrPred::Test(p), rest))
 }
 
@@ -61,15 +61,15 @@ pub fn unknown(
     alloc: Global,
     p: Box<Pred>,
     tokens: &[Token],
-) -> Result<(ExprOrPred, &[Token]), PathRefusal>
+) -> Result<(ExprOrPred, &[Token]), ParseRefusal>
     ensures { Gives (λ x. (expr_or_pred_of x.0, x.1.now)) result (reading.unknown_from (pred_of p.value) tokens.now) }
 {
     let Some(rest) = single::is(tokens) else {
         return Ok((ExprOrPred::Test(p), tokens));
     };
     let Some(rest) = single::unknown(rest) else {
-        return Err(PathRefusal::Syntax);
+        return Err(ParseRefusal::Syntax);
     };
-    let p = Box::new(alloc, Pred::IsUnknown(p))?;
+    let p = boxed(alloc, Pred::IsUnknown(p))?;
     Ok((ExprOrPred::Test(p), rest))
 }

@@ -2,14 +2,14 @@
 
 ghost use Rattle.std.specs.Prelude.{◌≡◌, option_map, IfOk};
 ghost use Rattle.std.specs.Option.{option_copied};
-ghost use Rattle.sj_path_grammar.specs.Gives.{Gives};
+ghost use Rattle.sj_base.specs.Gives.{Gives};
 ghost use Rattle.sj_path_grammar.specs.Signs as sign;
 ghost use Rattle.sj_path.specs.Raw.{expr_of};
 ghost use Rattle.sj_path_grammar.specs.Reading as reading;
 
 use crate::raw::Expr;
-use sj_base::{Memory, Text};
-use sj_path_grammar::{Arith, Literal, PathRefusal};
+use sj_base::{Memory, ParseRefusal, Text};
+use sj_path_grammar::{Arith, Literal};
 use sj_path_token::{Keyword, Token};
 use std::alloc::Global;
 
@@ -135,7 +135,7 @@ fn word_expr(keyword: Keyword) -> Option<Expr>
 }
 
 /// A token that is an expression by itself.
-pub fn expr(alloc: Global, token: &Token) -> Result<Expr, PathRefusal>
+pub fn expr(alloc: Global, token: &Token) -> Result<Expr, ParseRefusal>
     ensures { Gives expr_of result (sign.token_expr token.now) }
 {
     match token {
@@ -144,8 +144,8 @@ pub fn expr(alloc: Global, token: &Token) -> Result<Expr, PathRefusal>
         Token::At => Ok(Expr::Context),
         Token::Quoted(text) => Ok(Expr::Lit(Literal::Text(copy(alloc, text)?))),
         Token::Number(n) => Ok(Expr::Lit(Literal::Num(*n))),
-        Token::Word(keyword, _) => word_expr(*keyword).ok_or(PathRefusal::Syntax),
-        _ => Err(PathRefusal::Syntax),
+        Token::Word(keyword, _) => word_expr(*keyword).ok_or(ParseRefusal::Syntax),
+        _ => Err(ParseRefusal::Syntax),
     }
 }
 
@@ -203,11 +203,11 @@ pub fn or(tokens: &[Token]) -> Option<&[Token]>
     }
 }
 
-pub fn quoted(alloc: Global, tokens: &[Token]) -> Result<(Text, &[Token]), PathRefusal>
+pub fn quoted(alloc: Global, tokens: &[Token]) -> Result<(Text, &[Token]), ParseRefusal>
     ensures { Gives (λ x. (x.0, x.1.now)) result (reading.quoted_at tokens.now) }
 {
     match tokens {
         [Token::Quoted(text), rest @ ..] => Ok((copy(alloc, text)?, rest)),
-        _ => Err(PathRefusal::Syntax),
+        _ => Err(ParseRefusal::Syntax),
     }
 }

@@ -1,15 +1,15 @@
 //! Accessors with no tree inside.
 
 ghost use Rattle.std.specs.Prelude.{◌≡◌, option_map};
+ghost use Rattle.sj_base.specs.Gives.{Gives};
 ghost use Rattle.sj_path_grammar.specs.Reading as reading;
 ghost use Rattle.sj_path_grammar.specs.Signs as sign;
 ghost use Rattle.sj_path.specs.Raw.{step_of};
-ghost use Rattle.sj_path_grammar.specs.Gives.{Gives};
 
 use crate::raw::Step;
 use crate::single;
-use sj_base::Text;
-use sj_path_grammar::{Method, PathRefusal};
+use sj_base::{ParseRefusal, Text};
+use sj_path_grammar::Method;
 use sj_path_token::{Keyword, Token};
 use std::alloc::Global;
 
@@ -36,19 +36,19 @@ fn method(keyword: Keyword) -> Option<Step>
 }
 
 #[tactic(auto, unfolding(sj_path_grammar::specs::Reading::datetime_at))]
-fn datetime(alloc: Global, tokens: &[Token]) -> Result<(Step, &[Token]), PathRefusal>
+fn datetime(alloc: Global, tokens: &[Token]) -> Result<(Step, &[Token]), ParseRefusal>
     ensures { Gives (λ x. (step_of x.0, x.1.now)) result (reading.datetime_at tokens.now) }
 {
     match tokens {
         [Token::Quoted(text), rest @ ..] => {
             let Some(rest) = single::close(rest) else {
-                return Err(PathRefusal::Syntax);
+                return Err(ParseRefusal::Syntax);
             };
             Ok((Step::DatetimeBy(single::copy(alloc, text)?), rest))
         }
         _ => {
             let Some(rest) = single::close(tokens) else {
-                return Err(PathRefusal::Syntax);
+                return Err(ParseRefusal::Syntax);
             };
             Ok((Step::Datetime, rest))
         }
@@ -61,17 +61,17 @@ fn called(
     alloc: Global,
     keyword: Keyword,
     tokens: &[Token],
-) -> Result<(Step, &[Token]), PathRefusal>
+) -> Result<(Step, &[Token]), ParseRefusal>
     ensures { Gives (λ x. (step_of x.0, x.1.now)) result (reading.called keyword tokens.now) }
 {
     match keyword {
         Keyword::Datetime => datetime(alloc, tokens),
         _ => {
             let Some(rest) = single::close(tokens) else {
-                return Err(PathRefusal::Syntax);
+                return Err(ParseRefusal::Syntax);
             };
             let Some(method) = method(keyword) else {
-                return Err(PathRefusal::Syntax);
+                return Err(ParseRefusal::Syntax);
             };
             Ok((method, rest))
         }
@@ -85,7 +85,7 @@ fn named<'a>(
     keyword: Keyword,
     text: &Text,
     tokens: &'a [Token],
-) -> Result<(Step, &'a [Token]), PathRefusal>
+) -> Result<(Step, &'a [Token]), ParseRefusal>
     ensures { Gives (λ x. (step_of x.0, x.1.now)) result (reading.named keyword text.now tokens.now) }
 {
     match tokens {
@@ -96,13 +96,13 @@ fn named<'a>(
 
 /// Behind a point.
 #[tactic(auto, unfolding(sj_path_grammar::specs::Reading::after_dot))]
-pub fn after_dot(alloc: Global, tokens: &[Token]) -> Result<(Step, &[Token]), PathRefusal>
+pub fn after_dot(alloc: Global, tokens: &[Token]) -> Result<(Step, &[Token]), ParseRefusal>
     ensures { Gives (λ x. (step_of x.0, x.1.now)) result (reading.after_dot tokens.now) }
 {
     match tokens {
         [Token::Star, rest @ ..] => Ok((Step::AllMembers, rest)),
         [Token::Quoted(text), rest @ ..] => Ok((Step::Member(single::copy(alloc, text)?), rest)),
         [Token::Word(keyword, text), rest @ ..] => named(alloc, *keyword, text, rest),
-        _ => Err(PathRefusal::Syntax),
+        _ => Err(ParseRefusal::Syntax),
     }
 }

@@ -13,7 +13,7 @@ use Rattle.sj_path_grammar.specs.Grammar.{Tokens, IsExpr, IsPath}
 use Rattle.sj_path_grammar.specs.Reading.{Read, ExprOrPred, Value, Test, on_some, lax_at, strict_at, as_value, inner_expr, expr_or_pred_at, ended, whole_at, with_mode, in_mode, path_at}
 use Rattle.sj_path_grammar.specs.declared.refusal.PathRefusal.{PathRefusal}
 use Rattle.sj_path_grammar.specs.declared.refusal.PathRefusal.TheVariants as r
-use Rattle.sj_path_grammar.specs.Gives.{Fails, Finishes}
+use Rattle.sj_path_grammar.specs.Finishes.{Finishes}
 use Rattle.sj_path_grammar.specs.Depth.{IsTooDeep}
 use Rattle.sj_path_grammar.specs.Misplaced.{is_misplaced}
 use Rattle.sj_path_grammar.specs.Unsupported.{unsupported}
@@ -96,13 +96,11 @@ path_sound ts p h = go (lax_at ts) (strict_at ts) refl refl h
 
 -- ---- the order of the refusals
 
-pub refused : (ts : Tokens) (e : PathRefusal) → (IsTooDeep ts → ⊥) → Fails e (path_at ts) → Forbids ts e
-refused ts r.Memory shallow h = tt
-refused ts r.Syntax shallow h = (shallow, λ p d. none_some (sym h ∙ path_full d))
+pub unread : (ts : Tokens) → (IsTooDeep ts → ⊥) → path_at ts ≡ None → Forbids ts r.Syntax
+unread ts shallow h = (shallow, λ p d. none_some (sym h ∙ path_full d))
   where
     none_some : {p : Path} → None ≡ Some p → ⊥
     none_some q = cc
-refused ts _ shallow h = absurd h
 
 pub spelled : (ts : Tokens) (p : Path) → (IsTooDeep ts → ⊥) → path_at ts ≡ Some p → Spells ts p
 spelled ts p shallow h = record { shallow = shallow; tree = path_sound ts p h }

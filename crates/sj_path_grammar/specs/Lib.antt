@@ -6,5 +6,5 @@ pub mod Misplaced
 pub mod Unsupported
 pub mod Answers
 pub mod Reading
-pub mod Gives
+pub mod Finishes
 pub mod Accepted

@@ -3,7 +3,6 @@
 ghost use Rattle.std.specs.Prelude.{◌≡◌};
 ghost use Rattle.sj_path_grammar.specs.declared.refusal.PathRefusal.TheVariants.{Memory};
 
-use std::alloc::{AllocError, AllocFailed};
 use thiserror::Error;
 
 /// A part of the standard that this implementation does not have.
@@ -39,22 +38,6 @@ pub enum PathRefusal {
     /// Memory ran out.
     #[error("refused")]
     Memory,
-}
-
-impl From<AllocError> for PathRefusal {
-    ghost from_gives = { λ _ e. e ≡ Memory };
-
-    fn from(_: AllocError) -> PathRefusal {
-        PathRefusal::Memory
-    }
-}
-
-impl<T: Drop> From<AllocFailed<T>> for PathRefusal {
-    ghost from_gives = { λ _ e. e ≡ Memory };
-
-    fn from(_: AllocFailed<T>) -> PathRefusal {
-        PathRefusal::Memory
-    }
 }
 
 impl From<sj_base::Memory> for PathRefusal {

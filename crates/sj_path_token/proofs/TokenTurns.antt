@@ -1,12 +1,12 @@
 -- One more turn of the loop over the tokens of a text, beside a recursion on the turns that are left.
 use Rattle.std.proofs.Common.{◌≡◌, ℕ, zero, suc, ◌+◌, ◌-◌, ◌<◌, ◌≤◌, true, false, List, [], ◌∷◌, ◌++◌, length, drop, Option, Some, None, Result, Err, Vec, Global, refl, sym, ap, ◌∙◌, arith, append_assoc}
 use Rattle.std.proofs.lemmas.List.{append-nil}
+use Rattle.sj_base.specs.declared.refusal.ParseRefusal.{ParseRefusal}
+use Rattle.sj_base.specs.declared.refusal.ParseRefusal.TheVariants as refusal
+use Rattle.sj_base.specs.Gives.{Gives}
 use Rattle.sj_base.specs.ByteClasses.{is_blank}
 use Rattle.sj_base.specs.Options.{◌>>=◌}
 use Rattle.sj_path_token.specs.declared.token.Token.{Token}
-use Rattle.sj_path_token.specs.declared.error.LexError.{LexError}
-use Rattle.sj_path_token.specs.declared.error.LexError.TheVariants as err
-use Rattle.sj_path_token.specs.Gives.{Gives}
 use Rattle.sj_path_token.specs.Tokens.{HasTokens}
 use Rattle.sj_path_token.specs.Reading.{form_from, exactly, token_at, lex_from}
 use Rattle.sj_path_token.proofs.Cuts.{bind_is, bind_none, cond_on, cond_off}
@@ -81,10 +81,10 @@ tokens_missed text e ts d = apart (sym e ∙ lex_full d (length text) (omega ari
     apart q = cc
 
 -- no token is told by that error alone
-pub no_token_error : (e : LexError) (read : Option (Token × ℕ)) (r : Result (Vec Token Global) LexError)
-    → r ≡ Err e → Gives {X = Token × ℕ} (λ x. x) (Err e) read → r ≡ Err err.Lex → read ≡ None
-no_token_error err.Memory read r q h lex = absurd (clash (sym q ∙ lex))
+pub no_token_error : (e : ParseRefusal) (read : Option (Token × ℕ)) (r : Result (Vec Token Global) ParseRefusal)
+    → r ≡ Err e → Gives {X = Token × ℕ} (λ x. x) (Err e) read → r ≡ Err refusal.Syntax → read ≡ None
+no_token_error refusal.Memory read r q h lex = absurd (clash (sym q ∙ lex))
   where
-    clash : ◌≡◌ {A = Result (Vec Token Global) LexError} (Err err.Memory) (Err err.Lex) → ⊥
+    clash : ◌≡◌ {A = Result (Vec Token Global) ParseRefusal} (Err refusal.Memory) (Err refusal.Syntax) → ⊥
     clash q = cc
-no_token_error err.Lex read r q h lex = h
+no_token_error refusal.Syntax read r q h lex = h

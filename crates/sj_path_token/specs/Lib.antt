@@ -3,4 +3,3 @@ pub mod Strings
 pub mod Numbers
 pub mod Tokens
 pub mod Reading
-pub mod Gives

@@ -9,7 +9,6 @@
 #![tactic(auto)]
 
 mod bytes;
-mod error;
 mod keyword;
 mod lex;
 mod number;
@@ -18,7 +17,6 @@ mod string;
 mod token;
 mod word;
 
-pub use error::LexError;
 pub use keyword::Keyword;
 pub use lex::tokens_of;
 pub use token::Token;

@@ -1,13 +1,12 @@
 //! Numbers.
 
 ghost use Rattle.std.specs.Prelude.{◌≡◌, ◌≤◌, length};
+ghost use Rattle.sj_base.specs.Gives.{Gives};
 ghost use Rattle.sj_path_token.specs.Reading as reading;
-ghost use Rattle.sj_path_token.specs.Gives.{Gives};
 
 use crate::bytes::digits_len;
-use crate::error::LexError;
 use crate::token::Token;
-use sj_base::{next_is, next_is_digit};
+use sj_base::{ParseRefusal, next_is, next_is_digit};
 use sj_decimal::{Decimal, Parsed};
 
 fn whole_len(bytes: &[u8]) -> usize
@@ -71,12 +70,12 @@ fn number_len(bytes: &[u8]) -> usize
 }
 
 /// The longest number at the front, which begins with a digit.
-pub(crate) fn number(bytes: &[u8]) -> Result<(Token, usize), LexError>
+pub(crate) fn number(bytes: &[u8]) -> Result<(Token, usize), ParseRefusal>
     ensures { Gives (λ x. x) result (reading.exactly (reading.number_at bytes.now)) }
 {
     let len = number_len(bytes);
     match Decimal::parse(&bytes[..len]) {
         Parsed::Exact(number) => Ok((Token::Number(number), len)),
-        Parsed::Wide | Parsed::NotNumber => Err(LexError::Lex),
+        Parsed::Wide | Parsed::NotNumber => Err(ParseRefusal::Syntax),
     }
 }

@@ -1,14 +1,14 @@
 //! Strings.
 
-ghost use Rattle.std.specs.Prelude.{◌≡◌, ◌<◌, true, false, Some, IfSome, length};
+ghost use Rattle.std.specs.Prelude.{◌≡◌, ◌<◌, true, false, Some, IfOk, IfSome, length, option_map};
 ghost use Rattle.std.specs.Char.Utf16.{is_high_surrogate as is_high, is_low_surrogate as is_low};
 ghost use Rattle.sj_path_token.specs.Strings as spec;
 ghost use Rattle.sj_path_token.specs.Reading as reading;
-ghost use Rattle.sj_path_token.specs.Gives.{Gives};
 
 use crate::bytes::plain_len;
-use crate::error::LexError;
-use sj_base::{Text, is_high_surrogate, is_low_surrogate, letter_char, surrogate_pair_char};
+use sj_base::{
+    Memory, Text, is_high_surrogate, is_low_surrogate, letter_char, surrogate_pair_char,
+};
 use std::alloc::Global;
 
 fn hex_digit(b: u8) -> Option<u32>
@@ -91,9 +91,9 @@ fn escape(bytes: &[u8]) -> Option<(char, usize)>
     }
 }
 
-/// What a string stands for, and how many bytes it has behind its first quotation mark.
-pub(crate) fn string(alloc: Global, inside: &str) -> Result<(Text, usize), LexError>
-    ensures { Gives (λ x. (x.0, x.1)) result (reading.inside_from (length inside.now) inside.now) }
+/// What a string stands for, and how many bytes it has behind its first quotation mark, or nothing where no string stands.
+pub(crate) fn string(alloc: Global, inside: &str) -> Result<Option<(Text, usize)>, Memory>
+    ensures { IfOk result (λ o. reading.inside_from (length inside.now) inside.now ≡ option_map (λ x. (x.0, x.1)) o) }
 {
     let mut value = String::new(alloc);
     let mut rest = inside;
@@ -102,21 +102,21 @@ pub(crate) fn string(alloc: Global, inside: &str) -> Result<(Text, usize), LexEr
         let bytes = rest.as_bytes();
         let len = plain_len(bytes);
         let Some((mark, after)) = bytes[len..].split_first() else {
-            return Err(LexError::Lex);
+            return Ok(None);
         };
         value.push_str(&rest[..len])?;
         if *mark == b'"' {
-            return Ok((Text::from_string(value), at + (len + 1)));
+            return Ok(Some((Text::from_string(value), at + (len + 1))));
         }
         if *mark != b'\\' {
-            return Err(LexError::Lex);
+            return Ok(None);
         }
         let Some((c, escaped)) = escape(after) else {
-            return Err(LexError::Lex);
+            return Ok(None);
         };
         value.push(c)?;
         rest = &rest[len + (1 + escaped)..];
         at += len + (1 + escaped);
     }
-    Err(LexError::Lex)
+    Ok(None)
 }

@@ -1,15 +1,14 @@
 //! Words and variables.
 
 ghost use Rattle.std.specs.Prelude.{◌≡◌};
+ghost use Rattle.sj_base.specs.Gives.{Gives};
 ghost use Rattle.sj_path_token.specs.Words.{keyword_of};
 ghost use Rattle.sj_path_token.specs.Reading as reading;
-ghost use Rattle.sj_path_token.specs.Gives.{Gives};
 
 use crate::bytes::{next_is_letter, word_len};
-use crate::error::LexError;
 use crate::keyword::Keyword;
 use crate::token::Token;
-use sj_base::Text;
+use sj_base::{ParseRefusal, Text};
 use std::alloc::Global;
 
 /// The part that a word plays.
@@ -51,7 +50,7 @@ fn keyword(word: &str) -> Keyword
 
 /// The word at the front.
 #[tactic(auto, using(crate::proofs::Boundaries::word_boundary), unfolding(crate::specs::Reading::word_at))]
-pub(crate) fn word(alloc: Global, text: &str) -> Result<(Token, usize), LexError>
+pub(crate) fn word(alloc: Global, text: &str) -> Result<(Token, usize), ParseRefusal>
     ensures { Gives (λ x. x) result (reading.exactly (reading.word_at text.now)) }
 {
     let len = word_len(text.as_bytes());
@@ -64,7 +63,7 @@ pub(crate) fn word(alloc: Global, text: &str) -> Result<(Token, usize), LexError
 
 /// The root, or the variable whose name stands at the front of `text`, with the `$` before it.
 #[tactic(auto, using(crate::proofs::Boundaries::word_boundary), unfolding(crate::specs::Reading::dollar_at))]
-pub(crate) fn dollar(alloc: Global, text: &str) -> Result<(Token, usize), LexError>
+pub(crate) fn dollar(alloc: Global, text: &str) -> Result<(Token, usize), ParseRefusal>
     ensures { Gives (λ x. x) result (reading.exactly (reading.dollar_at text.now)) }
 {
     if !next_is_letter(text.as_bytes()) {

@@ -1,5 +1,8 @@
 -- What commas part: the turns of a loop that gathers it, beside the recursion that reads it.
 use Rattle.std.proofs.Common.{map, ◌≡◌, ℕ, zero, suc, ◌+◌, ◌-◌, ◌<◌, ◌≤◌, List, [], ◌∷◌, ◌++◌, Option, Some, None, refl, sym, ap, ◌∙◌, arith}
+use Rattle.sj_base.specs.declared.refusal.ParseRefusal.{ParseRefusal}
+use Rattle.sj_base.specs.declared.refusal.ParseRefusal.TheVariants as refusal
+use Rattle.sj_base.specs.Gives.{Fails}
 use Rattle.sj_base.specs.Options.{◌>>=◌}
 use Rattle.sj_path_grammar.specs.Tree.{Path}
 use Rattle.sj_sql_grammar.specs.declared.clauses.Passed.{Passed}
@@ -8,13 +11,10 @@ use Rattle.sj_sql_grammar.specs.Faults.{Faults, parsing}
 use Rattle.sj_sql_grammar.specs.Phrases.{Tokens, if_some, comma_at, passed_at}
 use Rattle.sj_sql_grammar.specs.Reading.{list_from, values_from, member_at, members_from, column_at, columns_from, items_from}
 use Rattle.sj_sql_grammar.proofs.ReadTokens.{bind_is, bind_none, some_on, none_on}
-use Rattle.sj_sql.specs.declared.refusal.Refusal.{Refusal}
-use Rattle.sj_sql.specs.declared.refusal.Refusal.TheVariants as refusal
 use Rattle.sj_sql_tree.specs.declared.tree.SValue.{SValue}
 use Rattle.sj_sql_tree.specs.declared.tree.TItem.{TItem}
 use Rattle.sj_sql_tree.specs.View.{svalue_of, plain_of, item_of, items_of}
 use Rattle.sj_sql.specs.Cells.{onto, fronted, listed, more_members}
-use Rattle.sj_sql.specs.Gives.{Fails}
 
 -- ---- one more at the end of a list
 
@@ -85,7 +85,7 @@ module _ {A L : Type 0} (more : A → L → L) (last : A → L) (one : Faults �
       e ∙ ap (λ m. fronted more before (from m f rest)) count ∙ ap (fronted more before) (r.step (n - (at + 1)) f rest ∙ bind_none _ _ o)
 
   -- none stands there
-  pub fails : {start : Option (L × Faults × Tokens)} (why : Refusal) (n at : ℕ) (before : List A) (f : Faults) (rest : Tokens) → at < n
+  pub fails : {start : Option (L × Faults × Tokens)} (why : ParseRefusal) (n at : ℕ) (before : List A) (f : Faults) (rest : Tokens) → at < n
       → start ≡ fronted more before (from (n - at) f rest) → Fails why (one f rest) → Fails why start
   fails refusal.Memory n at before f rest below e o = tt
   fails refusal.Syntax n at before f rest below e o = stops n at before f rest below e o
@@ -151,7 +151,7 @@ passed_stops n at before rest below e o =
     let count : n - at ≡ suc (n - (at + 1)) = omega arith in
     e ∙ ap (λ m. listed before (list_from passed_at m rest)) count ∙ ap (listed before) (bind_none _ _ o)
 
-pub passed_fails : {start : Option (List Passed × Tokens)} (why : Refusal) (n at : ℕ) (before : List Passed) (rest : Tokens) → at < n
+pub passed_fails : {start : Option (List Passed × Tokens)} (why : ParseRefusal) (n at : ℕ) (before : List Passed) (rest : Tokens) → at < n
     → start ≡ listed before (list_from passed_at (n - at) rest) → Fails why (passed_at rest) → Fails why start
 passed_fails refusal.Memory n at before rest below e o = tt
 passed_fails refusal.Syntax n at before rest below e o = passed_stops n at before rest below e o

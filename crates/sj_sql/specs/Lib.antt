@@ -1,4 +1,3 @@
-pub mod Gives
 pub mod Noted
 pub mod Cells
 pub mod File

@@ -4,13 +4,13 @@ use Rattle.sj_path_grammar.specs.Tree as g
 use Rattle.sj_path_tree.specs.declared.tree.Path.{Path}
 use Rattle.sj_path_tree.specs.Tree.{path_of}
 use Rattle.std.specs.Borrow.{Bor}
+use Rattle.sj_base.specs.declared.refusal.ParseRefusal.{ParseRefusal}
+use Rattle.sj_base.specs.Gives.{Fails}
 use Rattle.sj_sql_grammar.specs.Answers as a
 use Rattle.sj_sql_grammar.specs.Faults as f
 use Rattle.sj_sql_grammar.specs.Phrases.{Tokens}
 use Rattle.sj_sql_grammar.specs.Tree.{PathText}
 use Rattle.sj_sql.specs.declared.faults.Faults.{Faults}
-use Rattle.sj_sql.specs.declared.refusal.Refusal.{Refusal}
-use Rattle.sj_sql.specs.Gives.{Fails}
 
 abbrev pub faults_of : Faults → f.Faults
 faults_of x = record { path = x.path; unsupported = x.unsupported }
@@ -27,6 +27,6 @@ pub record IsPathRead (read : Option (PathText × Tokens)) (before : f.Faults) (
   pub its_path : path ≡ a.path_of text
   pub noted : after ≡ f.noting_path text before
 
-abbrev pub ReadsPath : Option (PathText × Tokens) → f.Faults → Result (Path × Faults × Bor Tokens) Refusal → Type 0
+abbrev pub ReadsPath : Option (PathText × Tokens) → f.Faults → Result (Path × Faults × Bor Tokens) ParseRefusal → Type 0
 ReadsPath read before (Ok x) = IsPathRead read before (path_of x.0) (faults_of x.1) x.2.now
 ReadsPath read before (Err e) = Fails e read

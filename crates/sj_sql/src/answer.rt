@@ -3,9 +3,9 @@
 ghost use Rattle.sj_sql.specs.File.{IsAnswered};
 
 use crate::depth::too_deep;
-use crate::refusal::Refusal;
 use crate::select::select;
 use crate::single::Tokens;
+use sj_base::ParseRefusal;
 use sj_sql_grammar::FileKind;
 use sj_sql_tree::Statement;
 use std::alloc::Global;
@@ -35,7 +35,7 @@ pub fn answer(alloc: Global, tokens: Tokens<'_>) -> Result<Statement, Refused>
                 None => Ok(statement),
             },
         },
-        Err(Refusal::Syntax) => Err(Refused::For(FileKind::Syntax)),
-        Err(Refusal::Memory) => Err(Refused::Memory),
+        Err(ParseRefusal::Syntax) => Err(Refused::For(FileKind::Syntax)),
+        Err(ParseRefusal::Memory) => Err(Refused::Memory),
     }
 }

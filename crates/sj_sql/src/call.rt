@@ -1,9 +1,9 @@
 //! The functions JSON_EXISTS, JSON_VALUE and JSON_QUERY, behind their words.
 
 ghost use Rattle.std.specs.Prelude.{◌≡◌};
+ghost use Rattle.sj_base.specs.Gives.{Gives};
 ghost use Rattle.sj_sql_grammar.specs.Faults.{parsing};
 ghost use Rattle.sj_sql_grammar.specs.Reading as reading;
-ghost use Rattle.sj_sql.specs.Gives.{Gives};
 ghost use Rattle.sj_sql.specs.Noted.{faults_of};
 ghost use Rattle.sj_sql_tree.specs.View.{svalue_of};
 
@@ -11,8 +11,8 @@ use crate::common::common;
 use crate::faults::Faults;
 use crate::optional::value_action;
 use crate::phrase::{exists_clause, query_clause, quotes_clause, returning, wrapper};
-use crate::refusal::Refusal;
 use crate::single::{Tokens, close, open};
+use sj_base::{ParseRefusal, boxed};
 use sj_sql_grammar::{Quotes, TypeName};
 use sj_sql_token::Keyword;
 use sj_sql_tree::{ExistsCall, QueryCall, SValue, ValueCall};
@@ -25,18 +25,18 @@ pub fn exists(
     alloc: Global,
     faults: Faults,
     tokens: Tokens<'_>,
-) -> Result<(SValue, Faults, Tokens<'_>), Refusal>
+) -> Result<(SValue, Faults, Tokens<'_>), ParseRefusal>
     ensures { Gives (λ x. (svalue_of x.0, faults_of x.1, x.2.now)) result (reading.exists_from parsing (faults_of faults) tokens.now) }
 {
     let Some(rest) = open(tokens) else {
-        return Err(Refusal::Syntax);
+        return Err(ParseRefusal::Syntax);
     };
     let (common, faults, rest) = common(alloc, faults, rest)?;
     let (on_error, rest) = exists_clause(rest).unwrap_or((ExistsAction::False, rest));
     let Some(rest) = close(rest) else {
-        return Err(Refusal::Syntax);
+        return Err(ParseRefusal::Syntax);
     };
-    let call = Box::new(alloc, ExistsCall { common, on_error })?;
+    let call = boxed(alloc, ExistsCall { common, on_error })?;
     Ok((SValue::Exists(call), faults, rest))
 }
 
@@ -46,18 +46,18 @@ pub fn value(
     alloc: Global,
     faults: Faults,
     tokens: Tokens<'_>,
-) -> Result<(SValue, Faults, Tokens<'_>), Refusal>
+) -> Result<(SValue, Faults, Tokens<'_>), ParseRefusal>
     ensures { Gives (λ x. (svalue_of x.0, faults_of x.1, x.2.now)) result (reading.value_from parsing (faults_of faults) tokens.now) }
 {
     let Some(rest) = open(tokens) else {
-        return Err(Refusal::Syntax);
+        return Err(ParseRefusal::Syntax);
     };
     let (common, faults, rest) = common(alloc, faults, rest)?;
     let (ty, rest) = returning(rest).unwrap_or((TypeName::Known(SqlType::Varchar), rest));
     let (on_empty, rest) = value_action(alloc, Keyword::Empty, rest)?;
     let (on_error, rest) = value_action(alloc, Keyword::Error, rest)?;
     let Some(rest) = close(rest) else {
-        return Err(Refusal::Syntax);
+        return Err(ParseRefusal::Syntax);
     };
     let call = ValueCall {
         common,
@@ -65,7 +65,7 @@ pub fn value(
         on_empty,
         on_error,
     };
-    let call = Box::new(alloc, call)?;
+    let call = boxed(alloc, call)?;
     Ok((SValue::Value(call), faults.with_type(ty), rest))
 }
 
@@ -75,11 +75,11 @@ pub fn query(
     alloc: Global,
     faults: Faults,
     tokens: Tokens<'_>,
-) -> Result<(SValue, Faults, Tokens<'_>), Refusal>
+) -> Result<(SValue, Faults, Tokens<'_>), ParseRefusal>
     ensures { Gives (λ x. (svalue_of x.0, faults_of x.1, x.2.now)) result (reading.query_from parsing (faults_of faults) tokens.now) }
 {
     let Some(rest) = open(tokens) else {
-        return Err(Refusal::Syntax);
+        return Err(ParseRefusal::Syntax);
     };
     let (common, faults, rest) = common(alloc, faults, rest)?;
     let (wrapper, rest) = wrapper(rest).unwrap_or((Wrapper::Without, rest));
@@ -87,7 +87,7 @@ pub fn query(
     let (on_empty, rest) = query_clause(Keyword::Empty, rest).unwrap_or((QueryAction::Null, rest));
     let (on_error, rest) = query_clause(Keyword::Error, rest).unwrap_or((QueryAction::Null, rest));
     let Some(rest) = close(rest) else {
-        return Err(Refusal::Syntax);
+        return Err(ParseRefusal::Syntax);
     };
     let call = QueryCall {
         common,
@@ -96,6 +96,6 @@ pub fn query(
         on_empty,
         on_error,
     };
-    let call = Box::new(alloc, call)?;
+    let call = boxed(alloc, call)?;
     Ok((SValue::Query(call), faults, rest))
 }

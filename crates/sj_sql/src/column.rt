@@ -1,11 +1,11 @@
 //! The columns of a table, with a function that reads the columns inside them.
 
 ghost use Rattle.std.specs.Prelude.{◌≡◌, IfOk, length, map};
+ghost use Rattle.sj_base.specs.Gives.{Gives};
 ghost use Rattle.sj_sql_grammar.specs.Faults.{parsing};
 ghost use Rattle.sj_sql_grammar.specs.Reading as reading;
 ghost use Rattle.sj_sql_grammar.specs.Tree as t;
 ghost use Rattle.sj_sql.specs.Cells.{onto, boxed_column_of};
-ghost use Rattle.sj_sql.specs.Gives.{Gives};
 ghost use Rattle.sj_sql.specs.Nests.{ColumnNests};
 ghost use Rattle.sj_sql.specs.Noted.{faults_of};
 ghost use Rattle.sj_sql_tree.specs.View.{column_of, columns_of};
@@ -18,9 +18,8 @@ use crate::phrase::{
     encoding_clause, existence_type, exists_clause, formatted_type, query_clause, quotes_clause,
     type_name, wrapper,
 };
-use crate::refusal::Refusal;
 use crate::single::{Rest, Tokens, close, comma, name, open, word};
-use sj_base::{Memory, Text};
+use sj_base::{Memory, ParseRefusal, Text, boxed};
 use sj_sql_grammar::{Encoding, Quotes};
 use sj_sql_token::Keyword;
 use sj_sql_tree::{Column, Columns, FormattedColumn, RegularColumn, Seq};
@@ -34,11 +33,11 @@ fn regular(
     name: Text,
     faults: Faults,
     tokens: Tokens<'_>,
-) -> Result<(Column, Faults, Tokens<'_>), Refusal>
+) -> Result<(Column, Faults, Tokens<'_>), ParseRefusal>
     ensures { Gives (λ x. (column_of x.0, faults_of x.1, x.2.now)) result (reading.regular_at parsing name (faults_of faults) tokens.now) }
 {
     let Some((ty, rest)) = type_name(tokens) else {
-        return Err(Refusal::Syntax);
+        return Err(ParseRefusal::Syntax);
     };
     let (path, faults, rest) = column_path(alloc, &name, faults.with_type(ty), rest)?;
     let (on_empty, rest) = value_action(alloc, Keyword::Empty, rest)?;
@@ -60,7 +59,7 @@ fn formatted(
     name: Text,
     faults: Faults,
     tokens: Tokens<'_>,
-) -> Result<(Column, Faults, Tokens<'_>), Refusal>
+) -> Result<(Column, Faults, Tokens<'_>), ParseRefusal>
     ensures { Gives (λ x. (column_of x.0, faults_of x.1, x.2.now)) result (reading.formatted_from parsing name (faults_of faults) tokens.now) }
 {
     let (encoding, rest) = encoding_clause(tokens).unwrap_or((Encoding::Read, tokens));
@@ -88,7 +87,7 @@ fn existence(
     name: Text,
     faults: Faults,
     tokens: Tokens<'_>,
-) -> Result<(Column, Faults, Tokens<'_>), Refusal>
+) -> Result<(Column, Faults, Tokens<'_>), ParseRefusal>
     ensures { Gives (λ x. (column_of x.0, faults_of x.1, x.2.now)) result (reading.existence_from parsing name (faults_of faults) tokens.now) }
 {
     let (path, faults, rest) = column_path(alloc, &name, faults, tokens)?;
@@ -103,12 +102,12 @@ fn named_column(
     name: Text,
     faults: Faults,
     tokens: Tokens<'_>,
-) -> Result<(Column, Faults, Tokens<'_>), Refusal>
+) -> Result<(Column, Faults, Tokens<'_>), ParseRefusal>
     ensures { Gives (λ x. (column_of x.0, faults_of x.1, x.2.now)) result (reading.named_column_at parsing name (faults_of faults) tokens.now) }
 {
     if let Some(rest) = word(Keyword::For, tokens) {
         let Some(rest) = word(Keyword::Ordinality, rest) else {
-            return Err(Refusal::Syntax);
+            return Err(ParseRefusal::Syntax);
         };
         return Ok((Column::Ordinality(name), faults, rest));
     }
@@ -124,7 +123,7 @@ fn named_column(
 fn column_cell(alloc: Global, column: Box<Column>, others: Columns) -> Result<Columns, Memory>
     ensures { IfOk result (λ x. columns_of x ≡ t.More (boxed_column_of column) (columns_of others)) }
 {
-    let others = Box::new(alloc, others)?;
+    let others = boxed(alloc, others)?;
     Ok(Columns::More(column, others))
 }
 
@@ -154,13 +153,13 @@ pub struct Level<F> {
 }
 
 impl<
-    F: Fn(Global, usize, Faults, Tokens<'_>) -> Result<(Columns, Faults, Tokens<'_>), Refusal>,
+    F: Fn(Global, usize, Faults, Tokens<'_>) -> Result<(Columns, Faults, Tokens<'_>), ParseRefusal>,
 > Level<F> {
     fn inner<'a>(
         &self,
         faults: Faults,
         tokens: Tokens<'a>,
-    ) -> Result<(Columns, Faults, Tokens<'a>), Refusal>
+    ) -> Result<(Columns, Faults, Tokens<'a>), ParseRefusal>
         requires { ColumnNests self.now.depth (F.pre self.now.inner) (F.post self.now.inner) }
         ensures { Gives (λ x. (columns_of x.0, faults_of x.1, x.2.now)) result (reading.columns_at parsing self.now.depth (faults_of faults) tokens.now) }
     {
@@ -173,18 +172,18 @@ impl<
         &self,
         faults: Faults,
         tokens: Tokens<'a>,
-    ) -> Result<(Column, Faults, Tokens<'a>), Refusal>
+    ) -> Result<(Column, Faults, Tokens<'a>), ParseRefusal>
         requires { ColumnNests self.now.depth (F.pre self.now.inner) (F.post self.now.inner) }
         ensures { Gives (λ x. (column_of x.0, faults_of x.1, x.2.now)) result
             (reading.nested_from parsing (reading.columns_at parsing self.now.depth) (faults_of faults) tokens.now) }
     {
         let Some((text, rest)) = nested_path(tokens) else {
-            return Err(Refusal::Syntax);
+            return Err(ParseRefusal::Syntax);
         };
         let (path, faults) = path(self.alloc, faults, text)?;
         let (name, rest) = name_of_path(self.alloc, rest)?;
         let (columns, faults, rest) = self.inner(faults, rest)?;
-        let columns = Box::new(self.alloc, columns)?;
+        let columns = boxed(self.alloc, columns)?;
         Ok((Column::Nested(path, name, columns), faults, rest))
     }
 
@@ -193,7 +192,7 @@ impl<
         &self,
         faults: Faults,
         tokens: Tokens<'a>,
-    ) -> Result<(Column, Faults, Tokens<'a>), Refusal>
+    ) -> Result<(Column, Faults, Tokens<'a>), ParseRefusal>
         requires { ColumnNests self.now.depth (F.pre self.now.inner) (F.post self.now.inner) }
         ensures { Gives (λ x. (column_of x.0, faults_of x.1, x.2.now)) result
             (reading.column_at parsing (reading.columns_at parsing self.now.depth) (faults_of faults) tokens.now) }
@@ -209,13 +208,13 @@ impl<
         &self,
         faults: Faults,
         tokens: Tokens<'a>,
-    ) -> Result<(Box<Column>, Faults, Tokens<'a>), Refusal>
+    ) -> Result<(Box<Column>, Faults, Tokens<'a>), ParseRefusal>
         requires { ColumnNests self.now.depth (F.pre self.now.inner) (F.post self.now.inner) }
         ensures { Gives (λ x. (boxed_column_of x.0, faults_of x.1, x.2.now)) result
             (reading.column_at parsing (reading.columns_at parsing self.now.depth) (faults_of faults) tokens.now) }
     {
         let (column, faults, rest) = self.column(faults, tokens)?;
-        Ok((Box::new(self.alloc, column)?, faults, rest))
+        Ok((boxed(self.alloc, column)?, faults, rest))
     }
 
     /// Columns with commas between them.
@@ -224,7 +223,7 @@ impl<
         &self,
         faults: Faults,
         tokens: Tokens<'a>,
-    ) -> Result<(Columns, Faults, Tokens<'a>), Refusal>
+    ) -> Result<(Columns, Faults, Tokens<'a>), ParseRefusal>
         requires { ColumnNests self.now.depth (F.pre self.now.inner) (F.post self.now.inner) }
         ensures { Gives (λ x. (columns_of x.0, faults_of x.1, x.2.now)) result
             (reading.columns_from parsing (reading.columns_at parsing self.now.depth) (length tokens.now) (faults_of faults) tokens.now) }
@@ -242,7 +241,7 @@ impl<
             so_far = noted;
             left = Rest { tokens: next };
         }
-        Err(Refusal::Syntax)
+        Err(ParseRefusal::Syntax)
     }
 
     #[tactic(auto, unfolding(sj_sql_grammar::specs::Reading::columns_over))]
@@ -250,20 +249,20 @@ impl<
         &self,
         faults: Faults,
         tokens: Tokens<'a>,
-    ) -> Result<(Columns, Faults, Tokens<'a>), Refusal>
+    ) -> Result<(Columns, Faults, Tokens<'a>), ParseRefusal>
         requires { ColumnNests self.now.depth (F.pre self.now.inner) (F.post self.now.inner) }
         ensures { Gives (λ x. (columns_of x.0, faults_of x.1, x.2.now)) result
             (reading.columns_over parsing (reading.columns_at parsing self.now.depth) (faults_of faults) tokens.now) }
     {
         let Some(rest) = word(Keyword::Columns, tokens) else {
-            return Err(Refusal::Syntax);
+            return Err(ParseRefusal::Syntax);
         };
         let Some(rest) = open(rest) else {
-            return Err(Refusal::Syntax);
+            return Err(ParseRefusal::Syntax);
         };
         let (columns, faults, rest) = self.columns(faults, rest)?;
         let Some(rest) = close(rest) else {
-            return Err(Refusal::Syntax);
+            return Err(ParseRefusal::Syntax);
         };
         Ok((columns, faults, rest))
     }
@@ -275,11 +274,11 @@ pub fn columns(
     depth: usize,
     faults: Faults,
     tokens: Tokens<'_>,
-) -> Result<(Columns, Faults, Tokens<'_>), Refusal>
+) -> Result<(Columns, Faults, Tokens<'_>), ParseRefusal>
     ensures { Gives (λ x. (columns_of x.0, faults_of x.1, x.2.now)) result (reading.columns_at parsing depth (faults_of faults) tokens.now) }
 {
     if depth == 0 {
-        return Err(Refusal::Syntax);
+        return Err(ParseRefusal::Syntax);
     }
     Level {
         alloc,

@@ -1,9 +1,9 @@
 //! The document, the path and the variables of a function or a table.
 
 ghost use Rattle.std.specs.Prelude.{◌≡◌};
+ghost use Rattle.sj_base.specs.Gives.{Gives};
 ghost use Rattle.sj_sql_grammar.specs.Faults.{parsing};
 ghost use Rattle.sj_sql_grammar.specs.Reading as reading;
-ghost use Rattle.sj_sql.specs.Gives.{Gives};
 ghost use Rattle.sj_sql.specs.Noted.{faults_of};
 ghost use Rattle.sj_sql_tree.specs.View.{common_of};
 
@@ -12,9 +12,8 @@ use crate::faults::Faults;
 use crate::optional::name_of_path;
 use crate::passing::passing;
 use crate::path::path;
-use crate::refusal::Refusal;
 use crate::single::{Tokens, comma, string};
-use sj_base::Text;
+use sj_base::{ParseRefusal, Text};
 use sj_sql_tree::Common;
 use std::alloc::Global;
 
@@ -24,17 +23,17 @@ pub fn common(
     alloc: Global,
     faults: Faults,
     tokens: Tokens<'_>,
-) -> Result<(Common, Faults, Tokens<'_>), Refusal>
+) -> Result<(Common, Faults, Tokens<'_>), ParseRefusal>
     ensures { Gives (λ x. (common_of x.0, faults_of x.1, x.2.now)) result (reading.common_at parsing (faults_of faults) tokens.now) }
 {
     let Some((encoding, rest)) = document(tokens) else {
-        return Err(Refusal::Syntax);
+        return Err(ParseRefusal::Syntax);
     };
     let Some(rest) = comma(rest) else {
-        return Err(Refusal::Syntax);
+        return Err(ParseRefusal::Syntax);
     };
     let Some((text, rest)) = string(rest) else {
-        return Err(Refusal::Syntax);
+        return Err(ParseRefusal::Syntax);
     };
     let (path, faults) = path(alloc, faults.with_encoding(encoding), text)?;
     let (passing, rest) = passing(alloc, rest)?;
@@ -52,17 +51,17 @@ pub fn row_path(
     alloc: Global,
     faults: Faults,
     tokens: Tokens<'_>,
-) -> Result<((Common, Option<Text>), Faults, Tokens<'_>), Refusal>
+) -> Result<((Common, Option<Text>), Faults, Tokens<'_>), ParseRefusal>
     ensures { Gives (λ x. ((common_of x.0.0, x.0.1), faults_of x.1, x.2.now)) result (reading.row_path_at parsing (faults_of faults) tokens.now) }
 {
     let Some((encoding, rest)) = document(tokens) else {
-        return Err(Refusal::Syntax);
+        return Err(ParseRefusal::Syntax);
     };
     let Some(rest) = comma(rest) else {
-        return Err(Refusal::Syntax);
+        return Err(ParseRefusal::Syntax);
     };
     let Some((text, rest)) = string(rest) else {
-        return Err(Refusal::Syntax);
+        return Err(ParseRefusal::Syntax);
     };
     let (path, faults) = path(alloc, faults.with_encoding(encoding), text)?;
     let (name, rest) = name_of_path(alloc, rest)?;

@@ -1,21 +1,21 @@
 //! The values of a SELECT list without a table.
 
 ghost use Rattle.std.specs.Prelude.{◌≡◌};
+ghost use Rattle.sj_base.specs.Gives.{Gives};
 ghost use Rattle.sj_sql_grammar.specs.Faults.{parsing};
 ghost use Rattle.sj_sql_grammar.specs.Grammar as grammar;
 ghost use Rattle.sj_sql_grammar.specs.Reading as reading;
 ghost use Rattle.sj_sql_grammar.specs.Tree as t;
-ghost use Rattle.sj_sql.specs.Gives.{Gives};
 ghost use Rattle.sj_sql.specs.Noted.{faults_of};
 ghost use Rattle.sj_sql_tree.specs.View.{svalue_of, svalues_of, smembers_of};
 
 use crate::call::{exists, query, value};
 use crate::document::is_json;
 use crate::faults::Faults;
-use crate::refusal::Refusal;
 use crate::single::{Tokens, word};
 use crate::value::Level;
 use crate::value_tree::ValueTree;
+use sj_base::ParseRefusal;
 use sj_path::Literal;
 use sj_sql_token::Keyword;
 use sj_sql_tree::{SMembers, SValue, SValues};
@@ -28,7 +28,7 @@ fn asking_document(
     alloc: Global,
     faults: Faults,
     tokens: Tokens<'_>,
-) -> Result<(SValue, Faults, Tokens<'_>), Refusal>
+) -> Result<(SValue, Faults, Tokens<'_>), ParseRefusal>
     ensures { Gives (λ x. (svalue_of x.0, faults_of x.1, x.2.now)) result (reading.asking_at parsing grammar.document (faults_of faults) tokens.now) }
 {
     if let Some(rest) = word(Keyword::JsonExists, tokens) {
@@ -41,7 +41,7 @@ fn asking_document(
         return query(alloc, faults, rest);
     }
     let Some((call, rest)) = is_json(tokens) else {
-        return Err(Refusal::Syntax);
+        return Err(ParseRefusal::Syntax);
     };
     Ok((SValue::IsJson(call), faults, rest))
 }
@@ -95,7 +95,7 @@ impl ValueTree for SValue {
         alloc: Global,
         faults: Faults,
         tokens: Tokens<'_>,
-    ) -> Result<(SValue, Faults, Tokens<'_>), Refusal> {
+    ) -> Result<(SValue, Faults, Tokens<'_>), ParseRefusal> {
         asking_document(alloc, faults, tokens)
     }
 }
@@ -106,11 +106,11 @@ pub fn document_value(
     depth: usize,
     faults: Faults,
     tokens: Tokens<'_>,
-) -> Result<(SValue, Faults, Tokens<'_>), Refusal>
+) -> Result<(SValue, Faults, Tokens<'_>), ParseRefusal>
     ensures { Gives (λ x. (svalue_of x.0, faults_of x.1, x.2.now)) result (reading.value_at parsing grammar.document depth (faults_of faults) tokens.now) }
 {
     if depth == 0 {
-        return Err(Refusal::Syntax);
+        return Err(ParseRefusal::Syntax);
     }
     Level {
         alloc,

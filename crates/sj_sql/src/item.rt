@@ -1,9 +1,9 @@
 //! The items of a SELECT list.
 
 ghost use Rattle.std.specs.Prelude.{◌≡◌, length};
+ghost use Rattle.sj_base.specs.Gives.{Gives};
 ghost use Rattle.sj_sql_grammar.specs.Faults.{parsing};
 ghost use Rattle.sj_sql_grammar.specs.Reading as reading;
-ghost use Rattle.sj_sql.specs.Gives.{Gives};
 ghost use Rattle.sj_sql.specs.Noted.{faults_of};
 ghost use Rattle.sj_sql_tree.specs.View.{svalue_of, item_of, plain_of, items_of};
 
@@ -12,10 +12,10 @@ use crate::faults::Faults;
 use crate::optional::skip_alias;
 use crate::passing::put;
 use crate::phrase::{nulls_clause, unique_clause};
-use crate::refusal::Refusal;
 use crate::row_value::row_value;
 use crate::single::{Rest, Tokens, close, comma, open, word};
 use crate::value::Level;
+use sj_base::ParseRefusal;
 use sj_sql_token::Keyword;
 use sj_sql_tree::{SValue, Seq, TItem};
 use sj_value::Nulls;
@@ -27,7 +27,7 @@ fn plain_item(
     alloc: Global,
     faults: Faults,
     tokens: Tokens<'_>,
-) -> Result<(SValue, Faults, Tokens<'_>), Refusal>
+) -> Result<(SValue, Faults, Tokens<'_>), ParseRefusal>
     ensures { Gives (λ x. (svalue_of x.0, faults_of x.1, x.2.now)) result (reading.plain_item_at parsing (faults_of faults) tokens.now) }
 {
     let (value, faults, rest) = document_value(alloc, tokens.len() + 1, faults, tokens)?;
@@ -40,16 +40,16 @@ fn array_agg(
     alloc: Global,
     faults: Faults,
     tokens: Tokens<'_>,
-) -> Result<(TItem, Faults, Tokens<'_>), Refusal>
+) -> Result<(TItem, Faults, Tokens<'_>), ParseRefusal>
     ensures { Gives (λ x. (item_of x.0, faults_of x.1, x.2.now)) result (reading.array_agg_from parsing (faults_of faults) tokens.now) }
 {
     let Some(rest) = open(tokens) else {
-        return Err(Refusal::Syntax);
+        return Err(ParseRefusal::Syntax);
     };
     let (value, faults, rest) = row_value(alloc, rest.len() + 1, faults, rest)?;
     let (nulls, rest) = nulls_clause(rest).unwrap_or((Nulls::Absent, rest));
     let Some(rest) = close(rest) else {
-        return Err(Refusal::Syntax);
+        return Err(ParseRefusal::Syntax);
     };
     Ok((TItem::ArrayAgg(value, nulls), faults, rest))
 }
@@ -60,11 +60,11 @@ fn object_agg(
     alloc: Global,
     faults: Faults,
     tokens: Tokens<'_>,
-) -> Result<(TItem, Faults, Tokens<'_>), Refusal>
+) -> Result<(TItem, Faults, Tokens<'_>), ParseRefusal>
     ensures { Gives (λ x. (item_of x.0, faults_of x.1, x.2.now)) result (reading.object_agg_from parsing (faults_of faults) tokens.now) }
 {
     let Some(rest) = open(tokens) else {
-        return Err(Refusal::Syntax);
+        return Err(ParseRefusal::Syntax);
     };
     let level = Level {
         alloc,
@@ -75,7 +75,7 @@ fn object_agg(
     let (nulls, rest) = nulls_clause(rest).unwrap_or((Nulls::Null, rest));
     let (unique, rest) = unique_clause(rest).unwrap_or((false, rest));
     let Some(rest) = close(rest) else {
-        return Err(Refusal::Syntax);
+        return Err(ParseRefusal::Syntax);
     };
     let key = Box::into_inner(member.key);
     let item = TItem::ObjectAgg(key, Box::into_inner(member.value), nulls, unique);
@@ -88,7 +88,7 @@ fn row_item(
     alloc: Global,
     faults: Faults,
     tokens: Tokens<'_>,
-) -> Result<(TItem, Faults, Tokens<'_>), Refusal>
+) -> Result<(TItem, Faults, Tokens<'_>), ParseRefusal>
     ensures { Gives (λ x. (item_of x.0, faults_of x.1, x.2.now)) result (reading.row_item_at parsing (faults_of faults) tokens.now) }
 {
     if let Some(rest) = word(Keyword::JsonArrayAgg, tokens) {
@@ -107,7 +107,7 @@ fn listed_item(
     alloc: Global,
     faults: Faults,
     tokens: Tokens<'_>,
-) -> Result<(TItem, Faults, Tokens<'_>), Refusal>
+) -> Result<(TItem, Faults, Tokens<'_>), ParseRefusal>
     ensures { Gives (λ x. (item_of x.0, faults_of x.1, x.2.now)) result (reading.listed_item_at parsing (faults_of faults) tokens.now) }
 {
     let (item, faults, rest) = row_item(alloc, faults, tokens)?;
@@ -120,7 +120,7 @@ pub fn plain_items(
     alloc: Global,
     faults: Faults,
     tokens: Tokens<'_>,
-) -> Result<(Seq<SValue>, Faults, Tokens<'_>), Refusal>
+) -> Result<(Seq<SValue>, Faults, Tokens<'_>), ParseRefusal>
     ensures { Gives (λ x. (plain_of x.0, faults_of x.1, x.2.now)) result
         (reading.items_from parsing (reading.plain_item_at parsing) (length tokens.now) (faults_of faults) tokens.now) }
 {
@@ -136,7 +136,7 @@ pub fn plain_items(
         so_far = noted;
         left = Rest { tokens: next };
     }
-    Err(Refusal::Syntax)
+    Err(ParseRefusal::Syntax)
 }
 
 /// Items with a table, with commas between them.
@@ -145,7 +145,7 @@ pub fn listed_items(
     alloc: Global,
     faults: Faults,
     tokens: Tokens<'_>,
-) -> Result<(Seq<TItem>, Faults, Tokens<'_>), Refusal>
+) -> Result<(Seq<TItem>, Faults, Tokens<'_>), ParseRefusal>
     ensures { Gives (λ x. (items_of x.0, faults_of x.1, x.2.now)) result
         (reading.items_from parsing (reading.listed_item_at parsing) (length tokens.now) (faults_of faults) tokens.now) }
 {
@@ -161,5 +161,5 @@ pub fn listed_items(
         so_far = noted;
         left = Rest { tokens: next };
     }
-    Err(Refusal::Syntax)
+    Err(ParseRefusal::Syntax)
 }

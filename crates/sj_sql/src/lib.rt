@@ -23,7 +23,6 @@ mod passing;
 mod path;
 mod phrase;
 mod plan;
-mod refusal;
 mod row_value;
 mod script;
 mod select;

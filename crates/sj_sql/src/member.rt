@@ -5,7 +5,7 @@ ghost use Rattle.sj_sql_grammar.specs.Tree as t;
 ghost use Rattle.sj_sql.specs.Cells.{onto, member_of, more_members};
 
 use crate::value_tree::ValueTree;
-use sj_base::Memory;
+use sj_base::{Memory, boxed};
 use sj_sql_tree::Seq;
 use std::alloc::Global;
 
@@ -19,8 +19,8 @@ pub struct Member<V> {
 fn value_cell<V: ValueTree>(alloc: Global, value: V, others: V::Values) -> Result<V::Values, Memory>
     ensures { IfOk result (λ x. V.values_of x ≡ t.MoreValues (V.value_of value) (V.values_of others)) }
 {
-    let others = Box::new(alloc, others)?;
-    Ok(V::more_values(Box::new(alloc, value)?, others))
+    let others = boxed(alloc, others)?;
+    Ok(V::more_values(boxed(alloc, value)?, others))
 }
 
 fn member_cell<V: ValueTree>(
@@ -30,7 +30,7 @@ fn member_cell<V: ValueTree>(
 ) -> Result<V::Members, Memory>
     ensures { IfOk result (λ x. V.members_of x ≡ more_members (member_of V.value_of member) (V.members_of others)) }
 {
-    let others = Box::new(alloc, others)?;
+    let others = boxed(alloc, others)?;
     Ok(V::more_members(member.key, member.value, others))
 }
 

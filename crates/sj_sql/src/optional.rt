@@ -2,16 +2,15 @@
 
 ghost use Rattle.std.specs.Prelude.{◌≡◌, None, option_map};
 ghost use Rattle.std.specs.Option.{option_copied};
+ghost use Rattle.sj_base.specs.Gives.{Gives};
 ghost use Rattle.sj_sql_grammar.specs.Phrases as phrase;
 ghost use Rattle.sj_sql_grammar.specs.Reading as reading;
 ghost use Rattle.sj_sql_grammar.specs.declared.clauses.ValueDo.TheVariants as on_value;
-ghost use Rattle.sj_sql.specs.Gives.{Gives};
 
 use crate::literal::value_action_phrase;
 use crate::phrase::cause;
-use crate::refusal::Refusal;
 use crate::single::{Tokens, name, passing, skip_name, word};
-use sj_base::Text;
+use sj_base::{ParseRefusal, Text};
 use sj_sql_grammar::ValueDo;
 use sj_sql_token::Keyword;
 use std::alloc::Global;
@@ -22,7 +21,7 @@ pub fn value_action(
     alloc: Global,
     on: Keyword,
     tokens: Tokens<'_>,
-) -> Result<(ValueDo, Tokens<'_>), Refusal>
+) -> Result<(ValueDo, Tokens<'_>), ParseRefusal>
     ensures { Gives (λ x. (x.0, x.1.now)) result (reading.optional (phrase.value_clause_at on) on_value.Null tokens.now) }
 {
     match value_action_phrase(alloc, tokens) {
@@ -33,8 +32,8 @@ pub fn value_action(
                 None => Ok((ValueDo::Null, tokens)),
             }
         }
-        Err(Refusal::Syntax) => Ok((ValueDo::Null, tokens)),
-        Err(Refusal::Memory) => Err(Refusal::Memory),
+        Err(ParseRefusal::Syntax) => Ok((ValueDo::Null, tokens)),
+        Err(ParseRefusal::Memory) => Err(ParseRefusal::Memory),
     }
 }
 
@@ -43,7 +42,7 @@ pub fn value_action(
 pub fn name_of_path(
     alloc: Global,
     tokens: Tokens<'_>,
-) -> Result<(Option<Text>, Tokens<'_>), Refusal>
+) -> Result<(Option<Text>, Tokens<'_>), ParseRefusal>
     ensures { Gives (λ x. (x.0, x.1.now)) result (reading.optional phrase.path_name_at None tokens.now) }
 {
     let Some(rest) = word(Keyword::As, tokens) else {
@@ -54,8 +53,8 @@ pub fn name_of_path(
             let (name, rest) = read;
             Ok((Some(name), rest))
         }
-        Err(Refusal::Syntax) => Ok((None, tokens)),
-        Err(Refusal::Memory) => Err(Refusal::Memory),
+        Err(ParseRefusal::Syntax) => Ok((None, tokens)),
+        Err(ParseRefusal::Memory) => Err(ParseRefusal::Memory),
     }
 }
 

@@ -1,14 +1,13 @@
 //! The variables of a PASSING clause.
 
 ghost use Rattle.std.specs.Prelude.{◌≡◌, ◌++◌, ◌∷◌, [], length, OnOk};
+ghost use Rattle.sj_base.specs.Gives.{Gives};
 ghost use Rattle.sj_sql_grammar.specs.Phrases as phrase;
 ghost use Rattle.sj_sql_grammar.specs.Reading as reading;
-ghost use Rattle.sj_sql.specs.Gives.{Gives};
 
 use crate::literal::passed;
-use crate::refusal::Refusal;
 use crate::single::{Rest, Tokens, comma, word};
-use sj_base::Memory;
+use sj_base::{Memory, ParseRefusal};
 use sj_sql_grammar::Passed;
 use sj_sql_token::Keyword;
 use sj_sql_tree::Seq;
@@ -26,7 +25,7 @@ pub fn put<T: Drop>(values: &mut Seq<T>, value: T) -> Result<(), Memory>
 
 /// Variables with commas between them.
 #[tactic(auto, unfolding(sj_sql_grammar::specs::Reading::list_from))]
-fn variables(alloc: Global, tokens: Tokens<'_>) -> Result<(Seq<Passed>, Tokens<'_>), Refusal>
+fn variables(alloc: Global, tokens: Tokens<'_>) -> Result<(Seq<Passed>, Tokens<'_>), ParseRefusal>
     ensures { Gives (λ x. (x.0, x.1.now)) result (reading.list_from phrase.passed_at (length tokens.now) tokens.now) }
 {
     let mut variables = Seq::new(alloc);
@@ -39,12 +38,12 @@ fn variables(alloc: Global, tokens: Tokens<'_>) -> Result<(Seq<Passed>, Tokens<'
         };
         left = Rest { tokens: next };
     }
-    Err(Refusal::Syntax)
+    Err(ParseRefusal::Syntax)
 }
 
 /// The variables of a PASSING clause, or none where there is no clause.
 #[tactic(auto, unfolding(sj_sql_grammar::specs::Reading::passing_at))]
-pub fn passing(alloc: Global, tokens: Tokens<'_>) -> Result<(Seq<Passed>, Tokens<'_>), Refusal>
+pub fn passing(alloc: Global, tokens: Tokens<'_>) -> Result<(Seq<Passed>, Tokens<'_>), ParseRefusal>
     ensures { Gives (λ x. (x.0, x.1.now)) result (reading.passing_at tokens.now) }
 {
     match word(Keyword::Passing, tokens) {

@@ -11,9 +11,8 @@ ghost use Rattle.sj_sql_grammar.specs.Tree.{Written, OfName};
 ghost use Rattle.sj_sql.specs.Noted.{faults_of, IsNoted, ReadsPath};
 
 use crate::faults::Faults;
-use crate::refusal::Refusal;
 use crate::single::{Tokens, passing, string, word};
-use sj_base::{Memory, Text};
+use sj_base::{Memory, ParseRefusal, Text};
 use sj_path::{Expr, Mode, Path, member_path, parse_path};
 use sj_sql_token::{Keyword, Quoted};
 use std::alloc::Global;
@@ -64,7 +63,7 @@ pub fn column_path<'a>(
     name: &Text,
     faults: Faults,
     tokens: Tokens<'a>,
-) -> Result<(Path, Faults, Tokens<'a>), Refusal>
+) -> Result<(Path, Faults, Tokens<'a>), ParseRefusal>
     ensures { ReadsPath (reading.column_path_at parsing name.now tokens.now) (faults_of faults) result }
 {
     let Some((text, rest)) = path_clause(tokens) else {

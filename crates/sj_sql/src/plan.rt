@@ -1,19 +1,18 @@
 //! The plan of a table, with a function that reads what stands inside parentheses.
 
 ghost use Rattle.std.specs.Prelude.{◌≡◌, IfOk, length, option_map};
+ghost use Rattle.sj_base.specs.Gives.{Gives};
 ghost use Rattle.sj_sql_grammar.specs.Phrases as phrase;
 ghost use Rattle.sj_sql_grammar.specs.Reading as reading;
 ghost use Rattle.sj_sql_grammar.specs.Tree as t;
-ghost use Rattle.sj_sql.specs.Gives.{Gives};
 ghost use Rattle.sj_sql.specs.Nests.{PlanNests};
 ghost use Rattle.sj_sql.specs.Plans as plans;
 ghost use Rattle.sj_sql_tree.specs.View.{plan_of, plan_tree_of};
 
 use crate::meaning::meant;
 use crate::operators::has_few_operators;
-use crate::refusal::Refusal;
 use crate::single::{Rest, Tokens, close, comma, name, open, word};
-use sj_base::{Memory, Text};
+use sj_base::{Memory, ParseRefusal, Text, boxed};
 use sj_sql_grammar::{InOut, Siblings};
 use sj_sql_token::Keyword;
 use sj_sql_tree::{NamedPlan, PlanTree};
@@ -22,13 +21,13 @@ use std::alloc::Global;
 fn union_of(alloc: Global, a: NamedPlan, b: NamedPlan) -> Result<NamedPlan, Memory>
     ensures { IfOk result (λ x. plan_of x ≡ (t.Union (plan_of a) (plan_of b))) }
 {
-    Ok(NamedPlan::Union(Box::new(alloc, a)?, Box::new(alloc, b)?))
+    Ok(NamedPlan::Union(boxed(alloc, a)?, boxed(alloc, b)?))
 }
 
 fn cross_of(alloc: Global, a: NamedPlan, b: NamedPlan) -> Result<NamedPlan, Memory>
     ensures { IfOk result (λ x. plan_of x ≡ (t.Cross (plan_of a) (plan_of b))) }
 {
-    Ok(NamedPlan::Cross(Box::new(alloc, a)?, Box::new(alloc, b)?))
+    Ok(NamedPlan::Cross(boxed(alloc, a)?, boxed(alloc, b)?))
 }
 
 /// What may stand at one level of parentheses.
@@ -40,8 +39,8 @@ pub struct Level<F> {
     pub inner: F,
 }
 
-impl<F: Fn(Global, usize, Tokens<'_>) -> Result<(NamedPlan, Tokens<'_>), Refusal>> Level<F> {
-    fn inner<'a>(&self, tokens: Tokens<'a>) -> Result<(NamedPlan, Tokens<'a>), Refusal>
+impl<F: Fn(Global, usize, Tokens<'_>) -> Result<(NamedPlan, Tokens<'_>), ParseRefusal>> Level<F> {
+    fn inner<'a>(&self, tokens: Tokens<'a>) -> Result<(NamedPlan, Tokens<'a>), ParseRefusal>
         requires { PlanNests self.now.depth (F.pre self.now.inner) (F.post self.now.inner) }
         ensures { Gives (λ x. (plan_of x.0, x.1.now)) result (reading.plan_expr_at self.now.depth tokens.now) }
     {
@@ -50,20 +49,20 @@ impl<F: Fn(Global, usize, Tokens<'_>) -> Result<(NamedPlan, Tokens<'_>), Refusal
 
     /// Behind an opening parenthesis.
     #[tactic(auto, unfolding(sj_sql_grammar::specs::Reading::plan_parens_at))]
-    fn parens<'a>(&self, tokens: Tokens<'a>) -> Result<(NamedPlan, Tokens<'a>), Refusal>
+    fn parens<'a>(&self, tokens: Tokens<'a>) -> Result<(NamedPlan, Tokens<'a>), ParseRefusal>
         requires { PlanNests self.now.depth (F.pre self.now.inner) (F.post self.now.inner) }
         ensures { Gives (λ x. (plan_of x.0, x.1.now)) result (reading.plan_parens_at (reading.plan_expr_at self.now.depth) tokens.now) }
     {
         let (plan, rest) = self.inner(tokens)?;
         let Some(rest) = close(rest) else {
-            return Err(Refusal::Syntax);
+            return Err(ParseRefusal::Syntax);
         };
         Ok((plan, rest))
     }
 
     /// A name, or a plan in parentheses.
     #[tactic(auto, unfolding(sj_sql_grammar::specs::Reading::plan_prim_at))]
-    fn operand<'a>(&self, tokens: Tokens<'a>) -> Result<(NamedPlan, Tokens<'a>), Refusal>
+    fn operand<'a>(&self, tokens: Tokens<'a>) -> Result<(NamedPlan, Tokens<'a>), ParseRefusal>
         requires { PlanNests self.now.depth (F.pre self.now.inner) (F.post self.now.inner) }
         ensures { Gives (λ x. (plan_of x.0, x.1.now)) result (reading.plan_prim_at (reading.plan_expr_at self.now.depth) tokens.now) }
     {
@@ -80,7 +79,7 @@ impl<F: Fn(Global, usize, Tokens<'_>) -> Result<(NamedPlan, Tokens<'_>), Refusal
         &self,
         first: NamedPlan,
         tokens: Tokens<'a>,
-    ) -> Result<(NamedPlan, Tokens<'a>), Refusal>
+    ) -> Result<(NamedPlan, Tokens<'a>), ParseRefusal>
         requires { PlanNests self.now.depth (F.pre self.now.inner) (F.post self.now.inner) }
         ensures { Gives (λ x. (plan_of x.0, x.1.now)) result (reading.union_from (reading.plan_expr_at self.now.depth) (length tokens.now) (plan_of first) tokens.now) }
     {
@@ -103,7 +102,7 @@ impl<F: Fn(Global, usize, Tokens<'_>) -> Result<(NamedPlan, Tokens<'_>), Refusal
         &self,
         first: NamedPlan,
         tokens: Tokens<'a>,
-    ) -> Result<(NamedPlan, Tokens<'a>), Refusal>
+    ) -> Result<(NamedPlan, Tokens<'a>), ParseRefusal>
         requires { PlanNests self.now.depth (F.pre self.now.inner) (F.post self.now.inner) }
         ensures { Gives (λ x. (plan_of x.0, x.1.now)) result (reading.cross_from (reading.plan_expr_at self.now.depth) (length tokens.now) (plan_of first) tokens.now) }
     {
@@ -126,7 +125,7 @@ impl<F: Fn(Global, usize, Tokens<'_>) -> Result<(NamedPlan, Tokens<'_>), Refusal
         &self,
         first: NamedPlan,
         tokens: Tokens<'a>,
-    ) -> Result<(NamedPlan, Tokens<'a>), Refusal>
+    ) -> Result<(NamedPlan, Tokens<'a>), ParseRefusal>
         requires { PlanNests self.now.depth (F.pre self.now.inner) (F.post self.now.inner) }
         ensures { Gives (λ x. (plan_of x.0, x.1.now)) result (reading.joined_at (reading.plan_expr_at self.now.depth) (plan_of first) tokens.now) }
     {
@@ -135,7 +134,7 @@ impl<F: Fn(Global, usize, Tokens<'_>) -> Result<(NamedPlan, Tokens<'_>), Refusal
             return self.union(union_of(self.alloc, first, other)?, rest);
         }
         let Some(rest) = word(Keyword::Cross, tokens) else {
-            return Err(Refusal::Syntax);
+            return Err(ParseRefusal::Syntax);
         };
         let (other, rest) = self.operand(rest)?;
         self.cross(cross_of(self.alloc, first, other)?, rest)
@@ -146,7 +145,7 @@ impl<F: Fn(Global, usize, Tokens<'_>) -> Result<(NamedPlan, Tokens<'_>), Refusal
         &self,
         name: Text,
         tokens: Tokens<'a>,
-    ) -> Result<(NamedPlan, Tokens<'a>), Refusal>
+    ) -> Result<(NamedPlan, Tokens<'a>), ParseRefusal>
         requires { PlanNests self.now.depth (F.pre self.now.inner) (F.post self.now.inner) }
         ensures { Gives (λ x. (plan_of x.0, x.1.now)) result
             (reading.optional (reading.joined_at (reading.plan_expr_at self.now.depth) (t.PathOf name)) (t.PathOf name) tokens.now) }
@@ -154,25 +153,29 @@ impl<F: Fn(Global, usize, Tokens<'_>) -> Result<(NamedPlan, Tokens<'_>), Refusal
         let first = NamedPlan::Path(Text::from_str(self.alloc, name.as_str())?);
         match self.joined(first, tokens) {
             Ok(read) => Ok(read),
-            Err(Refusal::Syntax) => Ok((NamedPlan::Path(name), tokens)),
-            Err(Refusal::Memory) => Err(Refusal::Memory),
+            Err(ParseRefusal::Syntax) => Ok((NamedPlan::Path(name), tokens)),
+            Err(ParseRefusal::Memory) => Err(ParseRefusal::Memory),
         }
     }
 
     /// Behind a name.
     #[tactic(auto, unfolding(sj_sql_grammar::specs::Reading::named_plan_at))]
-    fn named<'a>(&self, name: Text, tokens: Tokens<'a>) -> Result<(NamedPlan, Tokens<'a>), Refusal>
+    fn named<'a>(
+        &self,
+        name: Text,
+        tokens: Tokens<'a>,
+    ) -> Result<(NamedPlan, Tokens<'a>), ParseRefusal>
         requires { PlanNests self.now.depth (F.pre self.now.inner) (F.post self.now.inner) }
         ensures { Gives (λ x. (plan_of x.0, x.1.now)) result (reading.named_plan_at (reading.plan_expr_at self.now.depth) name tokens.now) }
     {
         if let Some(rest) = word(Keyword::Outer, tokens) {
             let (below, rest) = self.operand(rest)?;
-            let below = Box::new(self.alloc, below)?;
+            let below = boxed(self.alloc, below)?;
             return Ok((NamedPlan::Outer(name, below), rest));
         }
         if let Some(rest) = word(Keyword::Inner, tokens) {
             let (below, rest) = self.operand(rest)?;
-            let below = Box::new(self.alloc, below)?;
+            let below = boxed(self.alloc, below)?;
             return Ok((NamedPlan::Inner(name, below), rest));
         }
         self.joined_or_lone(name, tokens)
@@ -180,7 +183,7 @@ impl<F: Fn(Global, usize, Tokens<'_>) -> Result<(NamedPlan, Tokens<'_>), Refusal
 
     /// A plan.
     #[tactic(auto, unfolding(sj_sql_grammar::specs::Reading::plan_over))]
-    fn over<'a>(&self, tokens: Tokens<'a>) -> Result<(NamedPlan, Tokens<'a>), Refusal>
+    fn over<'a>(&self, tokens: Tokens<'a>) -> Result<(NamedPlan, Tokens<'a>), ParseRefusal>
         requires { PlanNests self.now.depth (F.pre self.now.inner) (F.post self.now.inner) }
         ensures { Gives (λ x. (plan_of x.0, x.1.now)) result (reading.plan_over (reading.plan_expr_at self.now.depth) tokens.now) }
     {
@@ -198,11 +201,11 @@ fn named_plan(
     alloc: Global,
     depth: usize,
     tokens: Tokens<'_>,
-) -> Result<(NamedPlan, Tokens<'_>), Refusal>
+) -> Result<(NamedPlan, Tokens<'_>), ParseRefusal>
     ensures { Gives (λ x. (plan_of x.0, x.1.now)) result (reading.plan_expr_at depth tokens.now) }
 {
     if depth == 0 {
-        return Err(Refusal::Syntax);
+        return Err(ParseRefusal::Syntax);
     }
     Level {
         alloc,
@@ -256,33 +259,33 @@ fn default_clause(tokens: Tokens<'_>) -> Option<(PlanTree, Tokens<'_>)>
 }
 
 /// A plan that names paths, behind PLAN. One with too many operators is refused here, and given up by a loop.
-fn named_clause(alloc: Global, tokens: Tokens<'_>) -> Result<(PlanTree, Tokens<'_>), Refusal>
+fn named_clause(alloc: Global, tokens: Tokens<'_>) -> Result<(PlanTree, Tokens<'_>), ParseRefusal>
     ensures { Gives (λ x. (plan_tree_of x.0, x.1.now)) result (plans.named_clause tokens.now) }
 {
     let Some(rest) = open(tokens) else {
-        return Err(Refusal::Syntax);
+        return Err(ParseRefusal::Syntax);
     };
     let (plan, rest) = named_plan(alloc, rest.len() + 1, rest)?;
     let Some(rest) = close(rest) else {
-        return Err(Refusal::Syntax);
+        return Err(ParseRefusal::Syntax);
     };
     if has_few_operators(&plan) {
         Ok((PlanTree::Named(plan), rest))
     } else {
-        Err(Refusal::Syntax)
+        Err(ParseRefusal::Syntax)
     }
 }
 
 /// The plan of a table: OUTER and UNION, unless a clause says another.
 #[tactic(auto, unfolding(sj_sql_grammar::specs::Reading::plan_at))]
-pub fn plan(alloc: Global, tokens: Tokens<'_>) -> Result<(PlanTree, Tokens<'_>), Refusal>
+pub fn plan(alloc: Global, tokens: Tokens<'_>) -> Result<(PlanTree, Tokens<'_>), ParseRefusal>
     ensures { Gives (λ x. (plan_tree_of x.0, x.1.now)) result (reading.plan_at tokens.now) }
 {
     let Some(rest) = word(Keyword::Plan, tokens) else {
         return Ok((PlanTree::Default(InOut::Outer, Siblings::Union), tokens));
     };
     match word(Keyword::Default, rest) {
-        Some(rest) => default_clause(rest).ok_or(Refusal::Syntax),
+        Some(rest) => default_clause(rest).ok_or(ParseRefusal::Syntax),
         None => named_clause(alloc, rest),
     }
 }

@@ -1,19 +1,19 @@
 //! The values of a SELECT list with a table.
 
 ghost use Rattle.std.specs.Prelude.{◌≡◌};
+ghost use Rattle.sj_base.specs.Gives.{Gives};
 ghost use Rattle.sj_sql_grammar.specs.Faults.{parsing};
 ghost use Rattle.sj_sql_grammar.specs.Grammar as grammar;
 ghost use Rattle.sj_sql_grammar.specs.Reading as reading;
 ghost use Rattle.sj_sql_grammar.specs.Tree as t;
-ghost use Rattle.sj_sql.specs.Gives.{Gives};
 ghost use Rattle.sj_sql.specs.Noted.{faults_of};
 ghost use Rattle.sj_sql_tree.specs.View.{tvalue_of, tvalues_of, tmembers_of};
 
 use crate::faults::Faults;
-use crate::refusal::Refusal;
 use crate::single::{Tokens, name};
 use crate::value::Level;
 use crate::value_tree::ValueTree;
+use sj_base::ParseRefusal;
 use sj_path::Literal;
 use sj_sql_tree::{TMembers, TValue, TValues};
 use sj_value::Nulls;
@@ -25,7 +25,7 @@ fn column(
     alloc: Global,
     faults: Faults,
     tokens: Tokens<'_>,
-) -> Result<(TValue, Faults, Tokens<'_>), Refusal>
+) -> Result<(TValue, Faults, Tokens<'_>), ParseRefusal>
     ensures { Gives (λ x. (tvalue_of x.0, faults_of x.1, x.2.now)) result (reading.asking_at parsing grammar.row (faults_of faults) tokens.now) }
 {
     let (name, rest) = name(alloc, tokens)?;
@@ -81,7 +81,7 @@ impl ValueTree for TValue {
         alloc: Global,
         faults: Faults,
         tokens: Tokens<'_>,
-    ) -> Result<(TValue, Faults, Tokens<'_>), Refusal> {
+    ) -> Result<(TValue, Faults, Tokens<'_>), ParseRefusal> {
         column(alloc, faults, tokens)
     }
 }
@@ -92,11 +92,11 @@ pub fn row_value(
     depth: usize,
     faults: Faults,
     tokens: Tokens<'_>,
-) -> Result<(TValue, Faults, Tokens<'_>), Refusal>
+) -> Result<(TValue, Faults, Tokens<'_>), ParseRefusal>
     ensures { Gives (λ x. (tvalue_of x.0, faults_of x.1, x.2.now)) result (reading.value_at parsing grammar.row depth (faults_of faults) tokens.now) }
 {
     if depth == 0 {
-        return Err(Refusal::Syntax);
+        return Err(ParseRefusal::Syntax);
     }
     Level {
         alloc,

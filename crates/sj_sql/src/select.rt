@@ -1,18 +1,18 @@
 //! Statements.
 
 ghost use Rattle.std.specs.Prelude.{◌≡◌};
+ghost use Rattle.sj_base.specs.Gives.{Gives};
 ghost use Rattle.sj_sql_grammar.specs.Faults.{parsing, nothing_noted};
 ghost use Rattle.sj_sql_grammar.specs.Reading as reading;
-ghost use Rattle.sj_sql.specs.Gives.{Gives};
 ghost use Rattle.sj_sql.specs.Noted.{faults_of};
 ghost use Rattle.sj_sql_tree.specs.View.{statement_of};
 ghost use Rattle.sj_sql.specs.Words as words;
 
 use crate::faults::Faults;
 use crate::item::{listed_items, plain_items};
-use crate::refusal::Refusal;
 use crate::single::{Tokens, same, star, word};
 use crate::table::table;
+use sj_base::ParseRefusal;
 use sj_sql_token::{Keyword, Token};
 use sj_sql_tree::Statement;
 use std::alloc::Global;
@@ -44,22 +44,26 @@ fn ended(
     statement: Statement,
     faults: Faults,
     rest: Tokens<'_>,
-) -> Result<(Statement, Faults), Refusal>
+) -> Result<(Statement, Faults), ParseRefusal>
     ensures { Gives (λ x. (statement_of x.0, faults_of x.1)) result (reading.ended parsing (statement_of statement) (faults_of faults) rest.now) }
 {
     match rest {
         [] => Ok((statement, faults)),
-        _ => Err(Refusal::Syntax),
+        _ => Err(ParseRefusal::Syntax),
     }
 }
 
 /// The table of a statement that selects all of its columns, behind the star.
 #[tactic(auto, unfolding(sj_sql_grammar::specs::Reading::all_at))]
-fn all(alloc: Global, faults: Faults, tokens: Tokens<'_>) -> Result<(Statement, Faults), Refusal>
+fn all(
+    alloc: Global,
+    faults: Faults,
+    tokens: Tokens<'_>,
+) -> Result<(Statement, Faults), ParseRefusal>
     ensures { Gives (λ x. (statement_of x.0, faults_of x.1)) result (reading.all_at parsing (faults_of faults) tokens.now) }
 {
     let Some(rest) = word(Keyword::From, tokens) else {
-        return Err(Refusal::Syntax);
+        return Err(ParseRefusal::Syntax);
     };
     let (table, faults, rest) = table(alloc, faults, rest)?;
     ended(Statement::All(table), faults, rest)
@@ -67,12 +71,16 @@ fn all(alloc: Global, faults: Faults, tokens: Tokens<'_>) -> Result<(Statement, 
 
 /// The items and the table of a statement.
 #[tactic(auto, unfolding(sj_sql_grammar::specs::Reading::listed_at))]
-fn listed(alloc: Global, faults: Faults, tokens: Tokens<'_>) -> Result<(Statement, Faults), Refusal>
+fn listed(
+    alloc: Global,
+    faults: Faults,
+    tokens: Tokens<'_>,
+) -> Result<(Statement, Faults), ParseRefusal>
     ensures { Gives (λ x. (statement_of x.0, faults_of x.1)) result (reading.listed_at parsing (faults_of faults) tokens.now) }
 {
     let (items, faults, rest) = listed_items(alloc, faults, tokens)?;
     let Some(rest) = word(Keyword::From, rest) else {
-        return Err(Refusal::Syntax);
+        return Err(ParseRefusal::Syntax);
     };
     let (table, faults, rest) = table(alloc, faults, rest)?;
     ended(Statement::Listed(items, table), faults, rest)
@@ -80,7 +88,11 @@ fn listed(alloc: Global, faults: Faults, tokens: Tokens<'_>) -> Result<(Statemen
 
 /// The values of a statement without a table.
 #[tactic(auto, unfolding(sj_sql_grammar::specs::Reading::plain_at))]
-fn plain(alloc: Global, faults: Faults, tokens: Tokens<'_>) -> Result<(Statement, Faults), Refusal>
+fn plain(
+    alloc: Global,
+    faults: Faults,
+    tokens: Tokens<'_>,
+) -> Result<(Statement, Faults), ParseRefusal>
     ensures { Gives (λ x. (statement_of x.0, faults_of x.1)) result (reading.plain_at parsing (faults_of faults) tokens.now) }
 {
     let (items, faults, rest) = plain_items(alloc, faults, tokens)?;
@@ -91,11 +103,11 @@ fn plain(alloc: Global, faults: Faults, tokens: Tokens<'_>) -> Result<(Statement
 ///
 /// It takes time linear in the tokens, and recurs only over parentheses, which the caller has to bound.
 #[tactic(auto, unfolding(sj_sql_grammar::specs::Reading::select_at))]
-pub fn select(alloc: Global, tokens: Tokens<'_>) -> Result<(Statement, Faults), Refusal>
+pub fn select(alloc: Global, tokens: Tokens<'_>) -> Result<(Statement, Faults), ParseRefusal>
     ensures { Gives (λ x. (statement_of x.0, faults_of x.1)) result (reading.select_at parsing nothing_noted tokens.now) }
 {
     let Some(rest) = word(Keyword::Select, tokens) else {
-        return Err(Refusal::Syntax);
+        return Err(ParseRefusal::Syntax);
     };
     if let Some(rest) = star(rest) {
         return all(alloc, Faults::none(), rest);

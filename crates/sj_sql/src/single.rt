@@ -2,13 +2,12 @@
 
 ghost use Rattle.std.specs.Prelude.{◌≡◌, ◌∷◌, option_map};
 ghost use Rattle.std.specs.Option.{option_copied};
-ghost use Rattle.sj_sql.specs.Gives.{Gives};
+ghost use Rattle.sj_base.specs.Gives.{Gives};
 ghost use Rattle.sj_sql_token.specs.Keywords as keywords;
 ghost use Rattle.sj_sql_token.specs.Same as keyword;
 ghost use Rattle.sj_sql_grammar.specs.Phrases as phrase;
 
-use crate::refusal::Refusal;
-use sj_base::Text;
+use sj_base::{ParseRefusal, Text};
 use sj_decimal::Decimal;
 use sj_sql_token::{Keyword, Quoted, Token};
 use std::alloc::Global;
@@ -149,16 +148,16 @@ fn is_reserved(keyword: Keyword) -> bool
 }
 
 /// A copy of a name, and what follows it.
-pub fn name(alloc: Global, tokens: Tokens<'_>) -> Result<(Text, Tokens<'_>), Refusal>
+pub fn name(alloc: Global, tokens: Tokens<'_>) -> Result<(Text, Tokens<'_>), ParseRefusal>
     ensures { Gives (λ x. (x.0, x.1.now)) result (phrase.name_at tokens.now) }
 {
     let Some((token, rest)) = tokens.split_first() else {
-        return Err(Refusal::Syntax);
+        return Err(ParseRefusal::Syntax);
     };
     match token {
         Token::Quoted(name) => Ok((name.to_text(alloc)?, rest)),
         Token::Word(keyword, word) if !is_reserved(*keyword) => Ok((word.to_text(alloc)?, rest)),
-        _ => Err(Refusal::Syntax),
+        _ => Err(ParseRefusal::Syntax),
     }
 }
 

@@ -1,9 +1,9 @@
 //! JSON_TABLE.
 
 ghost use Rattle.std.specs.Prelude.{◌≡◌};
+ghost use Rattle.sj_base.specs.Gives.{Gives};
 ghost use Rattle.sj_sql_grammar.specs.Faults.{parsing};
 ghost use Rattle.sj_sql_grammar.specs.Reading as reading;
-ghost use Rattle.sj_sql.specs.Gives.{Gives};
 ghost use Rattle.sj_sql.specs.Noted.{faults_of};
 ghost use Rattle.sj_sql_tree.specs.View.{table_of};
 
@@ -13,8 +13,8 @@ use crate::faults::Faults;
 use crate::optional::skip_table_alias;
 use crate::phrase::table_clause;
 use crate::plan::plan;
-use crate::refusal::Refusal;
 use crate::single::{Tokens, close, open, word};
+use sj_base::ParseRefusal;
 use sj_sql_token::Keyword;
 use sj_sql_tree::Table;
 use sj_value::TableAction;
@@ -26,21 +26,21 @@ pub fn table(
     alloc: Global,
     faults: Faults,
     tokens: Tokens<'_>,
-) -> Result<(Table, Faults, Tokens<'_>), Refusal>
+) -> Result<(Table, Faults, Tokens<'_>), ParseRefusal>
     ensures { Gives (λ x. (table_of x.0, faults_of x.1, x.2.now)) result (reading.table_at parsing (faults_of faults) tokens.now) }
 {
     let Some(rest) = word(Keyword::JsonTable, tokens) else {
-        return Err(Refusal::Syntax);
+        return Err(ParseRefusal::Syntax);
     };
     let Some(rest) = open(rest) else {
-        return Err(Refusal::Syntax);
+        return Err(ParseRefusal::Syntax);
     };
     let ((common, name), faults, rest) = row_path(alloc, faults, rest)?;
     let (columns, faults, rest) = columns(alloc, rest.len() + 1, faults, rest)?;
     let (plan, rest) = plan(alloc, rest)?;
     let (on_error, rest) = table_clause(rest).unwrap_or((TableAction::Empty, rest));
     let Some(rest) = close(rest) else {
-        return Err(Refusal::Syntax);
+        return Err(ParseRefusal::Syntax);
     };
     let table = Table {
         common,

@@ -1,10 +1,10 @@
 //! The values of a SELECT list, with a function that reads the values inside them.
 
 ghost use Rattle.std.specs.Prelude.{◌≡◌, length};
+ghost use Rattle.sj_base.specs.Gives.{Gives};
 ghost use Rattle.sj_sql_grammar.specs.Faults.{parsing};
 ghost use Rattle.sj_sql_grammar.specs.Reading as reading;
 ghost use Rattle.sj_sql.specs.Cells.{member_of};
-ghost use Rattle.sj_sql.specs.Gives.{Gives};
 ghost use Rattle.sj_sql.specs.Nests.{Nests};
 ghost use Rattle.sj_sql.specs.Noted.{faults_of};
 
@@ -13,9 +13,9 @@ use crate::literal::literal;
 use crate::member::{Member, member_cells, value_cells};
 use crate::passing::put;
 use crate::phrase::{nulls_clause, unique_clause};
-use crate::refusal::Refusal;
 use crate::single::{Rest, Tokens, close, colon, comma, open, word};
 use crate::value_tree::ValueTree;
+use sj_base::{ParseRefusal, boxed};
 use sj_sql_token::Keyword;
 use sj_sql_tree::Seq;
 use sj_value::Nulls;
@@ -32,13 +32,13 @@ pub struct Level<F> {
 
 impl<
     V: ValueTree,
-    F: Fn(Global, usize, Faults, Tokens<'_>) -> Result<(V, Faults, Tokens<'_>), Refusal>,
+    F: Fn(Global, usize, Faults, Tokens<'_>) -> Result<(V, Faults, Tokens<'_>), ParseRefusal>,
 > Level<F> {
     fn inner<'a>(
         &self,
         faults: Faults,
         tokens: Tokens<'a>,
-    ) -> Result<(V, Faults, Tokens<'a>), Refusal>
+    ) -> Result<(V, Faults, Tokens<'a>), ParseRefusal>
         requires { Nests V.value_of V.source self.now.depth (F.pre self.now.inner) (F.post self.now.inner) }
         ensures { Gives (λ x. (V.value_of x.0, faults_of x.1, x.2.now)) result (reading.value_at parsing V.source self.now.depth (faults_of faults) tokens.now) }
     {
@@ -51,7 +51,7 @@ impl<
         &self,
         faults: Faults,
         tokens: Tokens<'a>,
-    ) -> Result<(V::Values, Faults, Tokens<'a>), Refusal>
+    ) -> Result<(V::Values, Faults, Tokens<'a>), ParseRefusal>
         requires { Nests V.value_of V.source self.now.depth (F.pre self.now.inner) (F.post self.now.inner) }
         ensures { Gives (λ x. (V.values_of x.0, faults_of x.1, x.2.now)) result
             (reading.values_from parsing (reading.value_at parsing V.source self.now.depth) (length tokens.now) (faults_of faults) tokens.now) }
@@ -69,7 +69,7 @@ impl<
             so_far = noted;
             left = Rest { tokens: next };
         }
-        Err(Refusal::Syntax)
+        Err(ParseRefusal::Syntax)
     }
 
     /// The value of a member, behind its key.
@@ -79,13 +79,13 @@ impl<
         key: Box<V>,
         faults: Faults,
         tokens: Tokens<'a>,
-    ) -> Result<(Member<V>, Faults, Tokens<'a>), Refusal>
+    ) -> Result<(Member<V>, Faults, Tokens<'a>), ParseRefusal>
         requires { Nests V.value_of V.source self.now.depth (F.pre self.now.inner) (F.post self.now.inner) }
         ensures { Gives (λ x. (member_of V.value_of x.0, faults_of x.1, x.2.now)) result
             (reading.member_value_at parsing (reading.value_at parsing V.source self.now.depth) (V.value_of key.value) (faults_of faults) tokens.now) }
     {
         let (value, faults, rest) = self.inner(faults, tokens)?;
-        let value = Box::new(self.alloc, value)?;
+        let value = boxed(self.alloc, value)?;
         Ok((Member { key, value }, faults, rest))
     }
 
@@ -95,15 +95,15 @@ impl<
         &self,
         faults: Faults,
         tokens: Tokens<'a>,
-    ) -> Result<(Member<V>, Faults, Tokens<'a>), Refusal>
+    ) -> Result<(Member<V>, Faults, Tokens<'a>), ParseRefusal>
         requires { Nests V.value_of V.source self.now.depth (F.pre self.now.inner) (F.post self.now.inner) }
         ensures { Gives (λ x. (member_of V.value_of x.0, faults_of x.1, x.2.now)) result
             (reading.keyed_at parsing (reading.value_at parsing V.source self.now.depth) (faults_of faults) tokens.now) }
     {
         let (key, faults, rest) = self.inner(faults, tokens)?;
-        let key = Box::new(self.alloc, key)?;
+        let key = boxed(self.alloc, key)?;
         let Some(rest) = word(Keyword::Value, rest) else {
-            return Err(Refusal::Syntax);
+            return Err(ParseRefusal::Syntax);
         };
         self.member_value(key, faults, rest)
     }
@@ -114,7 +114,7 @@ impl<
         &self,
         faults: Faults,
         tokens: Tokens<'a>,
-    ) -> Result<(Member<V>, Faults, Tokens<'a>), Refusal>
+    ) -> Result<(Member<V>, Faults, Tokens<'a>), ParseRefusal>
         requires { Nests V.value_of V.source self.now.depth (F.pre self.now.inner) (F.post self.now.inner) }
         ensures { Gives (λ x. (member_of V.value_of x.0, faults_of x.1, x.2.now)) result
             (reading.member_at parsing (reading.value_at parsing V.source self.now.depth) (faults_of faults) tokens.now) }
@@ -123,12 +123,12 @@ impl<
             return self.keyed(faults, rest);
         }
         let (key, faults, rest) = self.inner(faults, tokens)?;
-        let key = Box::new(self.alloc, key)?;
+        let key = boxed(self.alloc, key)?;
         if let Some(rest) = word(Keyword::Value, rest) {
             return self.member_value(key, faults, rest);
         }
         let Some(rest) = colon(rest) else {
-            return Err(Refusal::Syntax);
+            return Err(ParseRefusal::Syntax);
         };
         self.member_value(key, faults, rest)
     }
@@ -139,7 +139,7 @@ impl<
         &self,
         faults: Faults,
         tokens: Tokens<'a>,
-    ) -> Result<(V::Members, Faults, Tokens<'a>), Refusal>
+    ) -> Result<(V::Members, Faults, Tokens<'a>), ParseRefusal>
         requires { Nests V.value_of V.source self.now.depth (F.pre self.now.inner) (F.post self.now.inner) }
         ensures { Gives (λ x. (V.members_of x.0, faults_of x.1, x.2.now)) result
             (reading.members_from parsing (reading.value_at parsing V.source self.now.depth) (length tokens.now) (faults_of faults) tokens.now) }
@@ -157,7 +157,7 @@ impl<
             so_far = noted;
             left = Rest { tokens: next };
         }
-        Err(Refusal::Syntax)
+        Err(ParseRefusal::Syntax)
     }
 
     /// JSON_OBJECT, behind its word.
@@ -166,13 +166,13 @@ impl<
         &self,
         faults: Faults,
         tokens: Tokens<'a>,
-    ) -> Result<(V, Faults, Tokens<'a>), Refusal>
+    ) -> Result<(V, Faults, Tokens<'a>), ParseRefusal>
         requires { Nests V.value_of V.source self.now.depth (F.pre self.now.inner) (F.post self.now.inner) }
         ensures { Gives (λ x. (V.value_of x.0, faults_of x.1, x.2.now)) result
             (reading.object_from parsing (reading.value_at parsing V.source self.now.depth) (faults_of faults) tokens.now) }
     {
         let Some(rest) = open(tokens) else {
-            return Err(Refusal::Syntax);
+            return Err(ParseRefusal::Syntax);
         };
         if let Some(rest) = close(rest) {
             let none = V::object(V::no_members(), Nulls::Null, false);
@@ -182,7 +182,7 @@ impl<
         let (nulls, rest) = nulls_clause(rest).unwrap_or((Nulls::Null, rest));
         let (unique, rest) = unique_clause(rest).unwrap_or((false, rest));
         let Some(rest) = close(rest) else {
-            return Err(Refusal::Syntax);
+            return Err(ParseRefusal::Syntax);
         };
         Ok((V::object(members, nulls, unique), faults, rest))
     }
@@ -193,13 +193,13 @@ impl<
         &self,
         faults: Faults,
         tokens: Tokens<'a>,
-    ) -> Result<(V, Faults, Tokens<'a>), Refusal>
+    ) -> Result<(V, Faults, Tokens<'a>), ParseRefusal>
         requires { Nests V.value_of V.source self.now.depth (F.pre self.now.inner) (F.post self.now.inner) }
         ensures { Gives (λ x. (V.value_of x.0, faults_of x.1, x.2.now)) result
             (reading.array_from parsing (reading.value_at parsing V.source self.now.depth) (faults_of faults) tokens.now) }
     {
         let Some(rest) = open(tokens) else {
-            return Err(Refusal::Syntax);
+            return Err(ParseRefusal::Syntax);
         };
         if let Some(rest) = close(rest) {
             let none = V::array(V::no_values(), Nulls::Absent);
@@ -208,7 +208,7 @@ impl<
         let (values, faults, rest) = self.values(faults, rest)?;
         let (nulls, rest) = nulls_clause(rest).unwrap_or((Nulls::Absent, rest));
         let Some(rest) = close(rest) else {
-            return Err(Refusal::Syntax);
+            return Err(ParseRefusal::Syntax);
         };
         Ok((V::array(values, nulls), faults, rest))
     }
@@ -219,7 +219,7 @@ impl<
         &self,
         faults: Faults,
         tokens: Tokens<'a>,
-    ) -> Result<(V, Faults, Tokens<'a>), Refusal>
+    ) -> Result<(V, Faults, Tokens<'a>), ParseRefusal>
         requires { Nests V.value_of V.source self.now.depth (F.pre self.now.inner) (F.post self.now.inner) }
         ensures { Gives (λ x. (V.value_of x.0, faults_of x.1, x.2.now)) result
             (reading.value_over parsing V.source (reading.value_at parsing V.source self.now.depth) (faults_of faults) tokens.now) }
@@ -229,8 +229,8 @@ impl<
                 let (literal, rest) = read;
                 Ok((V::literal(literal), faults, rest))
             }
-            Err(Refusal::Memory) => Err(Refusal::Memory),
-            Err(Refusal::Syntax) => {
+            Err(ParseRefusal::Memory) => Err(ParseRefusal::Memory),
+            Err(ParseRefusal::Syntax) => {
                 if let Some(rest) = word(Keyword::JsonObject, tokens) {
                     return self.object(faults, rest);
                 }

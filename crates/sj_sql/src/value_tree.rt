@@ -1,17 +1,17 @@
 //! Trees of values, as the parser makes them: those of a SELECT list without a table, and those of one with a table.
 
 ghost use Rattle.std.specs.Prelude.{◌≡◌};
+ghost use Rattle.sj_base.specs.Gives.{Gives};
 ghost use Rattle.sj_path_grammar.specs.Tree as g;
 ghost use Rattle.sj_sql_grammar.specs.Faults.{parsing};
 ghost use Rattle.sj_sql_grammar.specs.Grammar.{Source};
 ghost use Rattle.sj_sql_grammar.specs.Reading as reading;
 ghost use Rattle.sj_sql_grammar.specs.Tree as t;
-ghost use Rattle.sj_sql.specs.Gives.{Gives};
 ghost use Rattle.sj_sql.specs.Noted.{faults_of};
 
 use crate::faults::Faults;
-use crate::refusal::Refusal;
 use crate::single::Tokens;
+use sj_base::ParseRefusal;
 use sj_path::Literal;
 use sj_value::Nulls;
 use std::alloc::Global;
@@ -58,6 +58,6 @@ pub trait ValueTree: Drop {
         alloc: Global,
         faults: Faults,
         tokens: Tokens<'_>,
-    ) -> Result<(Self, Faults, Tokens<'_>), Refusal>
+    ) -> Result<(Self, Faults, Tokens<'_>), ParseRefusal>
         ensures { Gives (λ x. (value_of x.0, faults_of x.1, x.2.now)) result (reading.asking_at parsing source (faults_of faults) tokens.now) };
 }

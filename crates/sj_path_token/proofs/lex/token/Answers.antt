@@ -1,4 +1,4 @@
-use Rattle.std.proofs.Common.{arith, length}
+use Rattle.std.proofs.Common.{ap, ◌∙◌, arith, length, option_map}
 use Rattle.sj_path_token.proofs.StringInsides.{inside_sound}
 use Rattle.sj_path_token.proofs.Boundaries.{first_boundary}
 use Rattle.sj_path_token.proofs.lex.token.Goals as goal
@@ -8,7 +8,8 @@ range_from-requires c = λ _. first_boundary c.args.text.now c.args.after.now c.
 
 pub overflow_add-result : goal.overflow_add-result
 overflow_add-result c =
-    let p = (inside_sound (length c.range_from.result.now) c.range_from.result.now).holds c.in_ok-string.string c.in_ok-string.len c.in_ok-string.ensures in
+    let stands = c.in_ok-string.ensures ∙ ap (option_map (λ x. (x.0, x.1))) c.in-Some.is in
+    let p = (inside_sound (length c.range_from.result.now) c.range_from.result.now).holds c.in-Some.string c.in-Some.len stands in
     let n = c.range_from.ensures.len in
     omega (arith, p.within, n)
 

@@ -40,7 +40,7 @@ pub loop-turn-preserved : goal.loop-turn-preserved
 loop-turn-preserved c =
     let split = sym c.as_bytes-bytes.ensures.value ∙ c.in-Some.ensures.cases.0 in
     record {
-      reads = rw c.in_ok-push.ensures.items (token_turn c.loop-turn.tokens.items _ c.loop-turn._turn c.in-Some.first.now c.in_ok-token.len c.loop-turn.rest.now c.in-Some.after.now c.range_from-rest-in-loop-turn.result.now c.in_ok-token.token
+      reads = rw c.in_ok-put.ensures (token_turn c.loop-turn.tokens.items _ c.loop-turn._turn c.in-Some.first.now c.in_ok-token.len c.loop-turn.rest.now c.in-Some.after.now c.range_from-rest-in-loop-turn.result.now c.in_ok-token.token
           c.loop-turn-test.true c.loop-turn.invariant.reads split (sym c.is_blank.ensures ∙ c.if-is_blank.false) c.in_ok-token.ensures c.range_from-rest-in-loop-turn.ensures.value);
       text = c.range_from-rest-in-loop-turn.utf8;
     }

@@ -1,8 +1,8 @@
 use Rattle.std.proofs.Common.{subst}
+use Rattle.sj_base.specs.Gives.{Fails}
 use Rattle.sj_sql_grammar.specs.Faults.{nothing_noted, parsing}
 use Rattle.sj_sql_grammar.specs.Reading.{select_at}
 use Rattle.sj_sql_grammar.proofs.Verdicts.{no_tree, path_fault, lacking, clean}
-use Rattle.sj_sql.specs.Gives.{Fails}
 use Rattle.sj_sql.specs.Noted.{faults_of}
 use Rattle.sj_sql_tree.specs.View.{statement_of}
 use Rattle.sj_sql.proofs.answer.answer.Goals as goal

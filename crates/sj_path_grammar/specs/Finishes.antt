@@ -1,19 +1,8 @@
--- What the functions of the parser ensure, by the functional reading and the tests on trees.
+-- What becomes of a tree as it is written, on its way to a parsed path.
 use Rattle.std.specs.Prelude.{◌≡◌, Option, Some, None, Result, Ok, Err}
 use Rattle.sj_path_grammar.specs.declared.refusal.Name.{Name}
 use Rattle.sj_path_grammar.specs.declared.refusal.PathRefusal.{PathRefusal}
 use Rattle.sj_path_grammar.specs.declared.refusal.PathRefusal.TheVariants as r
-
--- no tree, unless memory ran out
-abbrev pub Fails : {Y : Type 0} → PathRefusal → Option Y → Type 0
-Fails r.Memory read = Unit {0}
-Fails r.Syntax read = read ≡ None
-Fails _ read = ⊥
-
--- what a function returned, seen by view, is what reading gives, unless memory ran out
-abbrev pub Gives : {X Y : Type 0} → (X → Y) → Result X PathRefusal → Option Y → Type 0
-Gives view (Ok x) read = read ≡ Some (view x)
-Gives view (Err e) read = Fails e read
 
 -- what becomes of a tree as it is written: the same tree, or the first part that the type of parsed paths lacks, or
 -- want of memory
