@@ -277,6 +277,8 @@ impl DocBuilder {
     }
 
     /// A number whose value is not exact, by its spelling.
+    ///
+    /// The program does not call this; its tests do, and a host may.
     pub fn wide(&mut self, spelling: &str) -> Result<(), Memory>
         requires wanted { TakesValue self.old.0.0 }
         requires room { node_total self.old.0 < most_nodes }
@@ -289,6 +291,8 @@ impl DocBuilder {
 
     /// A number, by its spelling. Its value is read where it is asked for. One with more than 64 bytes has to be
     /// wide: the value of another is put in by `exact`.
+    ///
+    /// The program puts in a number by its place in the line, with `number_at`; this is for tests and for hosts.
     #[inline(always)]
     pub fn number(&mut self, spelling: &str) -> Result<(), Memory>
         requires wanted { TakesValue self.old.0.0 }
