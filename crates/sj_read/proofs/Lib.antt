@@ -2,7 +2,7 @@
 pub mod Ascii
 -- for `far_string_end`, `string_end` and `unescape`, and for other lemmas
 pub mod Scanned
--- for `any_number`, `colon_and_scalar`, `escaped_key`, `escaped_value`, `number`, `quoted_key`, `scalar`,
+-- for `any_number`, `colon_and_value`, `escaped_key`, `escaped_value`, `number`, `quoted_key`, `scalar`,
 -- `separator`, `turn` and `value`, and for other lemmas
 pub mod Steps
 -- for `any_number` and `number`

@@ -126,8 +126,8 @@ fn escaped_key(builder: &mut DocBuilder, buffer: &mut String, text: &str, at: us
     }
 }
 
-// `escaped_value`, from where it is rarely called. The place in memory for its answer is cleared here, and not on each of the other
-// ways.
+// `escaped_value`, from where it is rarely called. The place in memory for its answer is cleared here, and not on each
+// of the other ways.
 #[inline(always)]
 fn rare_value(builder: &mut DocBuilder, buffer: &mut String, text: &str, at: usize, c: u8) -> Turn
     requires within { (at < length text.now) × (length text.now ≤ MAX_LENGTH) }
@@ -141,8 +141,8 @@ fn rare_value(builder: &mut DocBuilder, buffer: &mut String, text: &str, at: usi
     anew(escaped_value(builder, buffer, text, at, c))
 }
 
-// `escaped_key`, from where it is rarely called. The place in memory for its answer is cleared here, and not on each of the other
-// ways.
+// `escaped_key`, from where it is rarely called. The place in memory for its answer is cleared here, and not on each
+// of the other ways.
 #[inline(always)]
 fn rare_key(builder: &mut DocBuilder, buffer: &mut String, text: &str, at: usize, c: u8) -> Turn
     requires within { (at < length text.now) × (length text.now ≤ MAX_LENGTH) }
@@ -352,9 +352,10 @@ fn quoted_key(builder: &mut DocBuilder, buffer: &mut String, text: &str, at: usi
     }
 }
 
-// The colon at the place, and the scalar if one stands right behind.
+// The colon at the place, and the value if it stands right behind: the bracket that opens it, or a scalar and what stands
+// right behind that.
 #[inline(always)]
-fn colon_and_scalar(
+fn colon_and_value(
     builder: &mut DocBuilder,
     buffer: &mut String,
     mode: &mut Mode,
@@ -370,15 +371,13 @@ fn colon_and_scalar(
     ensures line { builder.new.1 ≡ builder.old.1 }
 {
     if let Some(c) = token_at(text.as_bytes(), at + 1) {
-        if c != b'[' && c != b'{' {
-            return scalar_and_separator(builder, buffer, mode, text, at + 1, c);
-        }
+        return value(builder, buffer, mode, text, at + 1, c);
     }
     *mode = Mode::Value;
     Ok(at + 1)
 }
 
-// The key that begins with the byte c at the place, and the colon and a scalar as far as they stand right behind. One
+// The key that begins with the byte c at the place, and the colon and the value as far as they stand right behind. One
 // turn for a member is faster than several.
 #[inline(always)]
 fn member(
@@ -400,7 +399,7 @@ fn member(
 {
     match quoted_key(builder, buffer, text, at, c) {
         Ok(end) => match token_at(text.as_bytes(), end) {
-            Some(b':') => colon_and_scalar(builder, buffer, mode, text, end),
+            Some(b':') => colon_and_value(builder, buffer, mode, text, end),
             _ => {
                 *mode = Mode::Colon;
                 Ok(end)

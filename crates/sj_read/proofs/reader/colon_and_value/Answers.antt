@@ -4,18 +4,18 @@ use Rattle.sj_read.specs.declared.reader.TheConstants.{MAX_DEPTH}
 use Rattle.sj_read.specs.declared.reader.Mode.TheVariants as modes
 use Rattle.sj_read.specs.Turns.{Went}
 use Rattle.sj_read.proofs.Steps.{one_byte, onward, colon_turn}
-use Rattle.sj_read.proofs.reader.colon_and_scalar.Goals as goal
-use Rattle.sj_read.proofs.reader.colon_and_scalar.Goals.{Start}
+use Rattle.sj_read.proofs.reader.colon_and_value.Goals as goal
+use Rattle.sj_read.proofs.reader.colon_and_value.Goals.{Start}
 
 passed : (c : Start) → Went MAX_DEPTH colon c.args.builder.now.0 c.args.text.now c.args.at modes.Value (c.args.at + 1) c.args.builder.now.0
 passed c =
     let s = c.args.builder.now.0 in
     one_byte MAX_DEPTH colon s c.args.text.now c.args.at 58 c.requires.within.0 c.requires.here modes.Value s (colon_turn MAX_DEPTH s 58 refl) c.requires.ready (omega (arith, c.requires.room))
 
-pub returns-then-c-ne123-clause-turns : goal.returns-then-c-ne123-clause-turns
-returns-then-c-ne123-clause-turns c =
+pub returns-in-Some-clause-turns : goal.returns-in-Some-clause-turns
+returns-in-Some-clause-turns c =
     let s = c.args.builder.now.0 in
-    onward MAX_DEPTH colon s c.args.text.now c.args.at modes.Value (c.args.at + 1) s (passed (goal.at.returns-then-c-ne123-clause-turns c).Start) c.scalar_and_separator.new.mode c.scalar_and_separator.result c.scalar_and_separator.new.builder.0 c.scalar_and_separator.ensures.turns
+    onward MAX_DEPTH colon s c.args.text.now c.args.at modes.Value (c.args.at + 1) s (passed (goal.at.returns-in-Some-clause-turns c).Start) c.value.new.mode c.value.result c.value.new.builder.0 c.value.ensures.turns
 
 pub returns-clause-turns : goal.returns-clause-turns
 returns-clause-turns c = passed (goal.at.returns-clause-turns c).Start
