@@ -16,8 +16,9 @@ use Rattle.sqljson.specs.declared.status.Status.TheVariants.{Done, Usage, Refuse
 use Rattle.sqljson.specs.Job.{Job, job}
 use Rattle.sqljson.specs.Input.{InputSide}
 use Rattle.sqljson.specs.Output.{output, whole_output, allowed}
-use Rattle.sqljson.specs.Stream.{IsPrefix, IsWhy, Streamed, IsFrontOf, WroteLeast, WroteWhole, StepsWithin, max_piece, max_input, TookMost}
+use Rattle.sqljson.specs.Stream.{IsPrefix, IsWhy, Streamed, IsFrontOf, WroteLeast, WroteWhole, StepsWithin, max_piece, TookMost}
 use Rattle.sj_sql_grammar.specs.Answers.{max_file}
+use Rattle.sj_rows.specs.Lines.{max_input}
 use Rattle.sqljson.specs.File.{ShelfSide, Form, running, checking, generating, name_in, file_named, file_run, file_shown, IsFile, IsTooLong}
 use Rattle.sqljson.specs.Verdict.{Accepts, Refuses}
 use Rattle.sqljson.specs.Summary.{summary_text}

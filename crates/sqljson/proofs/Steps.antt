@@ -1,7 +1,7 @@
 -- Steps that are counted one after the other. These lemmas are on numbers alone, so that no tactic looks into what is counted.
 use Rattle.std.proofs.Common.{◌≡◌, ℕ, ◌+◌, ◌≤◌, arith}
+use Rattle.std.specs.Io.Iter.{u64_saturate}
 use Rattle.sj_base.specs.Outside.{raised}
-use Rattle.sqljson.specs.Summary.{capped}
 
 pub raised_none : (a n : ℕ) → a ≤ raised a n
 raised_none a n = omega arith
@@ -16,7 +16,7 @@ pub raised_on : (a b c n m k : ℕ) → b ≤ raised a n → c ≤ raised b m �
 raised_on a b c n m k spent more all = omega (arith, spent, more, all)
 
 -- a count that begins at 0 is told as it is, up to its last value
-pub counted_is : (count n : ℕ) → count ≡ raised 0 n → count ≡ capped n
+pub counted_is : (count n : ℕ) → count ≡ raised 0 n → count ≡ u64_saturate n
 counted_is count n is = omega (arith, is)
 
 -- ---- sums

@@ -1,6 +1,7 @@
 -- Commands that tell a text.
 use Rattle.std.proofs.Common.{◌≡◌, ◌≢◌, ◌⊎◌, inl, inr, ℕ, ◌≤◌, List, [], ◌∷◌, ◌++◌, length, map, Option, None, Some, Result, Ok, Err, IsOk, codes, decimal, refl, sym, ◌∙◌, ap, subst, arith}
 use Rattle.std.proofs.lemmas.List.{append-nil, length-map}
+use Rattle.std.specs.Io.Iter.{u64_saturate}
 use Rattle.sj_base.specs.Outside.{raised}
 use Rattle.sj_bound.specs.Bound.{Bound}
 use Rattle.sj_bound.specs.View.{bound_of}
@@ -16,7 +17,7 @@ use Rattle.sqljson.specs.Job.{job}
 use Rattle.sqljson.specs.Input.{InputSide}
 use Rattle.sqljson.specs.Output.{asked, rows_in, errors_in, output, allowed}
 use Rattle.sqljson.specs.Stream.{Streamed}
-use Rattle.sqljson.specs.Summary.{capped, counts_text, summary_text}
+use Rattle.sqljson.specs.Summary.{counts_text, summary_text}
 use Rattle.sqljson.specs.File.{ShelfSide, checking, generating}
 use Rattle.sqljson.specs.Ran.{moment, Accepted, accepted_text, Tells, Ran}
 use Rattle.sqljson.proofs.Steps.{counted_is}
@@ -72,12 +73,12 @@ steps_over number K rest steps steps' size page status s =
 summed : (number : ℕ) (K : List Bound) (rest : List ℕ) (steps steps' size : ℕ) (page : PageSeen) → OverLines number K rest steps steps' size page Done → counts_text number page.rows page.errors size ≡ summary_text number K
 summed number K rest steps steps' size page s =
     let bytes : s.bytes ≡ generated number = all_taken (Some (generated number)) (Some rest) (generated number) s.bytes refl s.consumed s.why.1 in
-    let rows : page.rows ≡ capped (rows_in (asked (job Any K) (generated number))) = s.why.5.rows ∙ ap (λ (b : List ℕ). capped (rows_in (asked (job Any K) b))) bytes in
-    let errors : page.errors ≡ capped (errors_in (asked (job Any K) (generated number))) = s.why.5.errors ∙ ap (λ (b : List ℕ). capped (errors_in (asked (job Any K) b))) bytes in
+    let rows : page.rows ≡ u64_saturate (rows_in (asked (job Any K) (generated number))) = s.why.5.rows ∙ ap (λ (b : List ℕ). u64_saturate (rows_in (asked (job Any K) b))) bytes in
+    let errors : page.errors ≡ u64_saturate (errors_in (asked (job Any K) (generated number))) = s.why.5.errors ∙ ap (λ (b : List ℕ). u64_saturate (errors_in (asked (job Any K) b))) bytes in
     let text : length s.text ≡ length (output (job Any K) (generated number)) = ap length (s.why.0 ∙ ap (output (job Any K)) bytes) in
-    let all : size ≡ capped (length (output (job Any K) (generated number))) = counted_is size (length s.text) s.grew.number_is ∙ ap capped text in
-    ap (λ (n : ℕ). counts_text number n page.errors size) rows ∙ ap (λ (n : ℕ). counts_text number (capped (rows_in (asked (job Any K) (generated number)))) n size) errors
-    ∙ ap (λ (n : ℕ). counts_text number (capped (rows_in (asked (job Any K) (generated number)))) (capped (errors_in (asked (job Any K) (generated number)))) n) all
+    let all : size ≡ u64_saturate (length (output (job Any K) (generated number))) = counted_is size (length s.text) s.grew.number_is ∙ ap u64_saturate text in
+    ap (λ (n : ℕ). counts_text number n page.errors size) rows ∙ ap (λ (n : ℕ). counts_text number (u64_saturate (rows_in (asked (job Any K) (generated number)))) n size) errors
+    ∙ ap (λ (n : ℕ). counts_text number (u64_saturate (rows_in (asked (job Any K) (generated number)))) (u64_saturate (errors_in (asked (job Any K) (generated number)))) n) all
 
 abbrev pub RanLines : ℕ → List ℕ → ShelfSide → ShelfSide → Option (List ℕ) → ℕ → ℕ → ℕ → OutputSide → OutputSide → Status → Type 0
 RanLines number name s s' left faults steps steps' o o' status =
