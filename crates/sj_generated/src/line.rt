@@ -43,7 +43,7 @@ fn push_members(text: &mut ArrayString<ROOM>, number: u32)
 fn push_digit(text: &mut ArrayString<ROOM>, number: u32, base: u32)
     requires base { 0 < base }
     requires digit { base ≤ 10 }
-    requires room { array_string_len text.old + 1 ≤ 64 }
+    requires room { array_string_len text.old + 1 ≤ ROOM }
     ensures bytes { text.new.bytes ≡ text.old.bytes ++ decimal (number % base) }
     ensures len { array_string_len text.new ≤ array_string_len text.old + 1 }
 {
