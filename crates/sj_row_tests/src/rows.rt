@@ -1,6 +1,7 @@
 // The lines of bytes whatever the cuts between their pieces, and the greatest numbers of a row. Lines at their limit, blank
 // lines and printed values are in the tables of `checks/rows/`.
-ghost use Rattle.std.specs.Prelude.{◌≡◌, ◌+◌, ◌^◌, ◌≤◌, false, length, OnOk};
+ghost use Rattle.std.specs.Prelude.{◌≡◌, ◌+◌, ◌≤◌, false, length, OnOk};
+ghost use Rattle.sj_rows.specs.Lines.{max_input};
 
 use sj_base::{Bytes, State};
 use sj_rows::{Line, Lines, error_text, row_text};
@@ -29,7 +30,7 @@ fn show_lines(lines: &mut Lines, out: &mut Bytes) -> Result<(), Fail>
 /// Feeds the bytes in two pieces, and shows the lines after each piece and at the end.
 fn show_cut(lines: &mut Lines, front: &[u8], back: &[u8], out: &mut Bytes) -> Result<(), Fail>
     requires goes_on { lines.old.ended ≡ false }
-    requires limit { lines.old.fed + (length front.now + length back.now) ≤ 2 ^ 62 }
+    requires limit { lines.old.fed + (length front.now + length back.now) ≤ max_input }
 {
     lines.feed(front)?;
     show_lines(lines, out)?;
