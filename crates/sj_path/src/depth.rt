@@ -3,10 +3,8 @@
 ghost use Rattle.std.specs.Prelude.{◌≡◌, false, IsTrue};
 ghost use Rattle.sj_path_grammar.specs.Depth as depth;
 
+use sj_base::MAX_OPEN;
 use sj_path_token::Token;
-
-/// Parentheses and brackets that may be open at once.
-const MAX_OPEN: usize = 64;
 
 /// Operators, accessors and commas of a path.
 const MAX_COUNTED: usize = 256;

@@ -4,10 +4,8 @@ ghost use Rattle.std.specs.Prelude.{◌≡◌, false, IsTrue};
 ghost use Rattle.sj_sql_grammar.specs.Grammar as grammar;
 
 use crate::single::Tokens;
+use sj_base::MAX_OPEN;
 use sj_sql_token::Token;
-
-/// Parentheses that may be open at once.
-const MAX_OPEN: usize = 64;
 
 fn is_open(token: &Token<'_>) -> bool
     ensures { result ≡ grammar.is_open token.now }

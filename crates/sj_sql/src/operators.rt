@@ -1,7 +1,7 @@
 //! How many operators a plan has.
 
 ghost use Rattle.std.specs.Prelude.{◌≡◌, ◌-◌, ◌≤◌, nat_le, Some, None, if◌then◌else◌};
-ghost use Rattle.sj_sql_grammar.specs.Grammar.{operators};
+ghost use Rattle.sj_sql_grammar.specs.Grammar.{operators, max_operators};
 ghost use Rattle.sj_sql_tree.specs.View.{plan_of};
 
 use sj_sql_tree::NamedPlan;
@@ -29,7 +29,7 @@ fn left_of(limit: u32, plan: &NamedPlan) -> Option<u32>
 
 /// Whether a plan has no more operators than it may.
 pub fn has_few_operators(plan: &NamedPlan) -> bool
-    ensures { result ≡ nat_le (operators (plan_of plan.now)) 63 }
+    ensures { result ≡ nat_le (operators (plan_of plan.now)) max_operators }
 {
     left_of(MAX_OPERATORS, plan).is_some()
 }

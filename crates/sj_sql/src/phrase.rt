@@ -6,9 +6,13 @@ ghost use Rattle.sj_sql_grammar.specs.Phrases as phrase;
 
 use crate::meaning::{emptied, meant};
 use crate::single::{Tokens, close, comma, count, open, passing, word};
+use sj_decimal::MAX_DIGITS;
 use sj_sql_grammar::{Encoding, Quotes, TypeName};
 use sj_sql_token::{Keyword, Token};
 use sj_value::{ExistsAction, Nulls, QueryAction, SqlType, TableAction, Wrapper};
+
+/// The greatest n of VARCHAR(n).
+const MAX_VARCHAR: u128 = 1_000_000;
 
 /// What ON and the cause behind an action are followed by.
 pub fn cause(cause: Keyword, tokens: Tokens<'_>) -> Option<Tokens<'_>>
@@ -158,7 +162,7 @@ fn varchar(tokens: Tokens<'_>) -> Option<(TypeName, Tokens<'_>)>
     };
     let (n, rest) = count(rest)?;
     let rest = close(rest)?;
-    if 1 <= n && n <= 1_000_000 {
+    if 1 <= n && n <= MAX_VARCHAR {
         Some((TypeName::Known(SqlType::VarcharMax(n as u32)), rest))
     } else {
         None
@@ -168,7 +172,7 @@ fn varchar(tokens: Tokens<'_>) -> Option<(TypeName, Tokens<'_>)>
 fn fixed(p: u128, s: u128, tokens: Tokens<'_>) -> Option<(TypeName, Tokens<'_>)>
     ensures { option_map (λ x. (x.0, x.1.now)) result ≡ phrase.fixed_at p s tokens.now }
 {
-    if 1 <= p && p <= 38 && s <= p {
+    if 1 <= p && p <= MAX_DIGITS as u128 && s <= p {
         let rest = close(tokens)?;
         Some((
             TypeName::Known(SqlType::NumericFixed(p as u32, s as u32)),

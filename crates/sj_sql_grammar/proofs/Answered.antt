@@ -3,6 +3,7 @@ use Rattle.std.proofs.Common.{◌≡◌, ◌⊎◌, inl, inr, ℕ, zero, suc, �
 use Rattle.std.proofs.lemmas.Bool.Decides.{nat_tests}
 use Rattle.std.proofs.lemmas.List.{take_all}
 use Rattle.std.proofs.Math.Seq.{take-length}
+use Rattle.sj_base.specs.Nesting.{max_open}
 use Rattle.sj_path_grammar.specs.declared.refusal.Name.{Name}
 use Rattle.sj_path_grammar.specs.Tree.{Path}
 use Rattle.sj_sql_grammar.specs.declared.refusal.FileKind.{FileKind}
@@ -18,9 +19,9 @@ use Rattle.sj_sql_grammar.proofs.Verdicts.{too_deep, no_tree, path_fault, lackin
 -- ---- a statement is too deep, or it is not
 
 deep_at : (ts : Tokens) (n : ℕ) → IsDeepAt ts n ⊎ (IsDeepAt ts n → ⊥)
-deep_at ts n = go (nat_lt (count_by is_close (take n ts) + 64) (count_by is_open (take n ts))) refl
+deep_at ts n = go (nat_lt (count_by is_close (take n ts) + max_open) (count_by is_open (take n ts))) refl
   where
-    go : (b : Bool) → nat_lt (count_by is_close (take n ts) + 64) (count_by is_open (take n ts)) ≡ b → IsDeepAt ts n ⊎ (IsDeepAt ts n → ⊥)
+    go : (b : Bool) → nat_lt (count_by is_close (take n ts) + max_open) (count_by is_open (take n ts)) ≡ b → IsDeepAt ts n ⊎ (IsDeepAt ts n → ⊥)
     go true h = inl (grind (arith, nat_tests))
     go false h = inr (λ d. grind (arith, nat_tests))
 
@@ -54,7 +55,7 @@ shallow_anywhere ts shallow deep = go (nat_le deep.0 (length ts)) refl
     go false e =
         let long : length ts ≤ deep.0 = grind (arith, nat_tests) in
         let same : take deep.0 ts ≡ take (length ts) ts = take_all deep.0 ts long ∙ sym (take-length ts) in
-        shallow (length ts) (omega arith) (subst (λ (us : Tokens). count_by is_close us + 64 < count_by is_open us) same deep.1)
+        shallow (length ts) (omega arith) (subst (λ (us : Tokens). count_by is_close us + max_open < count_by is_open us) same deep.1)
 
 -- ---- the answer of a statement
 

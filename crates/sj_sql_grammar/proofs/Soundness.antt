@@ -8,7 +8,7 @@ use Rattle.sj_sql_grammar.specs.Tree as t
 use Rattle.sj_sql_grammar.specs.Tree.{PathText, Common, Value, Values, Members, Item, ColumnOf, Columns, NamedPlan, Table, Statement}
 use Rattle.sj_sql_grammar.specs.Phrases.{Tokens, Phrase, if_some, word, open_at, comma_at, string_at, name_at, format_at, passed_at, unique_at, alias_at, table_alias_at, path_name_at}
 use Rattle.sj_sql_grammar.specs.Grammar as g
-use Rattle.sj_sql_grammar.specs.Grammar.{IsOptional, IsPassedOver, IsList, IsDocument, IsPassed, IsPassing, IsCommon, IsKind, IsOwnUnique, IsIsJson, Source, document, row, IsValue, IsValues, IsMember, IsMembers, IsColumn, IsColumns, IsColumnList, IsPlanExpr, IsUnion, IsCross, IsPlanPrim, operators, IsPlan, IsTable, IsPlainItem, IsRowItem, IsListedItem, IsSelect}
+use Rattle.sj_sql_grammar.specs.Grammar.{IsOptional, IsPassedOver, IsList, IsDocument, IsPassed, IsPassing, IsCommon, IsKind, IsOwnUnique, IsIsJson, Source, document, row, IsValue, IsValues, IsMember, IsMembers, IsColumn, IsColumns, IsColumnList, IsPlanExpr, IsUnion, IsCross, IsPlanPrim, operators, max_operators, IsPlan, IsTable, IsPlainItem, IsRowItem, IsListedItem, IsSelect}
 use Rattle.sj_sql_grammar.specs.Notes.{Notes}
 use Rattle.sj_sql_grammar.specs.Reading.{optional, passed_over, list_from, document_at, passing_at, begins_value, kind_at, is_json_at, plan_parens_at, plan_prim_at, union_from, cross_from, joined_at, named_plan_at, plan_over, plan_expr_at, plan_at, has_from, Noting, common_at, exists_from, value_from, query_from, values_from, member_value_at, keyed_at, valued_at, member_at, members_from, members_to_end, object_from, values_to_end, array_from, asking_at, value_over, value_at, regular_at, formatted_from, existence_from, named_column_at, nested_from, column_at, columns_from, columns_over, columns_at, row_path_at, table_at, plain_item_at, array_agg_from, object_agg_from, row_item_at, listed_item_at, items_from, ended, all_at, listed_at, plain_at, select_at}
 use Rattle.sj_sql_grammar.proofs.ReadTokens.{If, nothing, here, then, given, either, chosen, weaken}
@@ -102,7 +102,7 @@ unfolding plan_at
 plan_clause_reads ts = either _ _ _
     (λ a h. either _ _ _ (λ b q. given _ _ (λ c o. given _ _ (λ p d. given _ _ (λ rest z. here (g.default_plan h q o d z)))))
     (λ _. given _ _ (λ b o. then _ _ (plan_expr_reads (suc (length b)) b) (λ p d. given _ _ (λ rest z.
-    chosen _ _ _ (λ few. here (g.named_plan h o d z (leb-true (operators p.0) 63 few))) (λ _. nothing))))))
+    chosen _ _ _ (λ few. here (g.named_plan h o d z (leb-true (operators p.0) max_operators few))) (λ _. nothing))))))
     (λ _. here g.no_plan)
 
 -- the document and the row path of a table

@@ -14,7 +14,7 @@ use Rattle.sj_sql_grammar.specs.declared.clauses.Quotes.TheVariants as quotes
 use Rattle.sj_sql_grammar.specs.Tree.{PathText, Written, Value, Item, ColumnOf, Columns, NamedPlan, PathOf, PlanTree, Table, Statement}
 use Rattle.sj_sql_grammar.specs.Phrases.{Tokens, Phrase, word, close_at, comma_at, star_at, constant_of, literal_at, encoding_at, exists_clause_at, value_clause_at, query_clause_at, wrapper_at, quotes_at, meant, quotes_of, alias_at, table_alias_at, path_name_at, path_at, formatted_at, existence_at, table_action_of, table_clause_at}
 use Rattle.sj_sql_grammar.specs.Grammar as g
-use Rattle.sj_sql_grammar.specs.Grammar.{IsOptional, IsPassedOver, IsList, IsDocument, IsPassing, Source, document, row, IsValue, IsColumnPath, IsColumn, IsColumns, IsColumnList, IsPlanExpr, IsUnion, IsCross, IsPlanPrim, operators, IsPlan, IsTable, IsPlainItem, IsRowItem, IsListedItem, IsSelect}
+use Rattle.sj_sql_grammar.specs.Grammar.{IsOptional, IsPassedOver, IsList, IsDocument, IsPassing, Source, document, row, IsValue, IsColumnPath, IsColumn, IsColumns, IsColumnList, IsPlanExpr, IsUnion, IsCross, IsPlanPrim, operators, max_operators, IsPlan, IsTable, IsPlainItem, IsRowItem, IsListedItem, IsSelect}
 use Rattle.sj_sql_grammar.specs.Notes.{Notes, value_with, item_with, column_with, columns_with, table_with, plain_with, items_with, statement_with, note_encoding, note_value, note_item, note_column, note_columns, note_table, note_plain, note_items, note_statement}
 use Rattle.sj_sql_grammar.specs.Reading.{plan_parens_at, plan_prim_at, union_from, cross_from, joined_at, named_plan_at, plan_over, plan_expr_at, plan_at, has_from, value_at, regular_at, formatted_from, existence_from, named_column_at, nested_from, column_at, columns_from, columns_over, columns_at, row_path_at, table_at, plain_item_at, array_agg_from, object_agg_from, row_item_at, listed_item_at, items_from, all_at, listed_at, plain_at, select_at}
 use Rattle.sj_sql_grammar.proofs.ReadTokens.{bind_is, bind_none, some_on, none_on, cond_on, cond_off, said}
@@ -89,7 +89,7 @@ pub plan_full : {ts rest : Tokens} {p : PlanTree} → IsPlan ts p rest → word 
 unfolding plan_at plan_expr_at
 plan_full (g.named_plan {a = a} {b = b} {c = c} {rest = rest} {p = p} h o d z few) none =
     some_on _ _ _ h (none_on _ _ _ (open_leads (λ y. word w.Default y ≡ None) a b o refl) (bind_is _ _ o (bind_is _ _ (expr_full d rest z (length b) (omega arith)) (bind_is _ _ z
-    (cond_on _ _ _ (le-leb (operators p) 63 few) refl)))))
+    (cond_on _ _ _ (le-leb (operators p) max_operators few) refl)))))
 plan_full (g.default_plan h q o d z) none = some_on _ _ _ h (some_on _ _ _ q (bind_is _ _ o (bind_is _ _ d (bind_is _ _ z refl))))
 plan_full g.no_plan none = none_on _ _ _ none refl
 

@@ -228,7 +228,11 @@ mutual
     plan_name : {ts rest : Tokens} {name : List ℕ} → name_at ts ≡ Some (name, rest) → IsPlanPrim ts (PathOf name) rest
     parens : {ts a b rest : Tokens} {p : NamedPlan} → open_at ts ≡ Some a → IsPlanExpr a p b → close_at b ≡ Some rest → IsPlanPrim ts p rest
 
--- how many operators UNION and CROSS a plan has
+-- how many operators UNION and CROSS a plan may have
+abbrev pub max_operators : ℕ
+max_operators = 63
+
+-- how many it has
 abbrev pub operators : NamedPlan → ℕ
 operators (PathOf name) = 0
 operators (Outer name p) = operators p
@@ -238,7 +242,7 @@ operators (Cross p q) = 1 + operators p + operators q
 
 -- [ plan ], plan = "PLAN" "(" pexpr ")" | "PLAN" "DEFAULT" "(" pdefault ")"; without it the default is OUTER and UNION
 pub data IsPlan : Tokens → PlanTree → Tokens → Type 0 where
-  named_plan : {ts a b c rest : Tokens} {p : NamedPlan} → word w.Plan ts ≡ Some a → open_at a ≡ Some b → IsPlanExpr b p c → close_at c ≡ Some rest → operators p ≤ 63
+  named_plan : {ts a b c rest : Tokens} {p : NamedPlan} → word w.Plan ts ≡ Some a → open_at a ≡ Some b → IsPlanExpr b p c → close_at c ≡ Some rest → operators p ≤ max_operators
       → IsPlan ts (Named p) rest
   default_plan : {ts a b c d rest : Tokens} {p : PlanTree} → word w.Plan ts ≡ Some a → word w.Default a ≡ Some b → open_at b ≡ Some c → default_at c ≡ Some (p, d) → close_at d ≡ Some rest
       → IsPlan ts p rest

@@ -3,6 +3,7 @@
 use Rattle.std.specs.Prelude.{ℕ, Bool, true, false, ◌&&◌, nat_le, List, [], ◌∷◌, Option, Some, None, ℤ, neg_ℤ, unsigned_abs, codes, if◌then◌else◌}
 use Rattle.std.specs.Str.{bytes_eq}
 use Rattle.sj_base.specs.Options.{◌>>=◌}
+use Rattle.sj_decimal.specs.Limits.{max_digits}
 use Rattle.sj_path_grammar.specs.declared.tree.Literal.{Literal}
 use Rattle.sj_path_grammar.specs.declared.tree.Literal.TheVariants as l
 use Rattle.sj_value.specs.declared.types.SqlType.TheVariants as sql
@@ -137,15 +138,19 @@ literal_at (t ∷ ts) = if_some (number_at (t ∷ ts)) (λ d. Some (l.Num d.0, d
 abbrev pub sized : TypeName → Phrase TypeName
 sized ty ts = if_some (open_at ts) (λ a. count_at a >>= λ n. close_at n.1 >>= λ rest. Some (ty, rest)) (Some (ty, ts))
 
--- [ "(" number ")" ], with 1 to 1,000,000
+-- the greatest n of VARCHAR(n)
+abbrev pub max_varchar : ℕ
+max_varchar = 1000000
+
+-- [ "(" number ")" ], with 1 to the greatest
 abbrev pub varchar_at : Phrase TypeName
 varchar_at ts = if_some (open_at ts)
-    (λ a. count_at a >>= λ n. close_at n.1 >>= λ rest. if nat_le 1 n.0 && nat_le n.0 1000000 then Some (Known (sql.VarcharMax n.0), rest) else None)
+    (λ a. count_at a >>= λ n. close_at n.1 >>= λ rest. if nat_le 1 n.0 && nat_le n.0 max_varchar then Some (Known (sql.VarcharMax n.0), rest) else None)
     (Some (Known sql.Varchar, ts))
 
--- 1 to 38 digits, of which 0 to all are decimals, and ")"
+-- one digit at least, no more than an exact number may have, of which 0 to all are decimals, and ")"
 abbrev pub fixed_at : ℕ → ℕ → Phrase TypeName
-fixed_at p s ts = if nat_le 1 p && nat_le p 38 && nat_le s p then (close_at ts >>= λ rest. Some (Known (sql.NumericFixed p s), rest)) else None
+fixed_at p s ts = if nat_le 1 p && nat_le p max_digits && nat_le s p then (close_at ts >>= λ rest. Some (Known (sql.NumericFixed p s), rest)) else None
 
 -- [ "(" number [ "," number ] ")" ]
 abbrev pub numeric_at : Phrase TypeName

@@ -25,7 +25,7 @@ use Rattle.sj_sql_grammar.specs.declared.clauses.InOut.TheVariants as in_out
 use Rattle.sj_sql_grammar.specs.declared.clauses.Siblings.TheVariants as siblings
 use Rattle.sj_sql_grammar.specs.Tree.{PathText, Written, OfName, Common, Value, Lit, Column, Exists, ValueOf, Query, IsJson, Object, Array, Values, NoValues, MoreValues, Members, NoMembers, MoreMembers, Item, Single, ArrayAgg, ObjectAgg, ColumnOf, Ordinality, Regular, Formatted, Existence, Nested, Columns, Last, More, NamedPlan, PathOf, Outer, Inner, Union, Cross, PlanTree, Default, Named, Table, Statement, Plain, All, Listed}
 use Rattle.sj_sql_grammar.specs.Phrases.{Tokens, Phrase, if_some, word, open_at, close_at, comma_at, colon_at, star_at, string_at, name_at, doc_at, literal_at, type_at, encoding_at, format_at, passed_at, exists_clause_at, returning_at, value_clause_at, query_clause_at, wrapper_at, quotes_at, not_at, meant, kind_of, unique_at, nulls_at, alias_at, table_alias_at, path_name_at, path_at, nested_path_at, formatted_at, existence_at, table_clause_at, default_at}
-use Rattle.sj_sql_grammar.specs.Grammar.{Source, document, row, operators}
+use Rattle.sj_sql_grammar.specs.Grammar.{Source, document, row, operators, max_operators}
 use Rattle.sj_sql_grammar.specs.Notes.{Notes, note_encoding, note_type}
 
 -- ---- what may stand, and what is repeated
@@ -118,7 +118,7 @@ plan_expr_at zero ts = None
 plan_expr_at (suc n) ts = plan_over (plan_expr_at n) ts
 
 abbrev pub few_operators : NamedPlan → Tokens → Option (PlanTree × Tokens)
-few_operators p ts = if nat_le (operators p) 63 then Some (Named p, ts) else None
+few_operators p ts = if nat_le (operators p) max_operators then Some (Named p, ts) else None
 
 unfoldable pub plan_at : Phrase PlanTree
 plan_at ts = if_some (word w.Plan ts)

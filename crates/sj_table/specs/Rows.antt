@@ -1,6 +1,7 @@
 -- THE ROWS OF A PLAN, on the item under which it is evaluated, as whole lists (ISO/IEC 9075-2, JSON table), and what giving them may
 -- take.
-use Rattle.std.specs.Prelude.{ℕ, ◌+◌, ◌-◌, ◌*◌, ◌^◌, ◌==◌, min, List, [], ◌∷◌, ◌++◌, slice_get, Option, Some, None, if◌then◌else◌}
+use Rattle.std.specs.Prelude.{ℕ, ◌+◌, ◌-◌, ◌*◌, ◌==◌, List, [], ◌∷◌, ◌++◌, slice_get, Option, Some, None, if◌then◌else◌}
+use Rattle.std.specs.Io.Iter.{u64_saturate}
 use Rattle.sj_base.specs.declared.state.State.{State}
 use Rattle.sj_item.specs.Items.{ItemValue, item_value}
 use Rattle.sj_item.specs.declared.item.Item.{Item}
@@ -53,7 +54,7 @@ alone e = more (e ∷ []) done
 
 -- an ordinal past the last one that there is is given as the last one
 abbrev pub ordinal_of : ℕ → ℕ
-ordinal_of n = min n (2 ^ 64 - 1)
+ordinal_of n = u64_saturate n
 
 -- items numbered from n on
 abbrev pub entries_from : ℕ → ℕ → List ItemValue → Series Entry

@@ -1,13 +1,14 @@
-use Rattle.std.proofs.Common.{◌≡◌, ◌<◌, ◌^◌, ◌++◌, ℤ, ℕ, pos, negsuc, unsigned_abs, sym, ap, ◌∙◌, subst, arith, to_z, of_z, to_z-of_z, FitsSigned, OnOk}
+use Rattle.std.proofs.Common.{◌≡◌, ◌<◌, ◌++◌, ℤ, ℕ, pos, negsuc, unsigned_abs, sym, ap, ◌∙◌, subst, arith, to_z, of_z, to_z-of_z, FitsSigned, OnOk}
 use Rattle.std.specs.Int.{w64, w128}
 use Rattle.std.proofs.lemmas.Int.{ints, fits_signed_from_abs}
+use Rattle.sj_decimal.specs.Limits.{magnitude_limit}
 use Rattle.sj_decimal.specs.Signed.{is_negative, signed_parts}
 use Rattle.sj_decimal.specs.Normal.{normal, IsExact, IsDecimal}
 use Rattle.sj_decimal.specs.Text.{decimal_text}
 use Rattle.sj_decimal.proofs.NormalForm.{normal_decimal, IsExact-decimal, whole_decimal}
 use Rattle.sj_text.proofs.scalar.whole_text.Goals as goal
 
-small : (z : ℤ) → FitsSigned w64 z → unsigned_abs z < 10 ^ 38
+small : (z : ℤ) → FitsSigned w64 z → unsigned_abs z < magnitude_limit
 small (pos n) h = omega (arith, ints, h)
 small (negsuc n) h = omega (arith, ints, h)
 
