@@ -1,3 +1,4 @@
 pub mod Bound
+pub mod Limits
 pub mod Sound
 pub mod View

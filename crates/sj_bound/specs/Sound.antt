@@ -10,6 +10,7 @@ use Rattle.sj_value.specs.declared.value.SqlValue.{SqlValue}
 use Rattle.sj_value.specs.declared.value.SqlValue.TheVariants as value
 use Rattle.sj_value.specs.Clauses.{IsValueSpec}
 use Rattle.sj_bound.specs.Bound.{PathWith, Value, Lit, Column, Exists, ValueOf, Query, IsJson, Object, Array, Values, NoValues, MoreValues, Members, NoMembers, MoreMembers, Item, Single, ArrayAgg, ObjectAgg, ColumnOf as BoundColumn, Ordinality, Regular, Formatted, Existence, Table as BoundTable, Bound}
+use Rattle.sj_bound.specs.Limits.{most_items, most_columns, most_paths}
 use Rattle.sj_value.specs.Plans.{IsPlanOver}
 use Rattle.sj_value.specs.declared.types.SqlType.{SqlType}
 use Rattle.sj_value.specs.declared.types.SqlType.TheVariants as types
@@ -114,8 +115,8 @@ pub record IsSoundTable (table : BoundTable) : Type 0 where
   pub covered : Each (λ path. covers table.vars path ≡ true) table.paths
   pub plan : IsPlanOver (length table.paths) table.plan
   pub columns : Each (IsSoundColumn table.vars (length table.paths)) table.columns
-  pub few_paths : length table.paths ≤ 64
-  pub few_columns : length table.columns ≤ 1000
+  pub few_paths : length table.paths ≤ most_paths
+  pub few_columns : length table.columns ≤ most_columns
 
 abbrev pub IsSoundIfAny : Option BoundTable → Type 0
 IsSoundIfAny None = Unit {0}
@@ -130,4 +131,4 @@ pub record IsSound (b : Bound) : Type 0 where
   pub items : Each (IsSoundItem (columns_of b.table)) b.items
   pub alike : AreAllAlike b.items b.table
   pub table : IsSoundIfAny b.table
-  pub few_items : length b.items ≤ 1000
+  pub few_items : length b.items ≤ most_items

@@ -1,25 +1,27 @@
 //! Sequences.
 
-ghost use Rattle.std.specs.Prelude.{◌≡◌, ◌<◌, ◌≤◌, ◌-◌, ◌^◌, ◌∷◌, ◌++◌, [], length, IfOk, OnOk, OnErr, slice_get};
+ghost use Rattle.std.specs.Prelude.{◌≡◌, ◌<◌, ◌∷◌, ◌++◌, [], length, IfOk, OnOk, OnErr, slice_get};
 ghost use Rattle.std.specs.Option.{option_copied};
+ghost use Rattle.sj_sql_tree.specs.Sequences.{most_values};
 
 use sj_base::Memory;
 use std::alloc::Global;
 use std::marker::Model;
 
-/// Values one after another, seen as a list of fewer than 2^32.
+/// Values one after another, seen as a list of at most `most_values`.
 pub struct Seq<T> {
     items: Vec<T>,
 }
 
 impl<T> Model for Seq<T> {
-    ghost use Rattle.std.specs.Prelude.{List, length, vec_len, ◌<◌, ◌^◌};
+    ghost use Rattle.std.specs.Prelude.{List, length, ◌≤◌};
+    ghost use Rattle.sj_sql_tree.specs.Sequences.{most_values};
 
     ghost Value = { List T };
 
     ghost view = { λ s. s.items.items };
 
-    ghost invariant = { λ s. length s.items.items < 2 ^ 32 };
+    ghost invariant = { λ s. length s.items.items ≤ most_values };
 }
 
 impl<T: Drop> Drop for Seq<T> {
@@ -49,7 +51,7 @@ impl<T: Drop> Seq<T> {
 
     /// Puts a value at the end. Where memory runs out, the value is given up and nothing changes.
     pub fn push(&mut self, value: T) -> Result<(), Memory>
-        requires { length self.old < 2 ^ 32 - 1 }
+        requires { length self.old < most_values }
         ensures ok { OnOk result (self.new ≡ self.old ++ value ∷ []) }
         ensures err { OnErr result (self.new ≡ self.old) }
     {
