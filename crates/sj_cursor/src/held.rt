@@ -3,10 +3,7 @@ ghost use Rattle.std.specs.Prelude.{◌≤◌, ◌+◌, ◌*◌};
 ghost use Rattle.sj_path_tree.specs.Nodes.{expr_nodes, sub_nodes, subs_nodes, pred_nodes};
 ghost use Rattle.sj_cursor.specs.Left as left_of;
 
-use crate::cells::{
-    At, Binary, Bounds, Cell, Each, Elements, MoreParts, Operand, Operator, Part, Parts, Reached,
-    Test,
-};
+use crate::cells::{At, Bounds, Cell, Operand, Operator, Part, Parts, Reached, Test};
 
 // What cells hold, and one more item each.
 fn plus(a: u64, b: u64) -> u64
@@ -23,8 +20,11 @@ impl<'d> Cell<'d> {
     {
         match self {
             Cell::One(_) => 1,
-            Cell::Each(each) => each.held(),
-            Cell::Binary(binary) => binary.held(),
+            Cell::Each(each) => plus(each.input.held(), each.operator.held()),
+            Cell::Binary(binary) => {
+                let operands = plus(binary.left.held(), binary.right.held());
+                plus(operands, binary.reached.held())
+            }
         }
     }
 }
@@ -39,15 +39,6 @@ impl<'d> Operand<'d> {
     }
 }
 
-impl<'d> Each<'d> {
-    #[cycle(held)]
-    fn held(&self) -> u64
-        ensures { result + 2 ≤ 3 * expr_nodes (left_of.each_core self.now) }
-    {
-        plus(self.input.held(), self.operator.held())
-    }
-}
-
 impl<'d> Operator<'d> {
     #[cycle(held)]
     fn held(&self) -> u64
@@ -56,21 +47,19 @@ impl<'d> Operator<'d> {
         match self {
             Operator::Simple(_) => 1,
             Operator::Filter(filter) => filter.test.held(),
-            Operator::Elements(elements) => elements.held(),
+            Operator::Elements(elements) => plus(elements.parts.held(), elements.at.held()),
         }
     }
 }
 
-impl<'d> Elements<'d> {
-    // With the item at hand.
-    #[cycle(held)]
+impl<'d> At<'d> {
+    // The item at hand.
     fn held(&self) -> u64
-        ensures { result ≤ 3 * subs_nodes (left_of.elements_core self.now) + 1 }
+        ensures { result ≤ 1 }
     {
-        let parts = self.parts.held();
-        match self.at {
-            At::On(_) => plus(parts, 1),
-            At::Nothing | At::Refused(_) => parts,
+        match self {
+            At::On(_) => 1,
+            At::Nothing | At::Refused(_) => 0,
         }
     }
 }
@@ -82,17 +71,8 @@ impl<'d> Parts<'d> {
     {
         match self {
             Parts::Only(part) => part.held(),
-            Parts::More(more) => more.held(),
+            Parts::More(more) => plus(more.first.held(), more.others.held()),
         }
-    }
-}
-
-impl<'d> MoreParts<'d> {
-    #[cycle(held)]
-    fn held(&self) -> u64
-        ensures { result ≤ 3 * subs_nodes (left_of.more_core self.now) }
-    {
-        plus(self.first.held(), self.others.held())
     }
 }
 
@@ -112,29 +92,13 @@ impl<'d> Part<'d> {
     fn held(&self) -> u64
         ensures { result ≤ 3 * sub_nodes (left_of.part_core self.now) }
     {
-        plus(self.bounds.held(), self.reached.held())
-    }
-}
-
-impl<'d> Bounds<'d> {
-    #[cycle(held)]
-    fn held(&self) -> u64
-        ensures { result + 1 ≤ 3 * sub_nodes (left_of.bounds_core self.now) }
-    {
-        match self {
-            Bounds::One(operand) => operand.held(),
-            Bounds::Range(range) => plus(range.from.held(), range.to.held()),
+        match &self.bounds {
+            Bounds::One(operand) => plus(operand.held(), self.reached.held()),
+            Bounds::Range(range) => {
+                let operands = plus(range.from.held(), range.to.held());
+                plus(operands, self.reached.held())
+            }
         }
-    }
-}
-
-impl<'d> Binary<'d> {
-    #[cycle(held)]
-    fn held(&self) -> u64
-        ensures { result + 2 ≤ 3 * expr_nodes (left_of.binary_core self.now) }
-    {
-        let operands = plus(self.left.held(), self.right.held());
-        plus(operands, self.reached.held())
     }
 }
 

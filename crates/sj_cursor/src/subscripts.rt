@@ -102,7 +102,10 @@ impl<'d> Parts<'d> {
     {
         match self {
             Parts::Only(part) => part.reached = Reached::Unasked,
-            Parts::More(more) => more.reset(),
+            Parts::More(more) => {
+                more.first.reached = Reached::Unasked;
+                more.others.reset();
+            }
         }
     }
 }
@@ -123,15 +126,6 @@ impl<'d> MoreParts<'d> {
             Answer::End => self.others.next(env, item, steps, place),
             answer => answer,
         }
-    }
-
-    #[cycle(reset)]
-    pub(crate) fn reset(&mut self)
-        ensures whole { (env : Surroundings) (x : ItemValue) → left_of.more_left self.new env x ≡ parts_trace (left_of.more_core self.old) env x }
-        ensures same { left_of.more_core self.new ≡ left_of.more_core self.old }
-    {
-        self.first.reached = Reached::Unasked;
-        self.others.reset();
     }
 }
 
