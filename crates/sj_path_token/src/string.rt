@@ -91,7 +91,7 @@ fn escape(bytes: &[u8]) -> Option<(char, usize)>
     }
 }
 
-/// What a string stands for, and how many bytes it has behind its first quotation mark, or nothing where no string stands.
+/// What a string stands for, and how many bytes it has behind its first quotation mark. Nothing where no string stands.
 pub(crate) fn string(alloc: Global, inside: &str) -> Result<Option<(Text, usize)>, Memory>
     ensures { IfOk result (λ o. reading.inside_from (length inside.now) inside.now ≡ option_map (λ x. (x.0, x.1)) o) }
 {

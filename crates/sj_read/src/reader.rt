@@ -21,7 +21,7 @@ use std::alloc::Global;
 use thiserror::Error;
 
 /// The greatest length of a text, in bytes.
-pub const MAX_LENGTH: usize = 16_777_216;
+pub const MAX_LENGTH: usize = sj_json::MAX_LENGTH;
 
 /// The greatest number of arrays and objects that may be open at one place.
 pub const MAX_DEPTH: u64 = 100_000;
