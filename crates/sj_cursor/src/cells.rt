@@ -1,6 +1,7 @@
 // The cells of a path: one for each part of its tree, each owning the cells that it asks. A cell holds where it stands, and no
 // list of items.
-ghost use Rattle.std.specs.Prelude.{◌<◌, ◌^◌, unsigned_abs};
+ghost use Rattle.std.specs.Prelude.{◌<◌, unsigned_abs};
+ghost use Rattle.sj_decimal.specs.Limits.{magnitude_limit};
 
 use sj_base::State;
 use sj_item::Item;
@@ -151,7 +152,7 @@ pub(crate) enum At<'d> {
 pub(crate) struct Subscripted<'d> {
     pub(crate) item: Item<'d>,
     pub(crate) last: i128,
-    ghost small: { unsigned_abs last < 10 ^ 38 },
+    ghost small: { unsigned_abs last < magnitude_limit },
 }
 
 /// The parts of a list of subscripts.

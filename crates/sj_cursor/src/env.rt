@@ -1,5 +1,6 @@
 // Where an expression of a path is evaluated.
-ghost use Rattle.std.specs.Prelude.{◌<◌, ◌^◌, unsigned_abs};
+ghost use Rattle.std.specs.Prelude.{◌<◌, unsigned_abs};
+ghost use Rattle.sj_decimal.specs.Limits.{magnitude_limit};
 
 use sj_item::Item;
 use sj_path_tree::{Mode, Vars};
@@ -16,7 +17,7 @@ pub(crate) struct Env<'e, 'd> {
     pub(crate) context: &'e Item<'d>,
     /// `last`
     pub(crate) last: i128,
-    ghost small: { unsigned_abs last < 10 ^ 38 },
+    ghost small: { unsigned_abs last < magnitude_limit },
 }
 
 impl<'e, 'd> Env<'e, 'd> {
@@ -26,7 +27,7 @@ impl<'e, 'd> Env<'e, 'd> {
 
     /// The same inside the subscripts of an array whose last index is `last`.
     pub(crate) fn at_last(&self, last: i128) -> Env<'e, 'd>
-        requires { unsigned_abs last < 10 ^ 38 }
+        requires { unsigned_abs last < magnitude_limit }
         ensures { env_value result ≡ at_last (env_value self.now) last }
     {
         Env {
