@@ -8,6 +8,7 @@ use Rattle.sj_sql_grammar.specs.Tree.{Value, Lit, Column, Exists, ValueOf, Query
 use Rattle.sj_sql_tree.specs.declared.tree.SValue.{SValue}
 use Rattle.sj_sql_tree.specs.declared.tree.TItem.{TItem}
 use Rattle.sj_sql_tree.specs.View.{plain_of, items_of}
+use Rattle.sj_bound.specs.Limits.{most_items}
 use Rattle.sj_bind.specs.Faults.{either, calls_fault, names_fault, columns_fault, items_fault}
 use Rattle.sj_bind.specs.Parts.{calls_in_list}
 use Rattle.sj_bind.specs.Plans.{has_plan_mismatch}
@@ -39,9 +40,9 @@ plain_chain false false false true e f = refl
 plain_chain false false false false true f = refl
 plain_chain false false false false false f = refl
 
-pub plain_groups : (xs : List (Value Path)) → bind_fault (Plain xs) ≡ (if nat_lt 1000 (length xs) then Some TooMany else either (calls_fault (calls_in_list xs)) (if key_type (Plain xs) then Some KeyType else None))
+pub plain_groups : (xs : List (Value Path)) → bind_fault (Plain xs) ≡ (if nat_lt most_items (length xs) then Some TooMany else either (calls_fault (calls_in_list xs)) (if key_type (Plain xs) then Some KeyType else None))
 plain_groups xs =
-    plain_chain (nat_lt 1000 (length xs)) (list_any call_passes_twice (calls_in_list xs)) (list_any call_lacks_variable (calls_in_list xs)) (list_any call_quotes_clash (calls_in_list xs)) (list_any call_default_fails (calls_in_list xs)) (key_type (Plain xs))
+    plain_chain (nat_lt most_items (length xs)) (list_any call_passes_twice (calls_in_list xs)) (list_any call_lacks_variable (calls_in_list xs)) (list_any call_quotes_clash (calls_in_list xs)) (list_any call_default_fails (calls_in_list xs)) (key_type (Plain xs))
 
 table_chain : (a b c d e f g h i : Bool) (rest : Option BindKind)
     → (if a then Some TooMany else (if b then Some ColumnTwice else (if c then Some PathNameTwice else (if d then Some PathNameMissing else (if e then Some PlanMismatch
@@ -66,9 +67,9 @@ all_groups t =
     (list_any column_quotes_clash (all_columns t)) (list_any column_default_fails (all_columns t)) None
 
 pub listed_groups : (xs : List (Item Path)) (t : Table Path) → bind_fault (Listed xs t)
-    ≡ (if (nat_lt 1000 (length xs) || has_too_many t) then Some TooMany else either (either (names_fault t) (columns_fault t)) (items_fault xs t))
+    ≡ (if (nat_lt most_items (length xs) || has_too_many t) then Some TooMany else either (either (names_fault t) (columns_fault t)) (items_fault xs t))
 listed_groups xs t =
-    table_chain (nat_lt 1000 (length xs) || has_too_many t) (has_column_twice t) (has_path_name_twice t) (lacks_path_name t) (has_plan_mismatch t) (passes_twice t.common)
+    table_chain (nat_lt most_items (length xs) || has_too_many t) (has_column_twice t) (has_path_name_twice t) (lacks_path_name t) (has_plan_mismatch t) (passes_twice t.common)
     (table_lacks_variable t) (list_any column_quotes_clash (all_columns t)) (list_any column_default_fails (all_columns t)) (items_fault xs t)
 
 pub ruleset groups = (length-plain_of, length-items_of, plain_groups, all_groups, listed_groups)
@@ -94,7 +95,7 @@ either_known None other h = absurd cc
 either_known (Some kind) other h = refl
 
 -- a list with a table stops at a rule on the table
-pub listed_stops : (xs : List (Item Path)) (t : Table Path) (fault : Option BindKind) → (nat_lt 1000 (length xs) || has_too_many t) ≡ false → fault ≡ either (names_fault t) (columns_fault t) → is_some fault ≡ true
+pub listed_stops : (xs : List (Item Path)) (t : Table Path) (fault : Option BindKind) → (nat_lt most_items (length xs) || has_too_many t) ≡ false → fault ≡ either (names_fault t) (columns_fault t) → is_some fault ≡ true
     → fault ≡ bind_fault (Listed xs t)
 listed_stops xs t fault few is some =
     sym (listed_groups xs t ∙ ap (λ b. if b then Some TooMany else either (either (names_fault t) (columns_fault t)) (items_fault xs t)) few

@@ -1,10 +1,9 @@
 -- A table that breaks no rule, and the columns that a list beside it names.
-use Rattle.std.proofs.Common.{◌≡◌, ℕ, suc, ◌+◌, ◌<◌, ◌≤◌, Bool, true, false, cond, not, ◌||◌, List, [], ◌∷◌, ◌++◌, length, slice_get, nat_lt, refl, sym, ap, ◌∙◌, subst, arith}
+use Rattle.std.proofs.Common.{◌≡◌, ℕ, suc, ◌+◌, ◌<◌, Bool, true, false, cond, not, ◌||◌, List, [], ◌∷◌, ◌++◌, length, slice_get, nat_lt, refl, sym, ap, ◌∙◌, subst, arith}
 use Rattle.std.specs.Prelude.{IsSomeAnd}
 use Rattle.std.specs.List.{All, list_any, position_or_len}
 use Rattle.std.specs.Str.{bytes_eq}
 use Rattle.std.proofs.lemmas.List.Elements.{All-nil, All-cons, All-head, All-tail}
-use Rattle.std.proofs.lemmas.Bool.Decides.{nat_tests}
 use Rattle.std.proofs.lemmas.Slice.Eq.{bytes_eq-Decides}
 use Rattle.sj_base.specs.Names.{is_among}
 use Rattle.sj_path_grammar.specs.Tree.{Path}
@@ -18,9 +17,10 @@ use Rattle.sj_value.specs.Plans.{IsPlanOver}
 use Rattle.sj_bind.specs.Plans.{table_plan}
 use Rattle.sj_bind.specs.Rules.{text_name, text_names, columns_alone, paths_alone, all_columns, all_paths, lacks_variable, column_lacks_variable, column_default_fails, table_lacks_variable}
 use Rattle.sj_bind.specs.Bindable.{IsBindableColumn, IsBindableTable}
+use Rattle.sj_bound.specs.Limits.{most_columns, most_paths}
 use Rattle.sj_bound.specs.Sound.{IsTextColumn, IsSoundColumn, IsSoundTable}
 use Rattle.sj_bind.specs.Tables.{TableColumn, columns_in, columns_below, table_columns, names_in, names_below, column_names, has_twice}
-use Rattle.sj_bind.proofs.UnbrokenRules.{IsCleanTable, few_columns}
+use Rattle.sj_bind.proofs.UnbrokenRules.{IsCleanTable, not_over, few_columns}
 use Rattle.sj_bind.proofs.Lists.{holds, neither}
 use Rattle.sj_bind.proofs.PlansOver.{plan_over}
 use Rattle.sj_bind.proofs.SoundClauses.{sound_clauses}
@@ -200,19 +200,16 @@ length-paths_alone : (ps : List (TablePath Path)) → length (paths_alone ps) �
 length-paths_alone [] = refl
 length-paths_alone (p ∷ ps) = ap (λ n. suc n) (length-paths_alone ps)
 
-not_above : (n : ℕ) → nat_lt 64 n ≡ false → n ≤ 64
-not_above n h = grind (arith, nat_tests)
-
 pub sound_table : (t : Table Path) → IsBindableTable t → IsCleanTable t → table_lacks_variable t ≡ false → IsSoundTable (bound_table t)
 sound_table t bindable clean covered =
     let n = length-paths_alone (table_paths t) in
     let o = neither (list_any (lacks_variable t.common.passing) (all_paths t)) (list_any (column_lacks_variable t.common.passing) (all_columns t)) covered in
-    let few = neither (nat_lt 1000 (length (column_names t))) (nat_lt 64 (length (table_paths t))) clean.few in
+    let few = neither (nat_lt most_columns (length (column_names t))) (nat_lt most_paths (length (table_paths t))) clean.few in
     record {
       covered = all_covered t.common.passing (all_paths t) o.0;
       plan = subst (λ k. IsPlanOver k (table_plan t)) (sym n) (plan_over t clean.paths_once clean.matched);
       columns = subst (λ k. All (IsSoundColumn (passed t.common.passing) k) (bound_columns (table_columns t))) (sym n)
           (sound_columns t.common.passing (length (table_paths t)) (table_columns t) (columns_have_paths t) bindable.columns o.1 clean.casts);
-      few_paths = omega (arith, n, not_above (length (table_paths t)) few.1);
+      few_paths = omega (arith, n, not_over most_paths (length (table_paths t)) few.1);
       few_columns = omega (arith, length-bound_columns (table_columns t), length-table_columns t, few_columns t clean.few);
     }

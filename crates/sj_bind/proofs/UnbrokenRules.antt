@@ -5,6 +5,7 @@ use Rattle.std.proofs.lemmas.Bool.Decides.{nat_tests}
 use Rattle.sj_path_grammar.specs.Tree.{Path}
 use Rattle.sj_sql_grammar.specs.declared.refusal.BindKind.{BindKind}
 use Rattle.sj_sql_grammar.specs.Tree.{Value, Item, Table, Plain, All, Listed}
+use Rattle.sj_bound.specs.Limits.{most_items, most_columns}
 use Rattle.sj_bind.specs.Faults.{either, calls_fault, names_fault, columns_fault, items_fault}
 use Rattle.sj_bind.specs.Fits.{AreListFit, AreItemsNamed}
 use Rattle.sj_bind.specs.Parts.{calls_in_list}
@@ -25,11 +26,11 @@ either_none : (a b : Option BindKind) → either a b ≡ None → (a ≡ None) �
 either_none None b h = (refl, h)
 either_none (Some kind) b h = absurd cc
 
-not_over : (n : ℕ) → nat_lt 1000 n ≡ false → n ≤ 1000
-not_over n h = grind (arith, nat_tests)
+pub not_over : (most n : ℕ) → nat_lt most n ≡ false → n ≤ most
+not_over most n h = grind (arith, nat_tests)
 
 pub record IsCleanPlain (xs : List (Value Path)) : Type 0 where
-  pub few : length xs ≤ 1000
+  pub few : length xs ≤ most_items
   pub fit : AreListFit xs
   pub kept : AreKept (calls_in_list xs)
   pub keys : key_type (Plain xs) ≡ false
@@ -43,7 +44,7 @@ clean_plain xs bindable h =
     let clash = stop_none (list_any call_quotes_clash (calls_in_list xs)) _ _ lacks.1 in
     let casts = stop_none (list_any call_default_fails (calls_in_list xs)) _ _ clash.1 in
     let kept = kept_calls (calls_in_list xs) bindable twice.0 lacks.0 casts.0 in
-    record { few = not_over (length xs) a.0; fit = fit_list xs kept; kept = kept; keys = (stop_none (key_type (Plain xs)) _ _ b.1).0 }
+    record { few = not_over most_items (length xs) a.0; fit = fit_list xs kept; kept = kept; keys = (stop_none (key_type (Plain xs)) _ _ b.1).0 }
 
 pub record IsCleanTable (t : Table Path) : Type 0 where
   pub few : has_too_many t ≡ false
@@ -73,7 +74,7 @@ clean_all t h =
     clean_table t a.0 (either_none (either (names_fault t) (columns_fault t)) None a.1).0
 
 pub record IsCleanList (xs : List (Item Path)) (t : Table Path) : Type 0 where
-  pub few : length xs ≤ 1000
+  pub few : length xs ≤ most_items
   pub named : AreItemsNamed (column_names t) xs
   pub known : unknown_column (Listed xs t) ≡ false
   pub alike : aggregate_mixed (Listed xs t) ≡ false
@@ -82,14 +83,14 @@ pub record IsCleanList (xs : List (Item Path)) (t : Table Path) : Type 0 where
 
 pub clean_list : (xs : List (Item Path)) (t : Table Path) → bind_fault (Listed xs t) ≡ None → IsCleanList xs t
 clean_list xs t h =
-    let a = stop_none (nat_lt 1000 (length xs) || has_too_many t) _ _ (sym (listed_groups xs t) ∙ h) in
-    let n = neither (nat_lt 1000 (length xs)) (has_too_many t) a.0 in
+    let a = stop_none (nat_lt most_items (length xs) || has_too_many t) _ _ (sym (listed_groups xs t) ∙ h) in
+    let n = neither (nat_lt most_items (length xs)) (has_too_many t) a.0 in
     let b = either_none (either (names_fault t) (columns_fault t)) (items_fault xs t) a.1 in
     let unknown = stop_none (unknown_column (Listed xs t)) _ _ b.1 in
     let mixed = stop_none (aggregate_mixed (Listed xs t)) _ _ unknown.1 in
     let keys = stop_none (key_type (Listed xs t)) _ _ mixed.1 in
-    record { few = not_over (length xs) n.0; named = items_are_named (column_names t) xs unknown.0; known = unknown.0; alike = mixed.0; keys = keys.0; table = clean_table t n.1 b.0 }
+    record { few = not_over most_items (length xs) n.0; named = items_are_named (column_names t) xs unknown.0; known = unknown.0; alike = mixed.0; keys = keys.0; table = clean_table t n.1 b.0 }
 
 -- a table has few columns
-pub few_columns : (t : Table Path) → has_too_many t ≡ false → length (column_names t) ≤ 1000
-few_columns t h = not_over (length (column_names t)) (neither (nat_lt 1000 (length (column_names t))) _ h).0
+pub few_columns : (t : Table Path) → has_too_many t ≡ false → length (column_names t) ≤ most_columns
+few_columns t h = not_over most_columns (length (column_names t)) (neither (nat_lt most_columns (length (column_names t))) _ h).0

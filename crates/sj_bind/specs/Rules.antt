@@ -12,6 +12,7 @@ use Rattle.sj_sql_grammar.specs.declared.clauses.ValueDo.{ValueDo}
 use Rattle.sj_sql_grammar.specs.declared.refusal.BindKind.{BindKind}
 use Rattle.sj_sql_grammar.specs.declared.refusal.BindKind.TheVariants.{TooMany, ColumnTwice, PathNameTwice, PathNameMissing, PlanMismatch, VariableTwice, UnknownVariable, QuotesWithWrapper, DefaultCast, UnknownColumn, AggregateMixed, KeyType}
 use Rattle.sj_sql_grammar.specs.Tree.{Common, Value, Lit, Column, Exists, ValueOf, Query, IsJson, Object, Array, Item, Single, ArrayAgg, ObjectAgg, ColumnOf, Ordinality, Regular, Formatted, Existence, Nested, Table, Statement, Plain, All, Listed}
+use Rattle.sj_bound.specs.Limits.{most_items}
 use Rattle.sj_bind.specs.Clauses.{passed, passed_names, sql_type, names_text, default_fails, quotes_clash}
 use Rattle.sj_bind.specs.Parts.{Call, exists_call, value_call, query_call, call_common, calls, keys_in_list, keys_in_items, names_in_items}
 use Rattle.sj_bind.specs.Paths.{TablePath, table_paths}
@@ -44,11 +45,11 @@ all_paths table = paths_alone (table_paths table)
 
 -- The list of `*` has the columns of the table, on which there is a rule of its own.
 abbrev pub has_too_many_items : Statement Path → Bool
-has_too_many_items (Plain xs) = nat_lt 1000 (length xs)
+has_too_many_items (Plain xs) = nat_lt most_items (length xs)
 has_too_many_items (All table) = false
-has_too_many_items (Listed xs table) = nat_lt 1000 (length xs)
+has_too_many_items (Listed xs table) = nat_lt most_items (length xs)
 
--- more than 1,000 items of the SELECT list, more than 1,000 columns, or more than 64 paths
+-- more items of the SELECT list, more columns or more paths than there may be
 abbrev pub too_many : Statement Path → Bool
 too_many s = has_too_many_items s || on_table has_too_many s
 

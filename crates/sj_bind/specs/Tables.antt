@@ -4,6 +4,7 @@ use Rattle.std.specs.List.{list_any}
 use Rattle.std.specs.Option.{option_to_list}
 use Rattle.std.specs.Str.{bytes_eq}
 use Rattle.sj_sql_grammar.specs.Tree.{Table, Columns, Last, More, ColumnOf, Ordinality, Regular, Formatted, Existence, Nested, PlanTree, Default, Named}
+use Rattle.sj_bound.specs.Limits.{most_columns, most_paths}
 use Rattle.sj_bind.specs.Paths.{paths_in, table_paths}
 
 -- a column, and the number of the path whose rows it is a column of
@@ -68,9 +69,9 @@ has_twice (name ∷ others) = list_any (bytes_eq name) others || has_twice other
 
 -- The rules. Each is true of a table that breaks it.
 
--- more than 1,000 columns, or more than 64 paths
+-- more columns or more paths than there may be
 abbrev pub has_too_many : {P : Type 0} → Table P → Bool
-has_too_many table = nat_lt 1000 (length (column_names table)) || nat_lt 64 (length (table_paths table))
+has_too_many table = nat_lt most_columns (length (column_names table)) || nat_lt most_paths (length (table_paths table))
 
 -- two columns have equal names
 abbrev pub has_column_twice : {P : Type 0} → Table P → Bool

@@ -8,6 +8,7 @@ ghost use Rattle.sj_bind.specs.Fits.{AreItemsNamed, AreListFit};
 ghost use Rattle.sj_bind.specs.Meaning.{bound_items, bound_list, columns_below};
 ghost use Rattle.sj_bind.specs.Names.{names_of};
 ghost use Rattle.sj_bind.specs.Bindable.{IsBindable, IsBindableTable};
+ghost use Rattle.sj_bound.specs.Limits.{most_items, most_columns};
 ghost use Rattle.sj_bound.specs.Sound.{IsSound};
 ghost use Rattle.sj_bind.specs.Tables.{column_names, has_column_twice};
 ghost use Rattle.sj_bound.specs.View as view;
@@ -54,7 +55,7 @@ fn bind_plain(alloc: Global, values: Seq<SValue>) -> Result<Bound, BindRefusal>
 
 fn bind_list(alloc: Global, values: Seq<SValue>) -> Result<Seq<BoundItem>, Memory>
     requires fit { AreListFit (plain_of values) }
-    requires few { length values ≤ 1000 }
+    requires few { length values ≤ most_items }
     ensures { IfOk result (λ items. view.items_of items ≡ bound_list (plain_of values)) }
 {
     let mut items = Seq::with_room(alloc, values.len())?;
@@ -80,7 +81,7 @@ fn bind_all(alloc: Global, table: Table) -> Result<Bound, BindRefusal>
 }
 
 fn first_columns(alloc: Global, count: u32) -> Result<Seq<BoundItem>, Memory>
-    requires { count ≤ 1000 }
+    requires { count ≤ most_columns }
     ensures { IfOk result (λ items. view.items_of items ≡ columns_below count) }
 {
     let mut items = Seq::with_room(alloc, count)?;
@@ -107,9 +108,9 @@ fn bind_listed(alloc: Global, items: Seq<TItem>, table: Table) -> Result<Bound, 
 
 fn bind_beside(alloc: Global, items: Seq<TItem>, table: &Table) -> Result<Seq<BoundItem>, Memory>
     requires once { has_column_twice (table_of table.now) ≡ false }
-    requires few_columns { length (column_names (table_of table.now)) ≤ 1000 }
+    requires few_columns { length (column_names (table_of table.now)) ≤ most_columns }
     requires named { AreItemsNamed (column_names (table_of table.now)) (items_of items) }
-    requires few { length items ≤ 1000 }
+    requires few { length items ≤ most_items }
     ensures { IfOk result (λ bound. view.items_of bound ≡ bound_items (column_names (table_of table.now)) (items_of items)) }
 {
     let columns = column_index(alloc, table)?;
@@ -122,8 +123,8 @@ fn bind_items(
     columns: &NameSet<'_>,
 ) -> Result<Seq<BoundItem>, Memory>
     requires named { AreItemsNamed (names_of columns.now) (items_of items) }
-    requires few_columns { length (names_of columns.now) ≤ 1000 }
-    requires few { length items ≤ 1000 }
+    requires few_columns { length (names_of columns.now) ≤ most_columns }
+    requires few { length items ≤ most_items }
     ensures { IfOk result (λ bound. view.items_of bound ≡ bound_items (names_of columns.now) (items_of items)) }
 {
     let mut bound = Seq::with_room(alloc, items.len())?;

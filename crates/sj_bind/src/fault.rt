@@ -3,6 +3,7 @@
 ghost use Rattle.std.specs.Prelude.{◌≡◌, ◌||◌, false, nat_lt, length, IfOk, All};
 ghost use Rattle.sj_sql_grammar.specs.Tree as t;
 ghost use Rattle.sj_sql_tree.specs.View.{plain_of, items_of, table_of};
+ghost use Rattle.sj_bound.specs.Limits.{most_items};
 ghost use Rattle.sj_bind.specs.Faults as group;
 ghost use Rattle.sj_bind.specs.Names.{names_of};
 ghost use Rattle.sj_bind.specs.PartsView.{calls_of};
@@ -182,7 +183,7 @@ fn items_fault(alloc: Global, items: &[TItem], table: &Table) -> Result<Option<B
 
 #[tactic(auto, using(crate::proofs::Groups::groups))]
 fn has_too_many_parts(items: &Seq<TItem>, table: &Table) -> bool
-    ensures { result ≡ (nat_lt 1000 (length (items_of items.now)) || tables.has_too_many (table_of table.now)) }
+    ensures { result ≡ (nat_lt most_items (length (items_of items.now)) || tables.has_too_many (table_of table.now)) }
 {
     items.len() > MOST_ITEMS || has_too_many(table)
 }

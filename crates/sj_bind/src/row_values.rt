@@ -3,6 +3,7 @@
 ghost use Rattle.std.specs.Prelude.{◌≡◌, ◌≤◌, true, IfOk, length};
 ghost use Rattle.sj_base.specs.Names.{is_among};
 ghost use Rattle.sj_sql_tree.specs.View.{tvalue_of, tvalues_of, tmembers_of, item_of};
+ghost use Rattle.sj_bound.specs.Limits.{most_columns};
 ghost use Rattle.sj_bound.specs.View as view;
 ghost use Rattle.sj_bind.specs.Fits.{AreNamed, AreAllNamed, AreMembersNamed, IsItemNamed};
 ghost use Rattle.sj_bind.specs.Meaning.{column_number, bound_value, bound_values, bound_members, bound_item};
@@ -18,7 +19,7 @@ use std::alloc::Global;
 /// The number of the column with this name.
 fn number_of(columns: &NameSet<'_>, name: &str) -> u32
     requires known { is_among (names_of columns.now) name.now ≡ true }
-    requires few { length (names_of columns.now) ≤ 1000 }
+    requires few { length (names_of columns.now) ≤ most_columns }
     ensures { result ≡ column_number (names_of columns.now) name.now }
 {
     match columns.names.get_index_of(name) {
@@ -32,7 +33,7 @@ fn number_of(columns: &NameSet<'_>, name: &str) -> u32
 #[tactic(auto, using(crate::proofs::LinkedCells::chains))]
 fn bind_row_value(alloc: Global, value: TValue, columns: &NameSet<'_>) -> Result<BoundValue, Memory>
     requires known { AreNamed (names_of columns.now) (tvalue_of value) }
-    requires few { length (names_of columns.now) ≤ 1000 }
+    requires few { length (names_of columns.now) ≤ most_columns }
     ensures { IfOk result (λ b. view.value_of b ≡ bound_value (names_of columns.now) (tvalue_of value)) }
 {
     match value {
@@ -57,7 +58,7 @@ fn bind_row_values(
     columns: &NameSet<'_>,
 ) -> Result<BoundValues, Memory>
     requires known { AreAllNamed (names_of columns.now) (tvalues_of values) }
-    requires few { length (names_of columns.now) ≤ 1000 }
+    requires few { length (names_of columns.now) ≤ most_columns }
     ensures { IfOk result (λ b. view.values_of b ≡ bound_values (names_of columns.now) (tvalues_of values)) }
 {
     let mut rest = values;
@@ -77,7 +78,7 @@ fn bind_row_members(
     columns: &NameSet<'_>,
 ) -> Result<BoundMembers, Memory>
     requires known { AreMembersNamed (names_of columns.now) (tmembers_of members) }
-    requires few { length (names_of columns.now) ≤ 1000 }
+    requires few { length (names_of columns.now) ≤ most_columns }
     ensures { IfOk result (λ b. view.members_of b ≡ bound_members (names_of columns.now) (tmembers_of members)) }
 {
     let mut rest = members;
@@ -93,7 +94,7 @@ fn bind_row_members(
 /// A bound item.
 pub fn bind_item(alloc: Global, item: TItem, columns: &NameSet<'_>) -> Result<BoundItem, Memory>
     requires known { IsItemNamed (names_of columns.now) (item_of item) }
-    requires few { length (names_of columns.now) ≤ 1000 }
+    requires few { length (names_of columns.now) ≤ most_columns }
     ensures { IfOk result (λ b. view.item_of b ≡ bound_item (names_of columns.now) (item_of item)) }
 {
     match item {

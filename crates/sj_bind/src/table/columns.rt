@@ -1,10 +1,11 @@
 //! The paths and columns of a table, taken from its tree.
 
-ghost use Rattle.std.specs.Prelude.{◌≡◌, ◌+◌, ◌<◌, ◌≤◌, ◌-◌, ◌^◌, ◌++◌, ◌∷◌, [], length, OnOk, IfOk};
+ghost use Rattle.std.specs.Prelude.{◌≡◌, ◌+◌, ◌<◌, ◌≤◌, ◌++◌, ◌∷◌, [], length, OnOk, IfOk};
 ghost use Rattle.sj_path_tree.specs.Tree.{path_of};
 ghost use Rattle.sj_sql_tree.specs.View.{columns_of, column_of, regular_of, formatted_of};
 ghost use Rattle.sj_bind.specs.Tables.{names_in, names_below};
 ghost use Rattle.sj_bind.specs.Taken.{CanTake, CanTakeIn, taken_paths, taken_paths_in, taken_columns, taken_columns_in};
+ghost use Rattle.sj_bound.specs.Limits.{most_columns, most_paths};
 ghost use Rattle.sj_bound.specs.View as bound;
 ghost use Rattle.sj_bind.specs.Meaning.{column_under};
 ghost use Rattle.sj_sql_grammar.specs.Tree as t;
@@ -32,8 +33,8 @@ pub fn take_columns(
     taken: &mut Taken,
 ) -> Result<(), Memory>
     requires bindable { CanTake (columns_of columns) }
-    requires few_paths { length taken.old.paths + length (taken_paths (columns_of columns)) ≤ 64 }
-    requires few_columns { length taken.old.columns + length (names_below (columns_of columns)) ≤ 1000 }
+    requires few_paths { length taken.old.paths + length (taken_paths (columns_of columns)) ≤ most_paths }
+    requires few_columns { length taken.old.columns + length (names_below (columns_of columns)) ≤ most_columns }
     ensures paths { OnOk result (bound.paths_of taken.new.paths ≡ bound.paths_of taken.old.paths ++ taken_paths (columns_of columns)) }
     ensures columns { OnOk result (bound.columns_of taken.new.columns ≡ bound.columns_of taken.old.columns ++ taken_columns path (length taken.old.paths) (columns_of columns)) }
     ensures path_count { OnOk result (length taken.new.paths ≡ length taken.old.paths + length (taken_paths (columns_of columns))) }
@@ -54,8 +55,8 @@ pub fn take_columns(
 #[cycle(take_columns)]
 fn take_column(alloc: Global, column: Column, path: u32, taken: &mut Taken) -> Result<(), Memory>
     requires bindable { CanTakeIn (column_of column) }
-    requires few_paths { length taken.old.paths + length (taken_paths_in (column_of column)) ≤ 64 }
-    requires few_columns { length taken.old.columns + length (names_in (column_of column)) ≤ 1000 }
+    requires few_paths { length taken.old.paths + length (taken_paths_in (column_of column)) ≤ most_paths }
+    requires few_columns { length taken.old.columns + length (names_in (column_of column)) ≤ most_columns }
     ensures paths { OnOk result (bound.paths_of taken.new.paths ≡ bound.paths_of taken.old.paths ++ taken_paths_in (column_of column)) }
     ensures columns { OnOk result (bound.columns_of taken.new.columns ≡ bound.columns_of taken.old.columns ++ taken_columns_in path (length taken.old.paths) (column_of column)) }
     ensures path_count { OnOk result (length taken.new.paths ≡ length taken.old.paths + length (taken_paths_in (column_of column))) }
@@ -98,7 +99,7 @@ fn bound_formatted(column: FormattedColumn, path: u32) -> BoundColumn
 
 #[tactic(auto, using(crate::proofs::TakenColumns::columns_of_both))]
 fn put_column(column: BoundColumn, taken: &mut Taken) -> Result<(), Memory>
-    requires { length taken.old.columns < 1000 }
+    requires { length taken.old.columns < most_columns }
     ensures paths { OnOk result (taken.new.paths ≡ taken.old.paths) }
     ensures columns { OnOk result (bound.columns_of taken.new.columns ≡ bound.columns_of taken.old.columns ++ bound.column_of column ∷ []) }
     ensures column_count { OnOk result (length taken.new.columns ≡ length taken.old.columns + 1) }
@@ -108,7 +109,7 @@ fn put_column(column: BoundColumn, taken: &mut Taken) -> Result<(), Memory>
 
 #[tactic(auto, using(crate::proofs::TakenColumns::paths_of_both))]
 pub fn put_path(path: Path, taken: &mut Taken) -> Result<(), Memory>
-    requires { length taken.old.paths < 64 }
+    requires { length taken.old.paths < most_paths }
     ensures columns { OnOk result (taken.new.columns ≡ taken.old.columns) }
     ensures paths { OnOk result (bound.paths_of taken.new.paths ≡ bound.paths_of taken.old.paths ++ path_of path ∷ []) }
     ensures path_count { OnOk result (length taken.new.paths ≡ length taken.old.paths + 1) }

@@ -1,6 +1,7 @@
 //! Numbers of columns and paths.
 
 ghost use Rattle.std.specs.Prelude.{◌≤◌};
+ghost use Rattle.sj_bound.specs.Limits.{most_columns, most_paths};
 
 /// The most columns that a table may have.
 pub const MOST_COLUMNS: u32 = 1000;
@@ -13,6 +14,6 @@ pub const MOST_PATHS: u32 = 64;
 pub struct Counts {
     pub columns: u32,
     pub paths: u32,
-    ghost few_columns: { columns ≤ 1000 },
-    ghost few_paths: { paths ≤ 64 },
+    ghost few_columns: { columns ≤ most_columns },
+    ghost few_paths: { paths ≤ most_paths },
 }

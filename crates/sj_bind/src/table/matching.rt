@@ -1,7 +1,8 @@
 //! Whether a plan with names matches the paths of its table.
 
-ghost use Rattle.std.specs.Prelude.{◌≡◌, ℕ, ◌+◌, ◌-◌, ◌<◌, ◌≤◌, ◌^◌, ◌&&◌, false, min, length};
+ghost use Rattle.std.specs.Prelude.{◌≡◌, ℕ, ◌+◌, ◌≤◌, ◌&&◌, false, min, length};
 ghost use Rattle.sj_sql_tree.specs.View.{table_of, columns_of, column_of, plan_of};
+ghost use Rattle.sj_bound.specs.Limits.{most_paths};
 ghost use Rattle.sj_bind.specs.Tables.{has_too_many};
 ghost use Rattle.sj_bind.specs.Paths.{paths_below, children_in, children, table_paths};
 ghost use Rattle.sj_bind.specs.Plans as spec;
@@ -23,7 +24,7 @@ pub fn has_plan_mismatch(table: &Table) -> bool
 }
 
 fn matches_table(plan: &NamedPlan, table: &Table) -> bool
-    requires { length (table_paths (table_of table.now)) ≤ 64 }
+    requires { length (table_paths (table_of table.now)) ≤ most_paths }
     ensures { result ≡ spec.matches (plan_of plan.now) (table_of table.now) }
 {
     match plan {
@@ -58,7 +59,7 @@ fn is_called(own: &Option<Text>, name: &Text) -> bool
 /// Whether the plan fits the paths right under the columns, of which the first has the number `next`.
 #[cycle(fits)]
 fn fits(plan: &NamedPlan, columns: &Columns, next: u32) -> bool
-    requires { next + length (paths_below (columns_of columns.now)) < 2 ^ 32 }
+    requires { next + length (paths_below (columns_of columns.now)) ≤ u32.MAX }
     ensures { result ≡ spec.fits (plan_of plan.now) (children next (columns_of columns.now)) }
 {
     match plan {
@@ -81,7 +82,7 @@ fn fits(plan: &NamedPlan, columns: &Columns, next: u32) -> bool
 /// Whether the plan has each path nested in this one once, and fits them.
 #[cycle(fits)]
 fn fits_below(plan: &NamedPlan, path: Place) -> bool
-    requires { path.number + 1 + length (paths_below (columns_of path.columns.now)) < 2 ^ 32 }
+    requires { path.number + 1 + length (paths_below (columns_of path.columns.now)) ≤ u32.MAX }
     ensures { result ≡ (each_once (standing (plan_of plan.now)) (children (path.entry.number + 1) (columns_of path.entry.columns.now)) && spec.fits (plan_of plan.now) (children (path.entry.number + 1) (columns_of path.entry.columns.now))) }
 {
     stand_once(path.columns, plan) && fits(plan, path.columns, path.number + 1)
@@ -122,7 +123,7 @@ fn stands_once(column: &Column, plan: &NamedPlan) -> bool
 /// How often the name stands in the plan, outside the plans below its paths. The count stays at `2^32 - 1`.
 #[tactic(auto, using(crate::proofs::PathLists::count_both))]
 fn occurrences(plan: &NamedPlan, name: &str) -> u32
-    ensures { result ≡ min (name_count name.now (standing (plan_of plan.now))) (2 ^ 32 - 1) }
+    ensures { result ≡ min (name_count name.now (standing (plan_of plan.now))) u32.MAX }
 {
     match plan {
         NamedPlan::Path(own) | NamedPlan::Outer(own, _) | NamedPlan::Inner(own, _) => {

@@ -1,6 +1,6 @@
 //! The nested paths of a table.
 
-ghost use Rattle.std.specs.Prelude.{◌≡◌, ℕ, ◌+◌, ◌<◌, ◌≤◌, ◌^◌, not, length, IfSome, option_map};
+ghost use Rattle.std.specs.Prelude.{◌≡◌, ℕ, ◌+◌, ◌≤◌, not, length, IfSome, option_map};
 ghost use Rattle.sj_sql_tree.specs.View.{table_of, columns_of, column_of};
 ghost use Rattle.sj_bind.specs.Tables as spec;
 ghost use Rattle.sj_bind.specs.Tables.{lacks_name_in, lacks_name_below};
@@ -61,7 +61,7 @@ fn has_unnamed_in(column: &Column) -> bool
 /// How many paths are nested in a column, at any depth, with itself.
 #[cycle(path_count)]
 pub fn count_paths_in(column: &Column) -> u32
-    requires { length (paths_in (column_of column.now)) < 2 ^ 32 }
+    requires { length (paths_in (column_of column.now)) ≤ u32.MAX }
     ensures { result ≡ length (paths_in (column_of column.now)) }
 {
     match column {
@@ -76,7 +76,7 @@ pub fn count_paths_in(column: &Column) -> u32
 /// How many paths are nested in columns, at any depth.
 #[cycle(path_count)]
 pub fn count_paths(columns: &Columns) -> u32
-    requires { length (paths_below (columns_of columns.now)) < 2 ^ 32 }
+    requires { length (paths_below (columns_of columns.now)) ≤ u32.MAX }
     ensures { result ≡ length (paths_below (columns_of columns.now)) }
 {
     let mut rest = columns;
@@ -120,7 +120,7 @@ fn is_nested(column: &Column) -> bool
 /// The path of this name among those right under the columns, of which the first has the number `next`.
 #[tactic(auto, using(crate::proofs::PathLists::named_past, crate::proofs::PathLists::named_here))]
 pub fn find_path<'a>(columns: &'a Columns, next: u32, name: &str) -> Option<Place<'a>>
-    requires { next + length (paths_below (columns_of columns.now)) < 2 ^ 32 }
+    requires { next + length (paths_below (columns_of columns.now)) ≤ u32.MAX }
     ensures found { option_map (child_of name.now) result ≡ path_named name.now (children next (columns_of columns.now)) }
     ensures within { IfSome result (λ place. place.number + 1 + length (paths_below (columns_of place.columns.now)) ≤ next + length (paths_below (columns_of columns.now))) }
 {
@@ -142,7 +142,7 @@ pub fn find_path<'a>(columns: &'a Columns, next: u32, name: &str) -> Option<Plac
 
 /// A column as the path of this name, if it is one.
 fn path_here<'a>(column: &'a Column, next: u32, name: &str) -> Option<Place<'a>>
-    requires { next + length (paths_in (column_of column.now)) < 2 ^ 32 }
+    requires { next + length (paths_in (column_of column.now)) ≤ u32.MAX }
     ensures found { option_map (child_of name.now) result ≡ path_named name.now (children_in next (column_of column.now)) }
     ensures within { IfSome result (λ place. place.number + 1 + length (paths_below (columns_of place.columns.now)) ≤ next + length (paths_in (column_of column.now))) }
 {

@@ -1,8 +1,9 @@
 //! The plan of a table over the numbers of its paths.
 
-ghost use Rattle.std.specs.Prelude.{◌≡◌, ◌+◌, ◌<◌, ◌≤◌, ◌^◌, ◌∷◌, [], true, false, length, is_some, option_map, None, Some, IfOk};
+ghost use Rattle.std.specs.Prelude.{◌≡◌, ◌+◌, ◌≤◌, ◌∷◌, [], true, false, length, is_some, option_map, None, Some, IfOk};
 ghost use Rattle.sj_value.specs.Plans.{plan_tree, IsPlanOver};
 ghost use Rattle.sj_sql_tree.specs.View.{table_of, columns_of, column_of, plan_of, plan_tree_of};
+ghost use Rattle.sj_bound.specs.Limits.{most_paths};
 ghost use Rattle.sj_bind.specs.Tables.{has_too_many, has_path_name_twice};
 ghost use Rattle.sj_bind.specs.Paths.{paths_in, paths_below, children, row_path, table_paths};
 ghost use Rattle.sj_bind.specs.Places.{child_of};
@@ -46,7 +47,7 @@ fn plan_by(alloc: Global, plan: &PlanTree, table: &Table) -> Result<Plan, Memory
 
 /// The plan with numbers in the place of names, where its root is the row path.
 fn numbered_root(alloc: Global, plan: &NamedPlan, table: &Table) -> Result<Plan, Memory>
-    requires few { length (table_paths (table_of table.now)) ≤ 64 }
+    requires few { length (table_paths (table_of table.now)) ≤ most_paths }
     requires matched { spec.matches (plan_of plan.now) (table_of table.now) ≡ true }
     ensures { IfOk result (λ p. plan_tree p ≡ spec.numbered (plan_of plan.now) (row_path (table_of table.now) ∷ [])) }
 {
@@ -62,7 +63,7 @@ fn numbered_root(alloc: Global, plan: &NamedPlan, table: &Table) -> Result<Plan,
 /// number `next`.
 #[cycle(numbered)]
 fn numbered(alloc: Global, plan: &NamedPlan, columns: &Columns, next: u32) -> Result<Plan, Memory>
-    requires few { next + length (paths_below (columns_of columns.now)) < 2 ^ 32 }
+    requires few { next + length (paths_below (columns_of columns.now)) ≤ u32.MAX }
     requires fits { spec.fits (plan_of plan.now) (children next (columns_of columns.now)) ≡ true }
     ensures { IfOk result (λ p. plan_tree p ≡ spec.numbered (plan_of plan.now) (children next (columns_of columns.now))) }
 {
@@ -90,7 +91,7 @@ fn numbered(alloc: Global, plan: &NamedPlan, columns: &Columns, next: u32) -> Re
 /// A path over the plan of its nested paths.
 #[cycle(numbered)]
 fn over(alloc: Global, in_out: InOut, path: Place, below: &NamedPlan) -> Result<Plan, Memory>
-    requires few { path.number + 1 + length (paths_below (columns_of path.columns.now)) < 2 ^ 32 }
+    requires few { path.number + 1 + length (paths_below (columns_of path.columns.now)) ≤ u32.MAX }
     requires fits { spec.fits (plan_of below.now) (children (path.number + 1) (columns_of path.columns.now)) ≡ true }
     ensures { IfOk result (λ p. plan_tree p ≡ spec.joined in_out path.entry.number (spec.numbered (plan_of below.now) (children (path.entry.number + 1) (columns_of path.entry.columns.now)))) }
 {
@@ -100,7 +101,7 @@ fn over(alloc: Global, in_out: InOut, path: Place, below: &NamedPlan) -> Result<
 
 /// The path of this name among those right under the columns, of which the first has the number `next`.
 fn known_path<'a>(columns: &'a Columns, next: u32, name: &Text) -> Place<'a>
-    requires few { next + length (paths_below (columns_of columns.now)) < 2 ^ 32 }
+    requires few { next + length (paths_below (columns_of columns.now)) ≤ u32.MAX }
     requires known { is_some (spec.path_named name.now (children next (columns_of columns.now))) ≡ true }
     ensures found { spec.path_named name.now (children next (columns_of columns.now)) ≡ Some (child_of name.now result) }
     ensures within { result.number + 1 + length (paths_below (columns_of result.columns.now)) ≤ next + length (paths_below (columns_of columns.now)) }
@@ -120,7 +121,7 @@ fn default_plan(
     in_out: InOut,
     siblings: Siblings,
 ) -> Result<Plan, Memory>
-    requires { number + 1 + length (paths_below (columns_of columns.now)) < 2 ^ 32 }
+    requires { number + 1 + length (paths_below (columns_of columns.now)) ≤ u32.MAX }
     ensures { IfOk result (λ plan. plan_tree plan ≡ grown.path_over in_out number (grown_below in_out siblings (number + 1) None (columns_of columns.now))) }
 {
     let mut below = None;
@@ -151,7 +152,7 @@ fn with_column(
     in_out: InOut,
     siblings: Siblings,
 ) -> Result<Option<Plan>, Memory>
-    requires { next + length (paths_in (column_of column.now)) < 2 ^ 32 }
+    requires { next + length (paths_in (column_of column.now)) ≤ u32.MAX }
     ensures { IfOk result (λ plans. option_map plan_tree plans ≡ grown_in in_out siblings next (option_map plan_tree below) (column_of column.now)) }
 {
     match column {

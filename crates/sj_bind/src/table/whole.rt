@@ -1,6 +1,6 @@
 //! The binding of a table that breaks no rule.
 
-ghost use Rattle.std.specs.Prelude.{◌≡◌, ◌+◌, ◌<◌, ◌≤◌, ◌^◌, ◌∷◌, false, length, IfOk};
+ghost use Rattle.std.specs.Prelude.{◌≡◌, ◌<◌, ◌≤◌, ◌∷◌, false, length, IfOk};
 ghost use Rattle.std.specs.List.{list_any};
 ghost use Rattle.sj_path_tree.specs.Tree.{path_of};
 ghost use Rattle.sj_sql_tree.specs.View.{table_of, columns_of};
@@ -12,6 +12,7 @@ ghost use Rattle.sj_bind.specs.Rules.{passes_twice, column_default_fails, all_co
 ghost use Rattle.sj_bind.specs.Bindable.{IsBindableTable};
 ghost use Rattle.sj_bind.specs.Meaning.{bound_table, bound_columns};
 ghost use Rattle.sj_bind.specs.Taken.{CanTake};
+ghost use Rattle.sj_bound.specs.Limits.{most_columns, most_paths};
 ghost use Rattle.sj_bound.specs.View as bound;
 
 use super::columns::{Taken, put_path, take_columns};
@@ -61,8 +62,8 @@ pub fn bind_table(alloc: Global, table: Table) -> Result<Box<BoundTable>, Memory
 #[tactic(auto, using(crate::proofs::TakenColumns::paths_are, crate::proofs::TakenColumns::count_are, crate::proofs::TakenColumns::columns_are))]
 fn take_all(alloc: Global, path: Path, columns: Columns) -> Result<Taken, Memory>
     requires bindable { CanTake (columns_of columns) }
-    requires few_paths { length (paths_below (columns_of columns)) < 64 }
-    requires few_columns { length (names_below (columns_of columns)) ≤ 1000 }
+    requires few_paths { length (paths_below (columns_of columns)) < most_paths }
+    requires few_columns { length (names_below (columns_of columns)) ≤ most_columns }
     ensures paths { IfOk result (λ taken. bound.paths_of taken.paths ≡ path_of path ∷ paths_alone (paths_below (columns_of columns))) }
     ensures columns { IfOk result (λ taken. bound.columns_of taken.columns ≡ bound_columns (columns_below 0 1 (columns_of columns))) }
 {
