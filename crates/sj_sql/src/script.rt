@@ -1,10 +1,11 @@
 //! A whole file of statements as trees.
 
-ghost use Rattle.std.specs.Prelude.{◌≡◌, suc, ◌<◌, ◌≤◌, ◌-◌, ◌^◌, ◌∷◌, ◌++◌, [], length, map, IfOk, OnOk, MatchOption, slice_get};
+ghost use Rattle.std.specs.Prelude.{◌≡◌, suc, ◌<◌, ◌≤◌, ◌∷◌, ◌++◌, [], length, map, IfOk, OnOk, MatchOption, slice_get};
 ghost use Rattle.std.specs.Option.{option_copied};
 ghost use Rattle.sj_sql_token.specs.Tokens.{lexed};
 ghost use Rattle.sj_sql_grammar.specs.Answers.{IsFile, max_file};
 ghost use Rattle.sj_sql.specs.Script.{fault_of};
+ghost use Rattle.sj_sql_tree.specs.Sequences.{most_values};
 ghost use Rattle.sj_sql_tree.specs.View.{statement_of};
 
 use crate::answer::Refused;
@@ -23,7 +24,8 @@ pub struct Statements {
 }
 
 impl Model for Statements {
-    ghost use Rattle.std.specs.Prelude.{List, length, ◌<◌, ◌^◌};
+    ghost use Rattle.std.specs.Prelude.{List, length, ◌≤◌};
+    ghost use Rattle.sj_sql_tree.specs.Sequences.{most_values};
     ghost use Rattle.std.specs.Coded.{codes};
     ghost use Rattle.sj_sql_tree.specs.declared.tree.Statement.{Statement};
     ghost use Rattle.sj_sql_tree.specs.contracts.tree.Statement as statement;
@@ -34,7 +36,7 @@ impl Model for Statements {
 
     ghost view = { λ s. s.items.items };
 
-    ghost invariant = { λ s. length s.items.items < 2 ^ 32 };
+    ghost invariant = { λ s. length s.items.items ≤ most_values };
 }
 
 impl Statements {
@@ -47,7 +49,7 @@ impl Statements {
     }
 
     fn push(&mut self, statement: Statement) -> Result<(), Memory>
-        requires { length self.old < 2 ^ 32 - 1 }
+        requires { length self.old < most_values }
         ensures { OnOk result (self.new ≡ self.old ++ statement ∷ []) }
     {
         self.items.push_back(statement)?;
@@ -108,7 +110,7 @@ impl Drop for Script {
 
 /// The statements before the one that is refused for this reason.
 fn refused(statements: Statements, kind: FileKind) -> Script
-    requires { length statements < 2 ^ 32 - 1 }
+    requires { length statements < most_values }
     ensures statements { result.statements ≡ statements }
     ensures fault { fault_of result.fault ≡ Some (suc (length statements), kind) }
 {
