@@ -34,7 +34,7 @@ LAWS = {
     ("sj_json/specs/Numbers.antt", "number_of"): ("sj_value/src/law.rt", "one_number"),
     ("sj_json/specs/UniqueKeys.antt", "has_unique_keys"): ("sj_json/src/lib.rt", "unique_keys"),
 }
-NUMBER = re.compile(r"(?:pub )?@0 : \S*ℕ\n@0 = \d+")  # a limit: that two have one value is chance
+NUMBER = re.compile(r"(?:pub )?@0 : \S*ℕ\n@0 = \d+(?: \S+ \d+)*")  # a limit, maybe as 2 ^ 32: that two have one value is chance
 INTRODUCTION = """# The definitions behind the contract of `run`
 
 A proof shows that the code does what its contract says. Whether the contract says what it should, a reader has to judge,
