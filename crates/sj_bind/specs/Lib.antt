@@ -12,7 +12,7 @@ pub mod Names
 pub mod Parts
 pub mod PartsView
 pub mod Paths
-pub mod Places
+pub mod NumberedPaths
 pub mod Plans
 pub mod RowRules
 pub mod Rules

@@ -8,7 +8,7 @@ use Rattle.std.specs.List.{filter, flat_map}
 use Rattle.sj_build.specs.Constructors.{joined}
 use Rattle.sj_text.specs.Rendering.{comma}
 use Rattle.sj_build.specs.Growing.{place_behind, opening, opened}
-use Rattle.sj_build.specs.Held.{so_far}
+use Rattle.sj_build.specs.SoFar.{so_far}
 use Rattle.sj_text.specs.declared.place.Place.{Place}
 use Rattle.sj_text.specs.declared.place.Place.TheVariants.{Later}
 

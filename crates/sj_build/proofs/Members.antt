@@ -9,7 +9,7 @@ use Rattle.sj_text.specs.declared.place.Place.{Place}
 use Rattle.sj_text.specs.declared.place.Place.TheVariants.{Later}
 use Rattle.sj_build.specs.Constructors.{is_kept, kept_key, kept_fields, joined, pair_text, member_text}
 use Rattle.sj_text.specs.Rendering.{comma}
-use Rattle.sj_build.specs.Held.{AreTaken}
+use Rattle.sj_build.specs.SoFar.{AreTaken}
 use Rattle.sj_build.specs.Keys.{noted}
 use Rattle.sj_build.proofs.Growing.{open_kept, dropped_more}
 use Rattle.sj_build.proofs.Taken.{is_dropped, has_key, takes_dropped, takes_kept}

@@ -15,7 +15,7 @@ use Rattle.sj_text.specs.declared.place.Place.{Place}
 use Rattle.sj_text.specs.declared.place.Place.TheVariants.{Later}
 use Rattle.sj_build.specs.Constructors.{text_of, or_empty, key_text, is_kept, kept_fields, key_kept, kept_key, key_refusal, refusal, first_of, first_refusal, unless_refused, member_text}
 use Rattle.sj_build.specs.Growing.{place_behind}
-use Rattle.sj_build.specs.Held.{AreTaken}
+use Rattle.sj_build.specs.SoFar.{AreTaken}
 use Rattle.sj_build.specs.Keys.{noted}
 use Rattle.sj_build.proofs.Growing.{kept_more, dropped_more, place_kept}
 

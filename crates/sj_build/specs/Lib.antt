@@ -1,5 +1,5 @@
 pub mod Constructors
 pub mod Growing
-pub mod Held
+pub mod SoFar
 pub mod Keys
 pub mod Answers

@@ -27,16 +27,16 @@ pub struct ArrayAgg {
 }
 
 impl Model for ArrayAgg {
-    ghost use Rattle.sj_build.specs.Held.{ArrayHeld};
+    ghost use Rattle.sj_build.specs.SoFar.{ArraySoFar};
 
-    ghost Value = { ArrayHeld };
+    ghost Value = { ArraySoFar };
 
     ghost view = { λ a. record { nulls = a.nulls; text = a.text; place = a.place } };
 }
 
 impl ArrayAgg {
     ghost use Rattle.sj_build.specs.Constructors.{array_aggregate};
-    ghost use Rattle.sj_build.specs.Held.{StandsForValues};
+    ghost use Rattle.sj_build.specs.SoFar.{StandsForValues};
 
     /// Nothing was added. It takes no memory; `alloc` serves the calls that add.
     pub fn new(alloc: Global, nulls: Nulls) -> ArrayAgg

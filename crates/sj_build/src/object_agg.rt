@@ -52,17 +52,17 @@ impl Drop for ObjectAgg {
 
 impl Model for ObjectAgg {
     ghost use Rattle.std.specs.Prelude.{is_some};
-    ghost use Rattle.sj_build.specs.Held.{ObjectHeld};
+    ghost use Rattle.sj_build.specs.SoFar.{ObjectSoFar};
     ghost use Rattle.sj_build.specs.Keys.{owned_keys};
 
-    ghost Value = { ObjectHeld };
+    ghost Value = { ObjectSoFar };
 
     ghost view = { λ o. record { nulls = o.nulls; unique = is_some o.keys; text = o.text; place = o.place; keys = owned_keys o.keys } };
 }
 
 impl ObjectAgg {
     ghost use Rattle.sj_build.specs.Constructors.{object_value, object_aggregate};
-    ghost use Rattle.sj_build.specs.Held.{StandsForFields};
+    ghost use Rattle.sj_build.specs.SoFar.{StandsForFields};
 
     /// Nothing was added. It takes no memory; `alloc` serves the calls that add. With `unique`, which is WITH UNIQUE
     /// KEYS, no two members that are kept may have equal keys.

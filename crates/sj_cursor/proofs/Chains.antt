@@ -32,7 +32,7 @@ use Rattle.sj_cursor.proofs.NotUnwrapped.{unopened}
 use Rattle.sj_cursor.proofs.Operators.{as_it_is}
 use Rattle.sj_cursor.proofs.Takers.{taken-after_visits, taking-after_visits}
 
--- ---- keys in a row
+-- ---- keys in a pairing
 
 pub first_rest : (ks : List Key) (k : Key) → 1 ≤ length ks → texts ks ≡ (get_or ks 0 k).now ∷ texts (take (length ks - 1) (drop 1 ks))
 first_rest [] k some = absurd (omega arith)

@@ -13,8 +13,8 @@ use Rattle.sj_cursor.specs.Chains.{node_value, IsLaxNode}
 use Rattle.sj_cursor.specs.Comparisons.{is_true}
 use Rattle.sj_cursor.specs.Left.{operand_whole}
 use Rattle.sj_cursor.specs.Meaning.{Env, meaning}
-use Rattle.sj_cursor.specs.Rows.{ItemTruth}
-use Rattle.sj_cursor.specs.RowsSeen.{RowSeen}
+use Rattle.sj_cursor.specs.Pairings.{ItemTruth}
+use Rattle.sj_cursor.specs.PairingsSeen.{PairingSeen}
 use Rattle.sj_cursor.specs.Verdicts.{is_unknown}
 use Rattle.sj_cursor.specs.declared.cells.Opening.TheVariants.{Unwrapped}
 use Rattle.sj_cursor.specs.declared.cells.Source.{Source}
@@ -34,9 +34,9 @@ or_swap : (b : Bool) → (false || b) ≡ (b || false)
 or_swap true = refl
 or_swap false = refl
 
-row_one : (early : Bool) (test : ItemTruth) (x : ItemValue) (found doubt : Bool) (a : ℕ)
-    → found ≡ (false || is_true (test x)) → doubt ≡ (false || is_unknown (test x)) → RowSeen early test (only x) found doubt a a
-row_one early test x found doubt a f d = record {
+pairing_one : (early : Bool) (test : ItemTruth) (x : ItemValue) (found doubt : Bool) (a : ℕ)
+    → found ≡ (false || is_true (test x)) → doubt ≡ (false || is_unknown (test x)) → PairingSeen early test (only x) found doubt a a
+pairing_one early test x found doubt a f d = record {
   finds = f ∙ or_swap (is_true (test x));
   doubts = λ _. d ∙ or_swap (is_unknown (test x));
   costs = costs (early && is_true (test x));
@@ -51,8 +51,8 @@ pub whole_is_one : (s : Source) (env : Env) (x : ItemValue) → x ≡ source_val
 whole_is_one s env x e flat = ap (λ t. each t (unwrap env.mode)) (source_meaning s env) ∙ rw (← e) (each_only x (unwrap env.mode) (flat env.mode))
 
 pub one_seen : (whole : Trace) (x : ItemValue) (early : Bool) (test : ItemTruth) (found doubt : Bool) (a : ℕ)
-    → whole ≡ only x → found ≡ (false || is_true (test x)) → doubt ≡ (false || is_unknown (test x)) → RowSeen early test whole found doubt a a
-one_seen whole x early test found doubt a e f d = rw e (row_one early test x found doubt a f d)
+    → whole ≡ only x → found ≡ (false || is_true (test x)) → doubt ≡ (false || is_unknown (test x)) → PairingSeen early test whole found doubt a a
+one_seen whole x early test found doubt a e f d = rw e (pairing_one early test x found doubt a f d)
 
 -- ---- `$` or `@` that is a node, in lax mode
 

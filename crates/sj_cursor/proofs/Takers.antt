@@ -1,4 +1,4 @@
--- What is taken of a trace is what is looked for in it, and what is seen of its row.
+-- What is taken of a trace is what is looked for in it, and what is seen of its pairing.
 use Rattle.std.specs.Prelude.{if◌then◌else◌, is_some}
 use Rattle.std.proofs.Common.{◌≡◌, ℕ, zero, suc, ◌+◌, ◌≤◌, Bool, true, false, ◌||◌, ◌&&◌, Option, None, ap, sym, ◌∙◌, refl, arith}
 use Rattle.sj_base.specs.Outside.{raised}
@@ -9,8 +9,8 @@ use Rattle.sj_step.proofs.Traces.{join-stop}
 use Rattle.sj_cursor.specs.Chains.{Sought}
 use Rattle.sj_cursor.specs.Comparisons.{is_true}
 use Rattle.sj_cursor.specs.Looks.{Found, none_found, Look, more, is_enough, looked, look_cost, Finds}
-use Rattle.sj_cursor.specs.Rows.{ItemTruth, row_true, row_doubt, row_cost}
-use Rattle.sj_cursor.specs.RowsSeen.{RowSeen}
+use Rattle.sj_cursor.specs.Pairings.{ItemTruth, pairing_true, pairing_doubt, pairing_cost}
+use Rattle.sj_cursor.specs.PairingsSeen.{PairingSeen}
 use Rattle.sj_cursor.specs.Takers.{Taken, looking, testing, taken_of, taking_cost}
 use Rattle.sj_cursor.specs.Verdicts.{is_unknown}
 use Rattle.sj_cursor.specs.declared.look.Limit.{Limit}
@@ -70,7 +70,7 @@ look_sought limit f g t enough a b e s =
       costs = omega (arith, whole_cost _ _ _ _ _ _ here, looks_cost limit none_found t);
     }
 
--- ---- what is seen of a row
+-- ---- what is seen of a pairing
 
 abbrev true_in : Taken → Bool
 true_in (looking limit f) = false
@@ -106,54 +106,54 @@ halted true true b h = refl
 halted true false b h = cc
 halted false a b h = cc
 
--- what was taken of a row from found and doubt on
-record RowTaken (early : Bool) (test : ItemTruth) (found doubt : Bool) (t : Trace) (p : Taken × Option State) : Type 0 where
-  finds : true_in p.0 ≡ found || row_true test t
-  doubts : early && true_in p.0 ≡ false → doubt_in p.0 || is_some p.1 ≡ doubt || row_doubt test t
+-- what was taken of a pairing from found and doubt on
+record PairingTaken (early : Bool) (test : ItemTruth) (found doubt : Bool) (t : Trace) (p : Taken × Option State) : Type 0 where
+  finds : true_in p.0 ≡ found || pairing_true test t
+  doubts : early && true_in p.0 ≡ false → doubt_in p.0 || is_some p.1 ≡ doubt || pairing_doubt test t
 
-row_step : (early : Bool) (test : ItemTruth) (f d f' d' : Bool) (x : ItemValue) (t : Trace) (b : Bool) (p : Taken × Option State)
+pairing_step : (early : Bool) (test : ItemTruth) (f d f' d' : Bool) (x : ItemValue) (t : Trace) (b : Bool) (p : Taken × Option State)
     → f' ≡ f || is_true (test x) → d' ≡ d || is_unknown (test x) → early && f' ≡ b
-    → (early && f' ≡ false → RowTaken early test f' d' t p)
-    → RowTaken early test f d (give x t) (if b then (testing early test f' d', None) else p)
-row_step early test f d f' d' x t true p ef ed h k = record {
-  finds = halted early f' (row_true test t) h ∙ ap (λ u. u || row_true test t) ef ∙ or_assoc f (is_true (test x)) (row_true test t);
+    → (early && f' ≡ false → PairingTaken early test f' d' t p)
+    → PairingTaken early test f d (give x t) (if b then (testing early test f' d', None) else p)
+pairing_step early test f d f' d' x t true p ef ed h k = record {
+  finds = halted early f' (pairing_true test t) h ∙ ap (λ u. u || pairing_true test t) ef ∙ or_assoc f (is_true (test x)) (pairing_true test t);
   doubts = λ q. absurd (cc);
 }
-row_step early test f d f' d' x t false p ef ed h k = record {
-  finds = (k h).finds ∙ ap (λ u. u || row_true test t) ef ∙ or_assoc f (is_true (test x)) (row_true test t);
-  doubts = λ q. (k h).doubts q ∙ ap (λ u. u || row_doubt test t) ed ∙ or_assoc d (is_unknown (test x)) (row_doubt test t);
+pairing_step early test f d f' d' x t false p ef ed h k = record {
+  finds = (k h).finds ∙ ap (λ u. u || pairing_true test t) ef ∙ or_assoc f (is_true (test x)) (pairing_true test t);
+  doubts = λ q. (k h).doubts q ∙ ap (λ u. u || pairing_doubt test t) ed ∙ or_assoc d (is_unknown (test x)) (pairing_doubt test t);
 }
 
-row_taken : (early : Bool) (test : ItemTruth) (f d : Bool) (t : Trace) → RowTaken early test f d t (taken_of (testing early test f d) t)
-row_taken early test f d stop = record { finds = sym (or_false f); doubts = λ q. refl }
-row_taken early test f d (fail s) = record { finds = sym (or_false f); doubts = λ q. refl }
-row_taken early test f d (visit t) =
-    let later = row_taken early test f d t in
+pairing_taken : (early : Bool) (test : ItemTruth) (f d : Bool) (t : Trace) → PairingTaken early test f d t (taken_of (testing early test f d) t)
+pairing_taken early test f d stop = record { finds = sym (or_false f); doubts = λ q. refl }
+pairing_taken early test f d (fail s) = record { finds = sym (or_false f); doubts = λ q. refl }
+pairing_taken early test f d (visit t) =
+    let later = pairing_taken early test f d t in
     record { finds = later.finds; doubts = later.doubts }
-row_taken early test f d (give x t) =
-    row_step early test f d (f || is_true (test x)) (d || is_unknown (test x)) x t (early && (f || is_true (test x))) _ refl refl refl
-    (λ h. row_taken early test (f || is_true (test x)) (d || is_unknown (test x)) t)
+pairing_taken early test f d (give x t) =
+    pairing_step early test f d (f || is_true (test x)) (d || is_unknown (test x)) x t (early && (f || is_true (test x))) _ refl refl refl
+    (λ h. pairing_taken early test (f || is_true (test x)) (d || is_unknown (test x)) t)
 
 price_step : (b : Bool) (m n : ℕ) → (b ≡ false → m ≡ n) → (if b then 0 else m) ≡ (if b then 0 else n)
 price_step true m n k = refl
 price_step false m n k = k refl
 
-row_price : (early : Bool) (test : ItemTruth) (f d : Bool) (t : Trace) → early && f ≡ false → taking_cost (testing early test f d) t ≡ row_cost early test t
-row_price early test f d stop q = refl
-row_price early test f d (fail s) q = refl
-row_price early test f d (visit t) q = ap suc (row_price early test f d t q)
-row_price early test f d (give x t) q =
-    price_step (early && (f || is_true (test x))) _ _ (row_price early test (f || is_true (test x)) (d || is_unknown (test x)) t)
-    ∙ ap (λ b. if b then 0 else row_cost early test t) (halts_alike early f (is_true (test x)) q)
+pairing_price : (early : Bool) (test : ItemTruth) (f d : Bool) (t : Trace) → early && f ≡ false → taking_cost (testing early test f d) t ≡ pairing_cost early test t
+pairing_price early test f d stop q = refl
+pairing_price early test f d (fail s) q = refl
+pairing_price early test f d (visit t) q = ap suc (pairing_price early test f d t q)
+pairing_price early test f d (give x t) q =
+    price_step (early && (f || is_true (test x))) _ _ (pairing_price early test (f || is_true (test x)) (d || is_unknown (test x)) t)
+    ∙ ap (λ b. if b then 0 else pairing_cost early test t) (halts_alike early f (is_true (test x)) q)
 
-pub row_sought : (early : Bool) (test : ItemTruth) (found doubt : Bool) (t : Trace) (enough : Bool) (a b : ℕ)
-    → Sought (testing early test false false) t (testing early test found doubt) enough a b → RowSeen early test t found doubt a b
-row_sought early test found doubt t enough a b s =
-    let all = row_taken early test false false t in
+pub pairing_sought : (early : Bool) (test : ItemTruth) (found doubt : Bool) (t : Trace) (enough : Bool) (a b : ℕ)
+    → Sought (testing early test false false) t (testing early test found doubt) enough a b → PairingSeen early test t found doubt a b
+pairing_sought early test found doubt t enough a b s =
+    let all = pairing_taken early test false false t in
     let is = whole_taken _ _ _ _ _ _ s in
-    let whole : RowTaken early test false false t (testing early test found doubt, None) = rw is at all in
+    let whole : PairingTaken early test false false t (testing early test found doubt, None) = rw is at all in
     record {
       finds = whole.finds;
       doubts = λ q. sym (or_false doubt) ∙ whole.doubts q;
-      costs = omega (arith, whole_cost _ _ _ _ _ _ s, row_price early test false false t (quiet_so_far early));
+      costs = omega (arith, whole_cost _ _ _ _ _ _ s, pairing_price early test false false t (quiet_so_far early));
     }

@@ -16,10 +16,10 @@ use Rattle.sj_method.specs.Methods.{method_of, sign_of}
 use Rattle.sj_method.specs.Pairs.{pairs_left}
 use Rattle.sj_cursor.specs.Meaning.{Env, variable, takes_arrays}
 use Rattle.sj_step.specs.Literals.{literal_item}
-use Rattle.sj_cursor.specs.Rows.{ItemTruth}
+use Rattle.sj_cursor.specs.Pairings.{ItemTruth}
 use Rattle.sj_cursor.specs.declared.env.Env.{Env as EnvHeld}
-use Rattle.sj_cursor.specs.declared.row.Beside.{Beside}
-use Rattle.sj_cursor.specs.declared.row.Beside.TheVariants as besides
+use Rattle.sj_cursor.specs.declared.pairing.Beside.{Beside}
+use Rattle.sj_cursor.specs.declared.pairing.Beside.TheVariants as besides
 use Rattle.sj_cursor.specs.declared.cells.Source.{Source}
 use Rattle.sj_cursor.specs.declared.cells.Source.TheVariants as sources
 use Rattle.sj_cursor.specs.declared.cells.One.{One as OneCell}
@@ -69,8 +69,8 @@ abbrev pub decided_truth : Bool → Bool → Truth
 decided_truth found doubt = if doubt then Unknown else truth_of found
 
 -- the same, where a true pair decides before a doubt
-abbrev pub row_truth : Bool → Bool → Bool → Truth
-row_truth early found doubt = if early && found then True else decided_truth found doubt
+abbrev pub pairing_truth : Bool → Bool → Bool → Truth
+pairing_truth early found doubt = if early && found then True else decided_truth found doubt
 
 -- ---- acts
 

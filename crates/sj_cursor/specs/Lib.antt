@@ -2,8 +2,8 @@ pub mod Single
 pub mod Numbers
 pub mod Verdicts
 pub mod Comparisons
-pub mod Rows
-pub mod RowsSeen
+pub mod Pairings
+pub mod PairingsSeen
 pub mod Meaning
 pub mod FaultFree
 pub mod Draws

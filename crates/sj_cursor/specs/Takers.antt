@@ -6,7 +6,7 @@ use Rattle.sj_step.specs.Trace.{Trace, stop, fail, visit, give}
 use Rattle.sj_cursor.specs.Comparisons.{is_true}
 use Rattle.sj_cursor.specs.Cells.{beside_truth}
 use Rattle.sj_cursor.specs.Looks.{Found, found_value, more, is_enough}
-use Rattle.sj_cursor.specs.Rows.{ItemTruth}
+use Rattle.sj_cursor.specs.Pairings.{ItemTruth}
 use Rattle.sj_cursor.specs.Verdicts.{is_unknown}
 use Rattle.sj_cursor.specs.declared.look.Limit.{Limit}
 use Rattle.sj_cursor.specs.declared.take.Aim.{Aim}
@@ -21,7 +21,7 @@ pub data Taken : Type 0 where
 
 abbrev pub taken_value : Aim → Gathered → Taken
 taken_value (aims.Look limit) g = looking limit (found_value g.found)
-taken_value (aims.Pairs early beside) g = testing early (beside_truth beside) g.row.found g.row.doubt
+taken_value (aims.Pairs early beside) g = testing early (beside_truth beside) g.pairing.found g.pairing.doubt
 
 -- one more item
 abbrev pub with_item : Taken → ItemValue → Taken

@@ -7,14 +7,14 @@ ghost use Rattle.sj_cursor.specs.Chains.{node_value, below, IsLaxNode};
 ghost use Rattle.sj_cursor.specs.Left as left_of;
 ghost use Rattle.sj_cursor.specs.Left.{operand_whole, operand_core};
 ghost use Rattle.sj_cursor.specs.Looks.{Finds, look_value};
-ghost use Rattle.sj_cursor.specs.RowsSeen.{RowSeen};
+ghost use Rattle.sj_cursor.specs.PairingsSeen.{PairingSeen};
 ghost use Rattle.sj_cursor.specs.declared.cells.Opening.{Opening as HowOpened};
 
 use crate::cells::{Cell, Each, Opening, Operand, Operator, Simple, Source};
 use crate::chain::{look_below, seek};
 use crate::env::Env;
 use crate::look::{Limit, Look};
-use crate::row::{Beside, Row};
+use crate::pairing::{Beside, Pairing};
 use crate::take::{Aim, Gathered};
 use sj_base::{Ledger, Steps};
 use sj_doc::NodeRef;
@@ -42,13 +42,13 @@ impl<'d> Keyed<'d> {
     }
 
     /// Their pairs with what stands beside them; with `early`, up to the first true one.
-    pub(crate) fn see_row<L: Ledger>(
+    pub(crate) fn see_pairing<L: Ledger>(
         self,
         early: bool,
         beside: Beside<'_, 'd>,
         steps: &mut Steps<L>,
-    ) -> Row
-        ensures { RowSeen early (beside_truth beside.entry) (below Opening.Unwrapped (self.entry.key.now ∷ []) (node_value self.entry.node)) result.found result.doubt steps.old steps.new }
+    ) -> Pairing
+        ensures { PairingSeen early (beside_truth beside.entry) (below Opening.Unwrapped (self.entry.key.now ∷ []) (node_value self.entry.node)) result.found result.doubt steps.old steps.new }
     {
         let mut gathered = Gathered::nothing();
         let aim = Aim::Pairs(early, beside);
@@ -61,7 +61,7 @@ impl<'d> Keyed<'d> {
             &mut gathered,
             steps,
         );
-        gathered.row
+        gathered.pairing
     }
 }
 

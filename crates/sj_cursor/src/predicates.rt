@@ -8,7 +8,7 @@ ghost use Rattle.sj_cursor.specs.Decides.{Decides};
 ghost use Rattle.sj_cursor.specs.Left as left_of;
 ghost use Rattle.sj_cursor.specs.Left.{operand_whole, operand_core};
 ghost use Rattle.sj_cursor.specs.Meaning.{verdict};
-ghost use Rattle.sj_cursor.specs.RowsSeen.{RowSeen, RowsSeen};
+ghost use Rattle.sj_cursor.specs.PairingsSeen.{PairingSeen, PairingsSeen};
 ghost use Rattle.sj_cursor.specs.Asked.{Asked};
 ghost use Rattle.sj_path_grammar.specs.Tree.{Exists as exists_of};
 
@@ -17,7 +17,7 @@ use crate::env::Env;
 use crate::look::Limit;
 use crate::next::is_array;
 use crate::one::initial_item;
-use crate::row::{Beside, Row, Rows, is_early};
+use crate::pairing::{Beside, Pairing, Pairings, is_early};
 use sj_base::{Ledger, Steps};
 use sj_item::{Item, Truth};
 use sj_step::Answer;
@@ -78,56 +78,56 @@ impl<'d> Operand<'d> {
 
     // The pair of its one item with what stands beside it, where it is such an operand: no walk is needed.
     #[tactic(auto, using(crate::proofs::SingleItems::one_seen))]
-    pub(crate) fn see_one(&self, beside: Beside<'_, 'd>, env: &Env<'_, 'd>) -> Option<Row>
-        ensures { IfSome result (λ row. (early : Bool) (steps : ℕ) → RowSeen early (beside_truth beside.entry) (operand_whole Opening.Unwrapped (operand_core self.now) (env_value env.now)) row.found row.doubt steps steps) }
+    pub(crate) fn see_one(&self, beside: Beside<'_, 'd>, env: &Env<'_, 'd>) -> Option<Pairing>
+        ensures { IfSome result (λ pairing. (early : Bool) (steps : ℕ) → PairingSeen early (beside_truth beside.entry) (operand_whole Opening.Unwrapped (operand_core self.now) (env_value env.now)) pairing.found pairing.doubt steps steps) }
     {
         let mut place = Item::Null;
         if !self.put_one(env, &mut place) {
             return None;
         }
-        let row = Row {
+        let pairing = Pairing {
             found: false,
             doubt: false,
         };
-        Some(row.saw(beside.truth(&place)))
+        Some(pairing.saw(beside.truth(&place)))
     }
 
     // The pairs of its items with what stands beside them; with `early`, up to the first true one.
     #[cycle(next)]
-    pub(crate) fn see_row<L: Ledger>(
+    pub(crate) fn see_pairing<L: Ledger>(
         &mut self,
         early: bool,
         beside: Beside<'_, 'd>,
         env: &Env<'_, 'd>,
         steps: &mut Steps<L>,
-    ) -> Row
-        ensures seen { RowSeen early (beside_truth beside.entry) (operand_whole Opening.Unwrapped (operand_core self.old) (env_value env.now)) result.found result.doubt steps.old steps.new }
+    ) -> Pairing
+        ensures seen { PairingSeen early (beside_truth beside.entry) (operand_whole Opening.Unwrapped (operand_core self.old) (env_value env.now)) result.found result.doubt steps.old steps.new }
         ensures same { operand_core self.new ≡ operand_core self.old }
     {
-        if let Some(row) = self.see_one(beside, env) {
-            return row;
+        if let Some(pairing) = self.see_one(beside, env) {
+            return pairing;
         }
         if let Some(keyed) = self.keyed(env) {
-            return keyed.see_row(early, beside, steps);
+            return keyed.see_pairing(early, beside, steps);
         }
         self.rewind();
-        let mut row = Row {
+        let mut pairing = Pairing {
             found: false,
             doubt: false,
         };
         let mut place = Item::Null;
-        'row: loop {
+        'pairing: loop {
             match self.next(Opening::Unwrapped, env, steps, &mut place) {
                 Answer::Item => {
-                    row = row.saw(beside.truth(&place));
-                    if row.halts(early) {
-                        return row;
+                    pairing = pairing.saw(beside.truth(&place));
+                    if pairing.halts(early) {
+                        return pairing;
                     }
                 }
-                Answer::End => return row,
+                Answer::End => return pairing,
                 Answer::Fault(_) => {
-                    return Row {
-                        found: row.found,
+                    return Pairing {
+                        found: pairing.found,
                         doubt: true,
                     };
                 }
@@ -173,44 +173,46 @@ impl<'d> Start<'d> {
         let early = is_early(env.mode);
         let initial = initial_item(self.initial, env);
         let beside = Beside::Initial(&initial);
-        self.text.see_row(early, beside, env, steps).truth(early)
+        self.text
+            .see_pairing(early, beside, env, steps)
+            .truth(early)
     }
 }
 
 impl<'d> Comparison<'d> {
     // All pairs; with `early`, up to the first true one.
     #[cycle(next)]
-    pub(crate) fn see_rows<L: Ledger>(
+    pub(crate) fn see_pairings<L: Ledger>(
         &mut self,
         early: bool,
         env: &Env<'_, 'd>,
         steps: &mut Steps<L>,
-    ) -> Rows
-        ensures seen { RowsSeen early (items_compare self.old.op) (operand_whole Opening.Unwrapped (operand_core self.old.left) (env_value env.now)) (operand_whole Opening.Unwrapped (operand_core self.old.right) (env_value env.now)) result.found result.doubt result.some steps.old steps.new }
+    ) -> Pairings
+        ensures seen { PairingsSeen early (items_compare self.old.op) (operand_whole Opening.Unwrapped (operand_core self.old.left) (env_value env.now)) (operand_whole Opening.Unwrapped (operand_core self.old.right) (env_value env.now)) result.found result.doubt result.some steps.old steps.new }
         ensures same { left_of.comparison_core self.new ≡ left_of.comparison_core self.old }
     {
         self.left.rewind();
-        let mut rows = Rows {
+        let mut pairings = Pairings {
             found: false,
             doubt: false,
             some: false,
         };
         let mut place = Item::Null;
-        'rows: loop {
+        'pairings: loop {
             match self.left.next(Opening::Unwrapped, env, steps, &mut place) {
                 Answer::Item => {
                     let beside = Beside::Left(self.op, &place);
-                    rows = rows.saw(self.right.see_row(early, beside, env, steps));
-                    if rows.halts(early) {
-                        return rows;
+                    pairings = pairings.saw(self.right.see_pairing(early, beside, env, steps));
+                    if pairings.halts(early) {
+                        return pairings;
                     }
                 }
-                Answer::End => return rows,
+                Answer::End => return pairings,
                 Answer::Fault(_) => {
-                    return Rows {
-                        found: rows.found,
+                    return Pairings {
+                        found: pairings.found,
                         doubt: true,
-                        some: rows.some,
+                        some: pairings.some,
                     };
                 }
             }
@@ -246,13 +248,16 @@ impl<'d> Comparison<'d> {
         let mut place = Item::Null;
         if self.right.put_one(env, &mut place) {
             let beside = Beside::Right(self.op, &place);
-            return self.left.see_row(early, beside, env, steps).truth(early);
+            return self
+                .left
+                .see_pairing(early, beside, env, steps)
+                .truth(early);
         }
-        let rows = self.see_rows(early, env, steps);
-        if rows.halts(early) {
+        let pairings = self.see_pairings(early, env, steps);
+        if pairings.halts(early) {
             return Truth::True;
         }
-        let faulty = self.asks_right(rows.some, env, steps);
-        rows.truth(faulty)
+        let faulty = self.asks_right(pairings.some, env, steps);
+        pairings.truth(faulty)
     }
 }

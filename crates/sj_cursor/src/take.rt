@@ -5,7 +5,7 @@ ghost use Rattle.sj_cursor.specs.Looks as looks;
 ghost use Rattle.sj_cursor.specs.Takers.{taken_value, with_item, suffices};
 
 use crate::look::{Found, Limit};
-use crate::row::{Beside, Row};
+use crate::pairing::{Beside, Pairing};
 use sj_doc::NodeRef;
 use sj_item::Item;
 
@@ -22,18 +22,18 @@ pub(crate) enum Aim<'a, 'd> {
 #[derive(Clone, Copy)]
 pub(crate) struct Gathered<'d> {
     pub(crate) found: Found<'d>,
-    pub(crate) row: Row,
+    pub(crate) pairing: Pairing,
 }
 
 impl<'d> Gathered<'d> {
     /// Nothing so far.
     pub(crate) fn nothing() -> Gathered<'d>
         ensures found { looks.found_value result.found ≡ looks.none_found }
-        ensures row { result.row ≡ record { found = false; doubt = false } }
+        ensures pairing { result.pairing ≡ record { found = false; doubt = false } }
     {
         Gathered {
             found: Found::Nothing,
-            row: Row {
+            pairing: Pairing {
                 found: false,
                 doubt: false,
             },
@@ -52,8 +52,8 @@ impl<'d> Gathered<'d> {
                 self.found.is_enough(*limit)
             }
             Aim::Pairs(early, beside) => {
-                self.row = self.row.saw(beside.truth(&item));
-                self.row.halts(*early)
+                self.pairing = self.pairing.saw(beside.truth(&item));
+                self.pairing.halts(*early)
             }
         }
     }

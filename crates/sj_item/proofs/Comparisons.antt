@@ -9,7 +9,7 @@ use Rattle.sj_item.specs.declared.truth.Truth.{Truth}
 use Rattle.sj_item.specs.declared.truth.Truth.TheVariants.{Unknown}
 use Rattle.sj_item.specs.Truths.{truth_of}
 use Rattle.sj_item.specs.Orders.{holds}
-use Rattle.sj_item.specs.Held.{exact_value}
+use Rattle.sj_item.specs.MadeValues.{exact_value}
 use Rattle.sj_item.specs.Pairs.{null_and_other, trees_compare, tree_starts_with}
 use Rattle.sj_item.specs.Comparands.{IsOther, ComparesAs, comparands_compare, comparand_starts_with}
 

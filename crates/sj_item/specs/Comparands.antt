@@ -11,7 +11,7 @@ use Rattle.sj_item.specs.declared.truth.Truth.{Truth}
 use Rattle.sj_item.specs.declared.truth.Truth.TheVariants.{Unknown}
 use Rattle.sj_item.specs.Truths.{truth_of}
 use Rattle.sj_item.specs.Orders.{holds, text_cmp, begins_with}
-use Rattle.sj_item.specs.Held.{exact_value}
+use Rattle.sj_item.specs.MadeValues.{exact_value}
 use Rattle.sj_item.specs.Pairs.{null_and_other}
 
 -- a tree that compares with nothing but null

@@ -2,7 +2,7 @@
 use Rattle.std.specs.Prelude.{ℕ, List, length, Bool, codes, ℤ}
 use Rattle.sj_json.specs.Tree.{exact, Tree, null, truth, string, number, array, object, no_members, member, item_list, below}
 use Rattle.sj_doc.specs.Listed.{node_id, node_tree}
-use Rattle.sj_item.specs.Held.{exact_value, short_text}
+use Rattle.sj_item.specs.MadeValues.{exact_value, short_text}
 use Rattle.sj_item.specs.declared.item.Item.{Item}
 use Rattle.sj_item.specs.declared.item.Item.TheVariants as items
 use Rattle.sj_item.specs.declared.item.PairValue.{PairValue}

@@ -1,6 +1,6 @@
 pub mod Truths
 pub mod Orders
-pub mod Held
+pub mod MadeValues
 pub mod Items
 pub mod Coding
 pub mod Pairs

@@ -3,7 +3,7 @@ use Rattle.std.specs.Prelude.{◌≡◌, ⊤}
 use Rattle.sj_json.specs.Tree.{exact, wide, Tree, null, truth, string, number, array, object}
 use Rattle.sj_item.specs.declared.casts.Operand.{Operand}
 use Rattle.sj_item.specs.declared.casts.Operand.TheVariants.{Null, Num, Wide, Text, Short, Bool as Logical, Structured}
-use Rattle.sj_item.specs.Held.{short_text}
+use Rattle.sj_item.specs.MadeValues.{short_text}
 
 -- an array or an object
 abbrev pub IsStructured : Tree → Type 0

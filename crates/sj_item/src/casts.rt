@@ -5,14 +5,14 @@ ghost use Rattle.sj_decimal.specs.Text.{decimal_text};
 ghost use Rattle.sj_json.specs.Numbers.{number_of};
 ghost use Rattle.sj_json.specs.Printing.{truth_text};
 ghost use Rattle.sj_doc.specs.Listed.{node_tree};
-ghost use Rattle.sj_item.specs.Held.{short_text};
+ghost use Rattle.sj_item.specs.MadeValues.{short_text};
 ghost use Rattle.sj_item.specs.Items.{item_value, item_tree};
 ghost use Rattle.sj_item.specs.Scalars.{spelled_number, number_cast, whole_within, whole_cast, word_truth, truth_cast, text_cast};
 ghost use Rattle.sj_item.specs.Operands.{CastsAs};
 ghost use Rattle.sj_item.specs.Answers.{IsText, values, made_texts};
 
-use crate::held::ShortText;
 use crate::item::Item;
+use crate::made::ShortText;
 use sj_base::State;
 use sj_decimal::{Decimal, MAX_DIGITS, Parsed};
 use sj_doc::{Kind, NodeRef, Num};

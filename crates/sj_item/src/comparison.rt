@@ -8,8 +8,8 @@ ghost use Rattle.sj_item.specs.Items.{item_value, item_tree};
 ghost use Rattle.sj_item.specs.Pairs.{null_and_other, items_compare, item_starts_with};
 ghost use Rattle.sj_item.specs.Comparands.{ComparesAs, comparands_compare, comparand_starts_with};
 
-use crate::held::Exact;
 use crate::item::Item;
+use crate::made::Exact;
 use crate::texts::{order_of_texts, text_begins_with};
 use crate::truth::Truth;
 use sj_decimal::{Compare, Decimal};

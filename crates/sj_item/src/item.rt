@@ -3,7 +3,7 @@ ghost use Rattle.std.specs.Prelude.{◌≡◌};
 ghost use Rattle.sj_doc.specs.Kinds.{kind_of};
 ghost use Rattle.sj_item.specs.Items.{item_value, item_tree, size_of};
 
-use crate::held::{Exact, ShortText};
+use crate::made::{Exact, ShortText};
 use sj_base::State;
 use sj_doc::{Kind, NodeRef};
 

@@ -17,7 +17,7 @@ use Rattle.sj_base.specs.ByteClasses.{is_plain, letter_char, is_blank}
 use Rattle.sj_json.specs.Spelling.{IsBlank, Blank, Spaced, Sign, SpellsNumber, Spells, SpellsItems, SpellsMoreItems, SpellsMembers, SpellsMoreMembers, SpellsText}
 use Rattle.sj_json.specs.Numbers.{number_of}
 use Rattle.sj_json.proofs.Numbers.{number_complete}
-use Rattle.sj_json.specs.Machine.{Mode, value, value_or_close, key, key_or_close, colon, after_value, quoted, escaped, begun, unit, high, second, Step, wait, char, unit_done, unit_step, after_step, digits, root, end_number, unless_blank, first_mode, open_turn, close_turn, start, separate, end_quote, turn, run, reading}
+use Rattle.sj_json.specs.Machine.{Mode, value, value_or_close, key, key_or_close, colon, after_value, quoted, escaped, begun, unit, high, second, EscapeStep, wait, char, unit_done, unit_step, after_step, digits, root, end_number, unless_blank, first_mode, open_turn, close_turn, start, separate, end_quote, turn, run, reading}
 
 -- ---- parts of a list
 
@@ -189,7 +189,7 @@ module _ (limit : ℕ) where
   -- ---- escapes
 
   -- where a step of an escape leads
-  abbrev goes_to : Bool → List ℕ → State → List ℕ → Option Step → Option Tree
+  abbrev goes_to : Bool → List ℕ → State → List ℕ → Option EscapeStep → Option Tree
   goes_to k acc s rest o = option_and_then (λ (p : Mode × State). run limit p.0 p.1 rest) (option_map (after_step k acc s) o)
 
   run_unit : (o : Option ℕ) (n v : ℕ) (ds rest : List ℕ) (k : Bool) (acc : List ℕ) (s : State) → AllDigits 16 ds → n + length ds ≡ 4 → 0 < length ds

@@ -9,7 +9,7 @@ use Rattle.std.proofs.lemmas.Int.Digits.{digits_push}
 use Rattle.std.specs.Char.Utf16.{is_high_surrogate, is_low_surrogate, surrogate_pair_char}
 use Rattle.sj_base.specs.ByteClasses.{letter_char}
 use Rattle.sj_json.specs.Strings.{IsHex, code, Piece, letter, unicode, pair, IsPiece, piece_bytes, char_text, piece_text, Writes}
-use Rattle.sj_json.specs.Machine.{Escape, begun, unit, high, second, Step, wait, char, unit_done, unit_step, escape_step}
+use Rattle.sj_json.specs.Machine.{Escape, begun, unit, high, second, EscapeStep, wait, char, unit_done, unit_step, escape_step}
 
 value_push : (w : ℕ) (ds : List ℕ) (b : ℕ) → digits_value_after 16 w (ds ++ b ∷ []) ≡ digits_value_after 16 w ds * 16 + digit_value b
 value_push w [] b = refl
@@ -31,7 +31,7 @@ Pending (unit o n v) r = (f : List ℕ) × (ds : List ℕ) × Front o f × AllDi
 Pending (high h) r = (hs : List ℕ) × IsHigh h hs × (r ≡ 117 ∷ hs)
 Pending (second h) r = (hs : List ℕ) × IsHigh h hs × (r ≡ 117 ∷ hs ++ 92 ∷ [])
 
-abbrev pub Leads : List ℕ → Step → Type 0
+abbrev pub Leads : List ℕ → EscapeStep → Type 0
 Leads r (wait e) = Pending e r
 Leads r (char c) = (q : Piece) × IsPiece q × (piece_bytes q ≡ 92 ∷ r) × (piece_text q ≡ encode_utf8 c)
 

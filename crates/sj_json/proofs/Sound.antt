@@ -13,7 +13,7 @@ use Rattle.sj_json.specs.Spelling.{IsBlank, Blank, Spaced, Sign, Spells, SpellsI
 use Rattle.sj_decimal.specs.Number.{is_number_byte, begins_number}
 use Rattle.sj_json.specs.Numbers.{number_of}
 use Rattle.sj_json.proofs.Numbers.{number_sound}
-use Rattle.sj_json.specs.Machine.{Mode, value, value_or_close, key, key_or_close, colon, after_value, letters, quoted, escaped, Escape, begun, Step, wait, char, escape_step, after_step, end_quote, digits, end_number, root, unless_blank, Turn, open_turn, close_turn, start, separate, turn, ending, run, reading}
+use Rattle.sj_json.specs.Machine.{Mode, value, value_or_close, key, key_or_close, colon, after_value, letters, quoted, escaped, Escape, begun, EscapeStep, wait, char, escape_step, after_step, end_quote, digits, end_number, root, unless_blank, Advance, open_turn, close_turn, start, separate, turn, ending, run, reading}
 
 push_all : {X : Type 0} (P : X → Type 0) (xs : List X) (x : X) → AllByRecursion P xs → P x → AllByRecursion P (xs ++ x ∷ [])
 push_all P [] x h p = (p, tt)
@@ -212,7 +212,7 @@ shallow_key limit (top u) (q ∷ qs) k h = h
 shallow_key limit (elements ts) (q ∷ qs) k h = h
 shallow_key limit (pairs ms l) (q ∷ qs) k h = h
 
-split : (x : Bool) (t u : Turn) (G : Mode × State → Type 0) → (x ≡ true → IfSome t G) → (x ≡ false → IfSome u G) → IfSome (cond x t u) G
+split : (x : Bool) (t u : Advance) (G : Mode × State → Type 0) → (x ≡ true → IfSome t G) → (x ≡ false → IfSome u G) → IfSome (cond x t u) G
 split true t u G f g = f refl
 split false t u G f g = g refl
 
@@ -306,7 +306,7 @@ module _ (limit : ℕ) where
       value_comes s.0 s.1 (number v) c h.0 at.0 (at.1 ++ a) h.2 at.2 (at.1, a, at.3, number_sound a v e, refl) h.4 (omega (arith, shallow_length limit s.0 s.1 h.4))
       (h.5 ∙ ap (λ (x : List ℕ). h.0 ++ x) at.4)
 
-  goes_on : {X : Type 0} (P : X → Type 0) (K : X → Turn) (G : Mode × State → Type 0) (o : Option X) → IfSome o P → ((x : X) → P x → IfSome (K x) G) → IfSome (option_and_then K o) G
+  goes_on : {X : Type 0} (P : X → Type 0) (K : X → Advance) (G : Mode × State → Type 0) (o : Option X) → IfSome o P → ((x : X) → P x → IfSome (K x) G) → IfSome (option_and_then K o) G
   goes_on P K G None h f = tt
   goes_on P K G (Some x) h f = f x h
 
@@ -479,7 +479,7 @@ module _ (limit : ℕ) where
       (λ st leads. stepped k q a.0 s c b h.0 h.1 h.2 a.2 h.4 h.5 st leads)
     where
       stepped : (k : Bool) (q r : List ℕ) (s : State) (c : List ℕ) (b : ℕ) (o x : List ℕ) → Outside s.0 s.1 o → InString k q s.0 (92 ∷ r) x → Shallow limit s.0 s.1 → c ≡ o ++ x
-          → (st : Step) → Leads (r ++ b ∷ []) st → Keeps limit c b (after_step k q s st)
+          → (st : EscapeStep) → Leads (r ++ b ∷ []) st → Keeps limit c b (after_step k q s st)
       stepped k q r s c b o x out a sh e (wait n) leads =
           (o, x ++ b ∷ [], out, (r ++ b ∷ [], leads, escape_grows k q s.0 (92 ∷ r) x b a), sh, ap (λ (z : List ℕ). z ++ b ∷ []) e ∙ append_assoc o x (b ∷ []))
       stepped k q r s c b o x out a sh e (char v) leads =
@@ -565,7 +565,7 @@ module _ (limit : ℕ) where
 
   -- ---- whole texts
 
-  go_on : (G : Mode × State → Type 0) (o : Turn) (K : Mode × State → Option Tree) (t : Tree) → IfSome o G → option_and_then K o ≡ Some t → (p : Mode × State) × G p × (K p ≡ Some t)
+  go_on : (G : Mode × State → Type 0) (o : Advance) (K : Mode × State → Option Tree) (t : Tree) → IfSome o G → option_and_then K o ≡ Some t → (p : Mode × State) × G p × (K p ≡ Some t)
   go_on G None K t h e = cc
   go_on G (Some p) K t h e = (p, h, e)
 

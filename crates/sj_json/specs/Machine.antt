@@ -20,10 +20,10 @@ pub data Escape : Type 0 where
   second : ℕ → Escape
 
 -- what a byte of an escape leads to
-pub data Step : Type 0 where
-  wait : Escape → Step
+pub data EscapeStep : Type 0 where
+  wait : Escape → EscapeStep
   -- the escape ends and is this character
-  char : ℕ → Step
+  char : ℕ → EscapeStep
 
 pub data Mode : Type 0 where
   value : Mode
@@ -40,26 +40,26 @@ pub data Mode : Type 0 where
   -- in a number: its bytes so far
   digits : List ℕ → Mode
 
-abbrev pub Turn : Type 0
-Turn = Option (Mode × State)
+abbrev pub Advance : Type 0
+Advance = Option (Mode × State)
 
 abbrev pub first_mode : Bool → Mode
 first_mode false = value_or_close
 first_mode true = key_or_close
 
-abbrev pub open_turn : ℕ → Bool → State → Turn
+abbrev pub open_turn : ℕ → Bool → State → Advance
 open_turn limit kind s = cond (nat_lt (length s.1) limit) (Some (first_mode kind, with_open kind s)) None
 
-abbrev pub close_turn : State → Turn
+abbrev pub close_turn : State → Advance
 close_turn s = Some (after_value, with_close s)
 
 -- a value begins with the byte b
-abbrev pub start : ℕ → State → ℕ → Turn
+abbrev pub start : ℕ → State → ℕ → Advance
 start limit s b =
     cond (begins_number b) (Some (digits (b ∷ []), s)) (cond (b == 34) (Some (quoted false [], s)) (cond (b == 91) (open_turn limit false s) (cond (b == 123) (open_turn limit true s)
     (cond (b == 110) (Some (letters (codes "ull") null, s)) (cond (b == 116) (Some (letters (codes "rue") (truth true), s)) (cond (b == 102) (Some (letters (codes "alse") (truth false), s)) None))))))
 
-abbrev pub separate : State → ℕ → Turn
+abbrev pub separate : State → ℕ → Advance
 separate (top o, qs) b = None
 separate (elements ts, qs) b = cond (b == 44) (Some (value, (elements ts, qs))) (cond (b == 93) (close_turn (elements ts, qs)) None)
 separate (pairs ms k, qs) b = cond (b == 44) (Some (key, (pairs ms k, qs))) (cond (b == 125) (close_turn (pairs ms k, qs)) None)
@@ -73,27 +73,27 @@ abbrev pub end_number : List ℕ → State → Option State
 end_number a s = option_map (λ (v : Number). with_value (number v) s) (number_of a)
 
 -- four digits came
-abbrev pub unit_done : Option ℕ → ℕ → Option Step
+abbrev pub unit_done : Option ℕ → ℕ → Option EscapeStep
 unit_done None v = cond (is_high_surrogate v) (Some (wait (high v))) (cond (is_low_surrogate v) None (Some (char v)))
 unit_done (Some h) v = cond (is_low_surrogate v) (Some (char (surrogate_pair_char h v))) None
 
-abbrev pub unit_step : Option ℕ → ℕ → ℕ → Option Step
+abbrev pub unit_step : Option ℕ → ℕ → ℕ → Option EscapeStep
 unit_step o n v = cond (n == 3) (unit_done o v) (Some (wait (unit o (n + 1) v)))
 
-abbrev pub escape_step : Escape → ℕ → Option Step
+abbrev pub escape_step : Escape → ℕ → Option EscapeStep
 escape_step begun b = cond (b == 117) (Some (wait (unit None 0 0))) (option_map char (letter_char b))
 escape_step (unit o n v) b = cond (is_digit b 16) (unit_step o n (v * 16 + digit_value b)) None
 escape_step (high h) b = cond (b == 92) (Some (wait (second h))) None
 escape_step (second h) b = cond (b == 117) (Some (wait (unit (Some h) 0 0))) None
 
-abbrev pub after_step : Bool → List ℕ → State → Step → Mode × State
+abbrev pub after_step : Bool → List ℕ → State → EscapeStep → Mode × State
 after_step k x s (wait e) = (escaped k x e, s)
 after_step k x s (char c) = (quoted k (x ++ encode_utf8 c), s)
 
-abbrev pub unless_blank : ℕ → Mode → State → Turn → Turn
+abbrev pub unless_blank : ℕ → Mode → State → Advance → Advance
 unless_blank b m s t = cond (is_blank b) (Some (m, s)) t
 
-abbrev pub turn : ℕ → Mode → State → ℕ → Turn
+abbrev pub turn : ℕ → Mode → State → ℕ → Advance
 turn limit value s b = unless_blank b value s (start limit s b)
 turn limit value_or_close s b = unless_blank b value_or_close s (cond (b == 93) (close_turn s) (start limit s b))
 turn limit key s b = unless_blank b key s (cond (b == 34) (Some (quoted true [], s)) None)

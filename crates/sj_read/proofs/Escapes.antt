@@ -5,7 +5,7 @@ use Rattle.std.proofs.lemmas.List.{drop_all}
 use Rattle.std.proofs.lemmas.Bool.Decides.{nat_tests}
 use Rattle.sj_base.specs.ByteClasses.{letter_char}
 use Rattle.sj_json.specs.Building.{State}
-use Rattle.sj_json.specs.Machine.{Escape, begun, unit, high, second, Step, wait, char, unit_step, escape_step, after_step, escaped, quoted, run}
+use Rattle.sj_json.specs.Machine.{Escape, begun, unit, high, second, EscapeStep, wait, char, unit_step, escape_step, after_step, escaped, quoted, run}
 use Rattle.sj_read.specs.Strings.{FindsEscape}
 use Rattle.sj_read.proofs.Steps.{goes, stops, cond_no}
 
@@ -54,8 +54,8 @@ step_ascii (unit o n v) b = ascii_if (is_digit b 16) _ _ b (λ e. always (unit_s
 step_ascii (high h) b = ascii_if (b == 92) _ _ b (λ e. same_ascii b 92 e (omega arith)) (λ _. tt)
 step_ascii (second h) b = ascii_if (b == 117) _ _ b (λ e. same_ascii b 117 e (omega arith)) (λ _. tt)
 
-pub step_byte : (e : Escape) (b : ℕ) (st : Step) → escape_step e b ≡ Some st → b < 128
-step_byte e b st is = subst (λ (o : Option Step). IfSome o (λ _. b < 128)) is (step_ascii e b)
+pub step_byte : (e : Escape) (b : ℕ) (st : EscapeStep) → escape_step e b ≡ Some st → b < 128
+step_byte e b st is = subst (λ (o : Option EscapeStep). IfSome o (λ _. b < 128)) is (step_ascii e b)
 
 module _ (text : List ℕ) (at : ℕ) (e : Escape) (h : at < length text) where
   pub escape_waits : (n : Escape) → escape_step e (get_or text at 0) ≡ Some (wait n) → (limit : ℕ) (k : Bool) (x : List ℕ) (s : State) → run limit (escaped k x e) s (drop at text) ≡ run limit (escaped k x n) s (drop (at + 1) text)

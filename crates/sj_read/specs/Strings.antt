@@ -7,8 +7,8 @@ use Rattle.sj_json.specs.Machine as machine
 use Rattle.sj_json.specs.Machine.{run, quoted, escaped, end_quote}
 use Rattle.sj_read.specs.declared.escape.Escape.{Escape}
 use Rattle.sj_read.specs.declared.escape.Escape.TheVariants.{Begun, Unit, High, Second}
-use Rattle.sj_read.specs.declared.escape.Step.{Step}
-use Rattle.sj_read.specs.declared.escape.Step.TheVariants.{Wait, Char}
+use Rattle.sj_read.specs.declared.escape.EscapeStep.{EscapeStep}
+use Rattle.sj_read.specs.declared.escape.EscapeStep.TheVariants.{Wait, Char}
 
 abbrev pub escape_of : Escape → machine.Escape
 escape_of Begun = machine.begun
@@ -16,7 +16,7 @@ escape_of (Unit o n v) = machine.unit o n v
 escape_of (High h) = machine.high h
 escape_of (Second h) = machine.second h
 
-abbrev pub step_of : Step → machine.Step
+abbrev pub step_of : EscapeStep → machine.EscapeStep
 step_of (Wait e) = machine.wait (escape_of e)
 step_of (Char c) = machine.char c
 
@@ -30,7 +30,7 @@ IsEscape (Unit o n v) = (n < 4) × (v < 16 ^ n) × IfSome o IsHighUnit
 IsEscape (High h) = IsHighUnit h
 IsEscape (Second h) = IsHighUnit h
 
-abbrev pub IsStep : Step → Type 0
+abbrev pub IsStep : EscapeStep → Type 0
 IsStep (Wait e) = IsEscape e
 IsStep (Char c) = ⊤
 

@@ -24,7 +24,7 @@ enum Escape {
 
 // What a byte of an escape leads to.
 #[derive(Clone, Copy, Drop)]
-enum Step {
+enum EscapeStep {
     Wait(Escape),
     // The escape ends, and stands for this character.
     Char(char),
@@ -33,7 +33,7 @@ enum Step {
 const UNIT_DIGITS: u32 = 4;
 
 // Four digits have come.
-fn unit_done(high: Option<u32>, unit: u32) -> Option<Step>
+fn unit_done(high: Option<u32>, unit: u32) -> Option<EscapeStep>
     requires small { unit < 2 ^ 16 }
     requires high { IfSome high IsHighUnit }
     ensures value { option_map step_of result ≡ machine_unit_done high unit }
@@ -42,11 +42,11 @@ fn unit_done(high: Option<u32>, unit: u32) -> Option<Step>
     match high {
         None => {
             if is_high_surrogate(unit) {
-                return Some(Step::Wait(Escape::High(unit)));
+                return Some(EscapeStep::Wait(Escape::High(unit)));
             }
             // a low surrogate alone is no character
             match char::from_u32(unit) {
-                Some(c) => Some(Step::Char(c)),
+                Some(c) => Some(EscapeStep::Char(c)),
                 None => None,
             }
         }
@@ -54,13 +54,13 @@ fn unit_done(high: Option<u32>, unit: u32) -> Option<Step>
             if !is_low_surrogate(unit) {
                 return None;
             }
-            Some(Step::Char(surrogate_pair_char(high, unit)))
+            Some(EscapeStep::Char(surrogate_pair_char(high, unit)))
         }
     }
 }
 
 // The next digit.
-fn unit_step(high: Option<u32>, count: u32, value: u32, byte: u8) -> Option<Step>
+fn unit_step(high: Option<u32>, count: u32, value: u32, byte: u8) -> Option<EscapeStep>
     requires { IsEscape (Escape.Unit high count value) }
     ensures value { option_map step_of result ≡ escape_step (escape_of (Escape.Unit high count value)) byte }
     ensures good { IfSome result IsStep }
@@ -73,7 +73,7 @@ fn unit_step(high: Option<u32>, count: u32, value: u32, byte: u8) -> Option<Step
     if count == UNIT_DIGITS - 1 {
         return unit_done(high, value);
     }
-    Some(Step::Wait(Escape::Unit {
+    Some(EscapeStep::Wait(Escape::Unit {
         high,
         count: count + 1,
         value,
@@ -93,7 +93,7 @@ fn unit_begins(high: Option<u32>) -> Escape
 }
 
 impl Escape {
-    fn step(self, byte: u8) -> Option<Step>
+    fn step(self, byte: u8) -> Option<EscapeStep>
         requires { IsEscape self }
         ensures value { option_map step_of result ≡ escape_step (escape_of self) byte }
         ensures good { IfSome result IsStep }
@@ -101,10 +101,10 @@ impl Escape {
         match self {
             Escape::Begun => {
                 if byte == b'u' {
-                    return Some(Step::Wait(unit_begins(None)));
+                    return Some(EscapeStep::Wait(unit_begins(None)));
                 }
                 match letter_char(byte) {
-                    Some(c) => Some(Step::Char(c)),
+                    Some(c) => Some(EscapeStep::Char(c)),
                     None => None,
                 }
             }
@@ -113,13 +113,13 @@ impl Escape {
                 if byte != b'\\' {
                     return None;
                 }
-                Some(Step::Wait(Escape::Second(high)))
+                Some(EscapeStep::Wait(Escape::Second(high)))
             }
             Escape::Second(high) => {
                 if byte != b'u' {
                     return None;
                 }
-                Some(Step::Wait(unit_begins(Some(high))))
+                Some(EscapeStep::Wait(unit_begins(Some(high))))
             }
         }
     }
@@ -149,8 +149,8 @@ fn long_escape(bytes: &[u8], from: usize) -> Option<(char, usize)>
     let mut escape = Escape::Begun;
     for at in from..bytes.len() {
         match escape.step(bytes[at]) {
-            Some(Step::Wait(next)) => escape = next,
-            Some(Step::Char(c)) => return Some((c, at + 1)),
+            Some(EscapeStep::Wait(next)) => escape = next,
+            Some(EscapeStep::Char(c)) => return Some((c, at + 1)),
             None => return None,
         }
     }

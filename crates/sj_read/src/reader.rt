@@ -49,11 +49,11 @@ pub(crate) enum Mode {
 }
 
 // Where to go on.
-type Turn = Result<usize, ReadRefusal>;
+type Advance = Result<usize, ReadRefusal>;
 
 // A call of the builder, and where to go on if it had memory.
 #[inline(always)]
-fn after(done: Result<(), Memory>, to: usize) -> Turn
+fn after(done: Result<(), Memory>, to: usize) -> Advance
     ensures { MatchResult done (λ _. result ≡ Ok to) (λ _. result ≡ Err ReadRefusal.Memory) }
 {
     match done {
@@ -65,7 +65,7 @@ fn after(done: Result<(), Memory>, to: usize) -> Turn
 // The answer of a function that is called and not inlined, which lies in memory. Put together anew, it leaves the answers of
 // the other ways in registers.
 #[inline(always)]
-fn anew(turn: Turn) -> Turn
+fn anew(turn: Advance) -> Advance
     ensures { result ≡ turn }
 {
     match turn {
@@ -92,7 +92,7 @@ fn escaped_value(
     text: &str,
     at: usize,
     c: u8,
-) -> Turn
+) -> Advance
     requires within { (at < length text.now) × (length text.now ≤ MAX_LENGTH) }
     requires here { slice_index text.now at ≡ c }
     requires quote { c ≡ 34 }
@@ -110,7 +110,13 @@ fn escaped_value(
 
 // The same of a key.
 #[inline(never)]
-fn escaped_key(builder: &mut DocBuilder, buffer: &mut String, text: &str, at: usize, c: u8) -> Turn
+fn escaped_key(
+    builder: &mut DocBuilder,
+    buffer: &mut String,
+    text: &str,
+    at: usize,
+    c: u8,
+) -> Advance
     requires within { (at < length text.now) × (length text.now ≤ MAX_LENGTH) }
     requires here { slice_index text.now at ≡ c }
     requires quote { c ≡ 34 }
@@ -129,7 +135,13 @@ fn escaped_key(builder: &mut DocBuilder, buffer: &mut String, text: &str, at: us
 // `escaped_value`, from where it is rarely called. The place in memory for its answer is cleared here, and not on each
 // of the other ways.
 #[inline(always)]
-fn rare_value(builder: &mut DocBuilder, buffer: &mut String, text: &str, at: usize, c: u8) -> Turn
+fn rare_value(
+    builder: &mut DocBuilder,
+    buffer: &mut String,
+    text: &str,
+    at: usize,
+    c: u8,
+) -> Advance
     requires within { (at < length text.now) × (length text.now ≤ MAX_LENGTH) }
     requires here { slice_index text.now at ≡ c }
     requires quote { c ≡ 34 }
@@ -144,7 +156,7 @@ fn rare_value(builder: &mut DocBuilder, buffer: &mut String, text: &str, at: usi
 // `escaped_key`, from where it is rarely called. The place in memory for its answer is cleared here, and not on each
 // of the other ways.
 #[inline(always)]
-fn rare_key(builder: &mut DocBuilder, buffer: &mut String, text: &str, at: usize, c: u8) -> Turn
+fn rare_key(builder: &mut DocBuilder, buffer: &mut String, text: &str, at: usize, c: u8) -> Advance
     requires within { (at < length text.now) × (length text.now ≤ MAX_LENGTH) }
     requires here { slice_index text.now at ≡ c }
     requires quote { c ≡ 34 }
@@ -158,7 +170,7 @@ fn rare_key(builder: &mut DocBuilder, buffer: &mut String, text: &str, at: usize
 
 // The number that begins with the byte c at the place, with an exponent or without.
 #[inline(never)]
-fn any_number(builder: &mut DocBuilder, text: &str, at: usize, c: u8) -> Turn
+fn any_number(builder: &mut DocBuilder, text: &str, at: usize, c: u8) -> Advance
     requires line { builder.old.1 ≡ text.now }
     requires within { (at < length text.now) × (length text.now ≤ MAX_LENGTH) }
     requires here { slice_index text.now at ≡ c }
@@ -178,7 +190,7 @@ fn any_number(builder: &mut DocBuilder, text: &str, at: usize, c: u8) -> Turn
 
 // `any_number` in the same way.
 #[inline(always)]
-fn rare_number(builder: &mut DocBuilder, text: &str, at: usize, c: u8) -> Turn
+fn rare_number(builder: &mut DocBuilder, text: &str, at: usize, c: u8) -> Advance
     requires line { builder.old.1 ≡ text.now }
     requires within { (at < length text.now) × (length text.now ≤ MAX_LENGTH) }
     requires here { slice_index text.now at ≡ c }
@@ -193,7 +205,7 @@ fn rare_number(builder: &mut DocBuilder, text: &str, at: usize, c: u8) -> Turn
 
 // The same, where few numbers need the general way.
 #[inline(always)]
-fn number(builder: &mut DocBuilder, text: &str, at: usize, c: u8) -> Turn
+fn number(builder: &mut DocBuilder, text: &str, at: usize, c: u8) -> Advance
     requires line { builder.old.1 ≡ text.now }
     requires within { (at < length text.now) × (length text.now ≤ MAX_LENGTH) }
     requires here { slice_index text.now at ≡ c }
@@ -211,7 +223,7 @@ fn number(builder: &mut DocBuilder, text: &str, at: usize, c: u8) -> Turn
 
 // The value that begins with the byte c at the place, where that opens no container.
 #[inline(always)]
-fn scalar(builder: &mut DocBuilder, buffer: &mut String, text: &str, at: usize, c: u8) -> Turn
+fn scalar(builder: &mut DocBuilder, buffer: &mut String, text: &str, at: usize, c: u8) -> Advance
     requires line { builder.old.1 ≡ text.now }
     requires within { (at < length text.now) × (length text.now ≤ MAX_LENGTH) }
     requires here { slice_index text.now at ≡ c }
@@ -265,7 +277,7 @@ fn scalar_and_separator(
     text: &str,
     at: usize,
     c: u8,
-) -> Turn
+) -> Advance
     requires line { builder.old.1 ≡ text.now }
     requires within { (at < length text.now) × (length text.now ≤ MAX_LENGTH) }
     requires here { slice_index text.now at ≡ c }
@@ -299,7 +311,7 @@ fn value(
     text: &str,
     at: usize,
     c: u8,
-) -> Turn
+) -> Advance
     requires line { builder.old.1 ≡ text.now }
     requires within { (at < length text.now) × (length text.now ≤ MAX_LENGTH) }
     requires here { slice_index text.now at ≡ c }
@@ -330,7 +342,13 @@ fn value(
 
 // The key that begins with the byte c at the place.
 #[inline(always)]
-fn quoted_key(builder: &mut DocBuilder, buffer: &mut String, text: &str, at: usize, c: u8) -> Turn
+fn quoted_key(
+    builder: &mut DocBuilder,
+    buffer: &mut String,
+    text: &str,
+    at: usize,
+    c: u8,
+) -> Advance
     requires line { builder.old.1 ≡ text.now }
     requires within { (at < length text.now) × (length text.now ≤ MAX_LENGTH) }
     requires here { slice_index text.now at ≡ c }
@@ -361,7 +379,7 @@ fn colon_and_value(
     mode: &mut Mode,
     text: &str,
     at: usize,
-) -> Turn
+) -> Advance
     requires line { builder.old.1 ≡ text.now }
     requires within { (at < length text.now) × (length text.now ≤ MAX_LENGTH) }
     requires here { slice_index text.now at ≡ 58 }
@@ -387,7 +405,7 @@ fn member(
     text: &str,
     at: usize,
     c: u8,
-) -> Turn
+) -> Advance
     requires line { builder.old.1 ≡ text.now }
     requires within { (at < length text.now) × (length text.now ≤ MAX_LENGTH) }
     requires here { slice_index text.now at ≡ c }
@@ -419,7 +437,7 @@ fn members(
     text: &str,
     at: usize,
     c: u8,
-) -> Turn
+) -> Advance
     requires line { builder.old.1 ≡ text.now }
     requires within { (at < length text.now) × (length text.now ≤ MAX_LENGTH) }
     requires here { slice_index text.now at ≡ c }
@@ -458,7 +476,7 @@ fn elements(
     text: &str,
     at: usize,
     c: u8,
-) -> Turn
+) -> Advance
     requires line { builder.old.1 ≡ text.now }
     requires within { (at < length text.now) × (length text.now ≤ MAX_LENGTH) }
     requires here { slice_index text.now at ≡ c }
@@ -490,7 +508,7 @@ fn elements(
 
 // A comma or a closing bracket.
 #[inline(always)]
-fn separator(builder: &mut DocBuilder, mode: &mut Mode, text: &str, at: usize, c: u8) -> Turn
+fn separator(builder: &mut DocBuilder, mode: &mut Mode, text: &str, at: usize, c: u8) -> Advance
     requires within { (at < length text.now) × (length text.now ≤ MAX_LENGTH) }
     requires here { slice_index text.now at ≡ c }
     requires not_blank { blank_byte c ≡ false }
@@ -530,7 +548,7 @@ fn separator(builder: &mut DocBuilder, mode: &mut Mode, text: &str, at: usize, c
 
 // Closing brackets one right behind another, and a comma if one stands right behind them.
 #[inline(always)]
-fn separators(builder: &mut DocBuilder, mode: &mut Mode, text: &str, at: usize, c: u8) -> Turn
+fn separators(builder: &mut DocBuilder, mode: &mut Mode, text: &str, at: usize, c: u8) -> Advance
     requires within { (at < length text.now) × (length text.now ≤ MAX_LENGTH) }
     requires here { slice_index text.now at ≡ c }
     requires not_blank { blank_byte c ≡ false }
@@ -579,7 +597,7 @@ fn turn(
     mode: &mut Mode,
     text: &str,
     at: usize,
-) -> Turn
+) -> Advance
     requires line { builder.old.1 ≡ text.now }
     requires within { (at < length text.now) × (length text.now ≤ MAX_LENGTH) }
     requires ready { Ready (mode_of mode.old) builder.old.0 }

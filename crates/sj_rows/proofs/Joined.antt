@@ -4,7 +4,7 @@ use Rattle.std.specs.Prelude.{All}
 use Rattle.std.proofs.lemmas.List.{append-nil}
 use Rattle.std.proofs.lemmas.Bool.{cases_eq}
 use Rattle.sj_rows.specs.Lines.{whole_from, open_from, whole_lines, open_part, with_feeds}
-use Rattle.sj_rows.specs.Held.{HasNoFeed}
+use Rattle.sj_rows.specs.HeldLines.{HasNoFeed}
 use Rattle.sj_rows.proofs.Splits.{whole_feed, whole_other, open_feed, open_other}
 
 joined_from : (o xs : List ℕ) → with_feeds (whole_from o xs) ++ open_from o xs ≡ o ++ xs

@@ -3,7 +3,7 @@ use Rattle.std.proofs.Common.{◌≡◌, ℕ, zero, suc, ◌+◌, ◌≤◌, Lis
 use Rattle.std.proofs.lemmas.List.{map-append, drop-append-le, drop-drop, drop_all}
 use Rattle.std.proofs.lemmas.Bool.Decides.{leb_tells}
 use Rattle.sj_rows.specs.Lines.{whole_lines, open_part, lines, last_line, seen}
-use Rattle.sj_rows.specs.Held.{Held, StandsFor, StandsAtEnd, GoesOnStanding, gives, at_end, closing, held_of, lines_left, part_left}
+use Rattle.sj_rows.specs.HeldLines.{HeldLines, StandsFor, StandsAtEnd, GoesOnStanding, gives, at_end, closing, held_of, lines_left, part_left}
 use Rattle.sj_rows.proofs.Splits.{seen_cases, First}
 
 behind_first : List (Option (List ℕ)) → List (Option (List ℕ))
@@ -26,7 +26,7 @@ drop_min xs m k is = elim (leb_tells k (length xs)) [
 ]
 
 -- what is left behind the first line and its LF, seen from the start of all bytes
-pub gives_first : (held : Held) (ended : Bool) (items : List ℕ) (start n m given fed : ℕ) (line : Option (List ℕ)) → held_of ended (drop start items) given fed ≡ held →
+pub gives_first : (held : HeldLines) (ended : Bool) (items : List ℕ) (start n m given fed : ℕ) (line : Option (List ℕ)) → held_of ended (drop start items) given fed ≡ held →
     First ended (drop start items) n → m ≡ min (length items) (start + n + 1) → line ≡ seen (take n (drop start items)) → gives held line (held_of ended (drop m items) (given + 1) fed)
 gives_first held ended items start n m given fed line is first at seen_is =
     let same : drop (n + 1) (drop start items) ≡ drop m items =
@@ -39,7 +39,7 @@ gives_first held ended items start n m given fed line is first at seen_is =
       refl,
     )
 
-pub goes_on_standing : (old new : Held) (line : Option (List ℕ)) → gives old line new → GoesOnStanding old new
+pub goes_on_standing : (old new : HeldLines) (line : Option (List ℕ)) → gives old line new → GoesOnStanding old new
 goes_on_standing old new line (first, rest, given, fed, ended) =
     let count : new.given ≡ suc old.given = given ∙ add-one old.given in
     record {
@@ -67,7 +67,7 @@ closing-seen (x ∷ xs) = elim (seen_cases (x ∷ xs)) [
   | inr p ↦ ap closing p.0 ∙ ap (λ (s : Option (List ℕ)). s ∷ []) (sym p.0)
 ]
 
-pub stands_at_end : (old : Held) (bytes : List ℕ) → StandsFor bytes old → StandsAtEnd bytes (at_end old)
+pub stands_at_end : (old : HeldLines) (bytes : List ℕ) → StandsFor bytes old → StandsAtEnd bytes (at_end old)
 stands_at_end old bytes s = record {
   enough = omega (arith, s.enough, length-append (whole_lines bytes) (last_line (open_part bytes)));
   waiting = ap (λ (l : List (Option (List ℕ))). l ++ closing old.rest) s.waiting

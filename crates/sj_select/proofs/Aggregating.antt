@@ -7,7 +7,7 @@ use Rattle.sj_value.specs.declared.value.SqlValue.TheVariants.{Null, Json}
 use Rattle.sj_func.specs.declared.context.Outcome.{Outcome}
 use Rattle.sj_func.specs.declared.context.Outcome.TheVariants.{Value, Raised}
 use Rattle.sj_build.specs.Constructors.{object_aggregate, object_value, object_text, first_refusal, unless_refused}
-use Rattle.sj_build.specs.Held.{StandsForValues, StandsForFields}
+use Rattle.sj_build.specs.SoFar.{StandsForValues, StandsForFields}
 use Rattle.sj_build.specs.declared.field.Field.{Field}
 use Rattle.sj_bound.specs.Bound as b
 use Rattle.std.specs.List.{All}

@@ -10,8 +10,8 @@ use Rattle.sj_base.specs.declared.state.State.{State}
 use Rattle.sj_value.specs.declared.value.SqlValue.{SqlValue}
 use Rattle.sj_bound.specs.Bound as b
 use Rattle.sj_select.specs.Line.{Line}
-use Rattle.sj_select.specs.Operations.{Step, step_of, steps_of, steps_to, steps_to_all}
-use Rattle.sj_select.specs.Performing.{CanBeGiven, Held, EndsIn, held, done, step_cost, Performance, after, going_on, performed}
+use Rattle.sj_select.specs.Operations.{OperationStep, step_of, steps_of, steps_to, steps_to_all}
+use Rattle.sj_select.specs.Performing.{CanBeGiven, StackView, EndsIn, held, done, step_cost, Performance, after, going_on, performed}
 use Rattle.sj_select.specs.Values.{given, cost, given_list, list_cost}
 use Rattle.sj_select.specs.declared.operation.Operation.{Operation}
 use Rattle.sj_select.specs.Filling.{Gathers}
@@ -23,56 +23,56 @@ use Rattle.sj_select.proofs.Performed.{list_then, with_values, found_all, value_
 -- ---- operations in a row
 
 -- the step of the operation at a place, and those behind it
-pub first_step : (xs : List Operation) (S : List Step) (i : ℕ) (d : Operation) → i < length xs → steps_of xs ≡ S → drop i S ≡ step_of (get_or xs i d) ∷ drop (i + 1) S
+pub first_step : (xs : List Operation) (S : List OperationStep) (i : ℕ) (d : Operation) → i < length xs → steps_of xs ≡ S → drop i S ≡ step_of (get_or xs i d) ∷ drop (i + 1) S
 first_step xs S i d within same =
     ap (drop i) (sym same) ∙ drop-map step_of i xs ∙ ap steps_of (drop_more xs i d within)
-    ∙ ap (λ (l : List Step). step_of (get_or xs i d) ∷ l) (sym (drop-map step_of (i + 1) xs) ∙ ap (drop (i + 1)) same)
+    ∙ ap (λ (l : List OperationStep). step_of (get_or xs i d) ∷ l) (sym (drop-map step_of (i + 1) xs) ∙ ap (drop (i + 1)) same)
 
 -- an operation that was performed is of the same step
 pub step_kept : (xs : List Operation) (i : ℕ) (d y : Operation) → step_of y ≡ step_of (get_or xs i d) → steps_of (set xs i y) ≡ steps_of xs
 step_kept xs i d y kept = map-set_same step_of xs i y d kept
 
-pub given_at : (xs : List Operation) (S : List Step) (i : ℕ) (d : Operation) → i < length xs → steps_of xs ≡ S → All CanBeGiven S → CanBeGiven (step_of (get_or xs i d))
+pub given_at : (xs : List Operation) (S : List OperationStep) (i : ℕ) (d : Operation) → i < length xs → steps_of xs ≡ S → All CanBeGiven S → CanBeGiven (step_of (get_or xs i d))
 given_at xs S i d within same all =
-    let here : All CanBeGiven (steps_of xs) = subst (λ (l : List Step). All CanBeGiven l) (sym same) all in
+    let here : All CanBeGiven (steps_of xs) = subst (λ (l : List OperationStep). All CanBeGiven l) (sym same) all in
     subst CanBeGiven (get_or-map step_of xs i d (step_of d) within) (here i (step_of d) (omega (arith, length-map xs step_of)))
 
 -- ---- what is performed
 
 -- nothing is held
-abbrev pub nothing : Held
+abbrev pub nothing : StackView
 nothing = record { values = []; members = [] }
 
 -- the values alone, or the state
-abbrev pub list_end : Result (List SqlValue) State → Result Held State
+abbrev pub list_end : Result (List SqlValue) State → Result StackView State
 list_end (Ok vs) = Ok (record { values = vs; members = [] })
 list_end (Err s) = Err s
 
 module _ (line : Line) (columns : List SqlValue) where
   -- ---- a step at a place, and those behind it
 
-  pub end_step : (S : List Step) (i : ℕ) (s : Step) (h k : Held) (whole : Result Held State) → drop i S ≡ s ∷ drop (i + 1) S → done line columns s h ≡ Ok k
+  pub end_step : (S : List OperationStep) (i : ℕ) (s : OperationStep) (h k : StackView) (whole : Result StackView State) → drop i S ≡ s ∷ drop (i + 1) S → done line columns s h ≡ Ok k
       → (performed line columns (drop i S) h).end ≡ whole → (performed line columns (drop (i + 1) S) k).end ≡ whole
   end_step S i s h k whole first is all =
-      sym (ap (λ (r : Result Held State). (going_on r (performed line columns (drop (i + 1) S))).end) is) ∙ ap (λ (l : List Step). (performed line columns l h).end) (sym first) ∙ all
+      sym (ap (λ (r : Result StackView State). (going_on r (performed line columns (drop (i + 1) S))).end) is) ∙ ap (λ (l : List OperationStep). (performed line columns l h).end) (sym first) ∙ all
 
-  pub end_stop : (S : List Step) (i : ℕ) (s : Step) (h : Held) (x : State) (whole : Result Held State) → drop i S ≡ s ∷ drop (i + 1) S → done line columns s h ≡ Err x
+  pub end_stop : (S : List OperationStep) (i : ℕ) (s : OperationStep) (h : StackView) (x : State) (whole : Result StackView State) → drop i S ≡ s ∷ drop (i + 1) S → done line columns s h ≡ Err x
       → (performed line columns (drop i S) h).end ≡ whole → whole ≡ Err x
   end_stop S i s h x whole first is all =
-      sym all ∙ ap (λ (l : List Step). (performed line columns l h).end) first ∙ ap (λ (r : Result Held State). (going_on r (performed line columns (drop (i + 1) S))).end) is
+      sym all ∙ ap (λ (l : List OperationStep). (performed line columns l h).end) first ∙ ap (λ (r : Result StackView State). (going_on r (performed line columns (drop (i + 1) S))).end) is
 
-  pub cost_step : (S : List Step) (i : ℕ) (s : Step) (h k : Held) (m n whole : ℕ) → drop i S ≡ s ∷ drop (i + 1) S → done line columns s h ≡ Ok k → n ≤ raised m (step_cost line columns s)
+  pub cost_step : (S : List OperationStep) (i : ℕ) (s : OperationStep) (h k : StackView) (m n whole : ℕ) → drop i S ≡ s ∷ drop (i + 1) S → done line columns s h ≡ Ok k → n ≤ raised m (step_cost line columns s)
       → raised m (performed line columns (drop i S) h).cost ≤ whole → raised n (performed line columns (drop (i + 1) S) k).cost ≤ whole
   cost_step S i s h k m n whole first is spent all =
       let same : (performed line columns (drop i S) h).cost ≡ step_cost line columns s + (performed line columns (drop (i + 1) S) k).cost =
-      ap (λ (l : List Step). (performed line columns l h).cost) first ∙ ap (λ (r : Result Held State). step_cost line columns s + (going_on r (performed line columns (drop (i + 1) S))).cost) is in
+      ap (λ (l : List OperationStep). (performed line columns l h).cost) first ∙ ap (λ (r : Result StackView State). step_cost line columns s + (going_on r (performed line columns (drop (i + 1) S))).cost) is in
       omega (arith, same, spent, all)
 
-  pub cost_stop : (S : List Step) (i : ℕ) (s : Step) (h : Held) (m n whole : ℕ) → drop i S ≡ s ∷ drop (i + 1) S → n ≤ raised m (step_cost line columns s)
+  pub cost_stop : (S : List OperationStep) (i : ℕ) (s : OperationStep) (h : StackView) (m n whole : ℕ) → drop i S ≡ s ∷ drop (i + 1) S → n ≤ raised m (step_cost line columns s)
       → raised m (performed line columns (drop i S) h).cost ≤ whole → n ≤ whole
   cost_stop S i s h m n whole first spent all =
       let same : (performed line columns (drop i S) h).cost ≡ step_cost line columns s + (going_on (done line columns s h) (performed line columns (drop (i + 1) S))).cost =
-      ap (λ (l : List Step). (performed line columns l h).cost) first in
+      ap (λ (l : List OperationStep). (performed line columns l h).cost) first in
       omega (arith, same, spent, all)
 
   -- ---- all steps of a list of values
@@ -96,17 +96,17 @@ module _ (line : Line) (columns : List SqlValue) where
 pub empty_held : (p : Stack) → p.values.items ≡ [] → p.members.items ≡ [] → held p ≡ nothing
 empty_held p values members = cc
 
-module _ (line : Line) (columns : List SqlValue) (steps : List Step) (h : Held) (empty : h ≡ nothing) where
+module _ (line : Line) (columns : List SqlValue) (steps : List OperationStep) (h : StackView) (empty : h ≡ nothing) where
   -- ---- those of a list of values
 
   module _ (xs : List b.Value) (finds : steps ≡ steps_to_all xs) where
     list_whole : (performed line columns steps h).end ≡ list_end (given_list line columns xs)
-    list_whole = ap (λ (k : Held). (performed line columns steps k).end) empty ∙ ap (λ (l : List Step). (performed line columns l nothing).end) finds ∙ all_end line columns xs
+    list_whole = ap (λ (k : StackView). (performed line columns steps k).end) empty ∙ ap (λ (l : List OperationStep). (performed line columns l nothing).end) finds ∙ all_end line columns xs
 
     pub list_price : (performed line columns steps h).cost ≡ list_cost line columns xs
-    list_price = ap (λ (k : Held). (performed line columns steps k).cost) empty ∙ ap (λ (l : List Step). (performed line columns l nothing).cost) finds ∙ all_cost line columns xs
+    list_price = ap (λ (k : StackView). (performed line columns steps k).cost) empty ∙ ap (λ (l : List OperationStep). (performed line columns l nothing).cost) finds ∙ all_cost line columns xs
 
-    list_ok : (r : Result (List SqlValue) State) (k : Held) → list_end r ≡ Ok k → r ≡ Ok k.values
+    list_ok : (r : Result (List SqlValue) State) (k : StackView) → list_end r ≡ Ok k → r ≡ Ok k.values
     list_ok (Ok vs) k e =
         let same : vs ≡ k.values = cc in
         ap Ok same
@@ -118,7 +118,7 @@ module _ (line : Line) (columns : List SqlValue) (steps : List Step) (h : Held) 
         let same : x ≡ s = cc in
         ap Err same
 
-    pub list_gathers : (raised : Option State) (k : Held) → EndsIn (performed line columns steps h).end raised k → Gathers (given_list line columns xs) raised k.values
+    pub list_gathers : (raised : Option State) (k : StackView) → EndsIn (performed line columns steps h).end raised k → Gathers (given_list line columns xs) raised k.values
     list_gathers None k e = list_ok (given_list line columns xs) k (sym list_whole ∙ e)
     list_gathers (Some s) k e = list_err (given_list line columns xs) s (sym list_whole ∙ e)
 
@@ -131,12 +131,12 @@ module _ (line : Line) (columns : List SqlValue) (steps : List Step) (h : Held) 
 
   module _ (x : b.Value) (finds : steps ≡ steps_to x) where
     value_whole : (performed line columns steps h).end ≡ value_end (given line columns x)
-    value_whole = ap (λ (k : Held). (performed line columns steps k).end) empty ∙ ap (λ (l : List Step). (performed line columns l nothing).end) finds ∙ one_end line columns x
+    value_whole = ap (λ (k : StackView). (performed line columns steps k).end) empty ∙ ap (λ (l : List OperationStep). (performed line columns l nothing).end) finds ∙ one_end line columns x
 
     pub value_price : (performed line columns steps h).cost ≡ cost line columns x
-    value_price = ap (λ (k : Held). (performed line columns steps k).cost) empty ∙ ap (λ (l : List Step). (performed line columns l nothing).cost) finds ∙ one_cost line columns x
+    value_price = ap (λ (k : StackView). (performed line columns steps k).cost) empty ∙ ap (λ (l : List OperationStep). (performed line columns l nothing).cost) finds ∙ one_cost line columns x
 
-    value_ok : (o : Outcome) (k : Held) → value_end o ≡ Ok k → (v : SqlValue) × (o ≡ Value v) × (k.values ≡ v ∷ [])
+    value_ok : (o : Outcome) (k : StackView) → value_end o ≡ Ok k → (v : SqlValue) × (o ≡ Value v) × (k.values ≡ v ∷ [])
     value_ok (Value v) k e = (v, refl, cc)
     value_ok (Raised s) k e =
         let no : ⊥ = cc in
@@ -149,7 +149,7 @@ module _ (line : Line) (columns : List SqlValue) (steps : List Step) (h : Held) 
         ap Raised same
 
     -- the value that was found is the only one
-    pub value_found : (k : Held) → (performed line columns steps h).end ≡ Ok k → (v : SqlValue) × (given line columns x ≡ Value v) × (k.values ≡ v ∷ [])
+    pub value_found : (k : StackView) → (performed line columns steps h).end ≡ Ok k → (v : SqlValue) × (given line columns x ≡ Value v) × (k.values ≡ v ∷ [])
     value_found k e = value_ok (given line columns x) k (sym value_whole ∙ e)
 
     pub value_raised : (s : State) → (performed line columns steps h).end ≡ Err s → given line columns x ≡ Raised s

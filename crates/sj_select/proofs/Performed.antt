@@ -12,8 +12,8 @@ use Rattle.sj_build.specs.Constructors.{array_value, object_value}
 use Rattle.sj_build.specs.declared.field.Field.{Field}
 use Rattle.sj_bound.specs.Bound as b
 use Rattle.sj_select.specs.Line.{Line, context}
-use Rattle.sj_select.specs.Operations.{Step, object, array, member, steps_to, steps_to_values, steps_to_members, steps_to_all, value_count, member_count}
-use Rattle.sj_select.specs.Performing.{Held, put, last_of, before_last, paired, member_of, Performance, after, stopped, going_on, performed}
+use Rattle.sj_select.specs.Operations.{OperationStep, object, array, member, steps_to, steps_to_values, steps_to_members, steps_to_all, value_count, member_count}
+use Rattle.sj_select.specs.Performing.{StackView, put, last_of, before_last, paired, member_of, Performance, after, stopped, going_on, performed}
 use Rattle.sj_select.specs.Values.{given, given_values, given_members, cost, values_cost, members_cost, value_before, member_before, unless_raised, trace_of, outcome_of, array_outcome, object_outcome, given_list, list_cost}
 
 -- ---- costs
@@ -35,13 +35,13 @@ list_then (Ok xs) more = more xs
 list_then (Err s) more = stopped s
 
 -- with these values, or members, behind the others
-abbrev pub with_values : List SqlValue → Held → Held
+abbrev pub with_values : List SqlValue → StackView → StackView
 with_values vs h = record { values = h.values ++ vs; members = h.members }
 
-abbrev pub with_members : List Field → Held → Held
+abbrev pub with_members : List Field → StackView → StackView
 with_members fs h = record { values = h.values; members = h.members ++ fs }
 
-put_then : (o : Outcome) (h : Held) (more : Held → Performance) → going_on (put o h) more ≡ outcome_then o (λ v. more (with_values (v ∷ []) h))
+put_then : (o : Outcome) (h : StackView) (more : StackView → Performance) → going_on (put o h) more ≡ outcome_then o (λ v. more (with_values (v ∷ []) h))
 put_then (Value v) h more = refl
 put_then (Raised s) h more = refl
 
@@ -81,7 +81,7 @@ before_last-append : {X : Type 0} (xs ys : List X) (n : ℕ) → length ys ≡ n
 before_last-append xs ys n e = ap (λ (k : ℕ). take k (xs ++ ys)) (short xs ys n e) ∙ take-append_seam xs ys
 
 -- a key and a value that were put on become a member
-paired_is : (h : Held) (key v : SqlValue) → paired (with_values (v ∷ []) (with_values (key ∷ []) h)) ≡ with_members (record { key = key; value = v } ∷ []) h
+paired_is : (h : StackView) (key v : SqlValue) → paired (with_values (v ∷ []) (with_values (key ∷ []) h)) ≡ with_members (record { key = key; value = v } ∷ []) h
 paired_is h key v = held_is _ _ _ _ values (ap (λ (l : List SqlValue). h.members ++ member_of l) last)
   where
     both : h.values ++ key ∷ [] ++ v ∷ [] ≡ h.values ++ (key ∷ v ∷ [])
@@ -93,20 +93,20 @@ paired_is h key v = held_is _ _ _ _ values (ap (λ (l : List SqlValue). h.member
     last : last_of 2 (h.values ++ key ∷ [] ++ v ∷ []) ≡ key ∷ v ∷ []
     last = ap (last_of 2) both ∙ last_of-append h.values (key ∷ v ∷ []) 2 refl
 
-    held_is : (vs ws : List SqlValue) (fs gs : List Field) → vs ≡ ws → fs ≡ gs → let h : Held = record { values = vs; members = fs } in let k : Held = record { values = ws; members = gs } in h ≡ k
+    held_is : (vs ws : List SqlValue) (fs gs : List Field) → vs ≡ ws → fs ≡ gs → let h : StackView = record { values = vs; members = fs } in let k : StackView = record { values = ws; members = gs } in h ≡ k
     held_is vs ws fs gs e f = cc
 
-more_values : (v : SqlValue) (vs : List SqlValue) (h : Held) → with_values vs (with_values (v ∷ []) h) ≡ with_values (v ∷ vs) h
-more_values v vs h = ap (λ (l : List SqlValue). let k : Held = record { values = l; members = h.members } in k) (append_assoc h.values (v ∷ []) vs)
+more_values : (v : SqlValue) (vs : List SqlValue) (h : StackView) → with_values vs (with_values (v ∷ []) h) ≡ with_values (v ∷ vs) h
+more_values v vs h = ap (λ (l : List SqlValue). let k : StackView = record { values = l; members = h.members } in k) (append_assoc h.values (v ∷ []) vs)
 
-more_members : (f : Field) (fs : List Field) (h : Held) → with_members fs (with_members (f ∷ []) h) ≡ with_members (f ∷ fs) h
-more_members f fs h = ap (λ (l : List Field). let k : Held = record { values = h.values; members = l } in k) (append_assoc h.members (f ∷ []) fs)
+more_members : (f : Field) (fs : List Field) (h : StackView) → with_members fs (with_members (f ∷ []) h) ≡ with_members (f ∷ fs) h
+more_members f fs h = ap (λ (l : List Field). let k : StackView = record { values = h.values; members = l } in k) (append_assoc h.members (f ∷ []) fs)
 
-no_values : (h : Held) → with_values [] h ≡ h
-no_values h = ap (λ (l : List SqlValue). let k : Held = record { values = l; members = h.members } in k) (append-nil h.values)
+no_values : (h : StackView) → with_values [] h ≡ h
+no_values h = ap (λ (l : List SqlValue). let k : StackView = record { values = l; members = h.members } in k) (append-nil h.values)
 
-no_members : (h : Held) → with_members [] h ≡ h
-no_members h = ap (λ (l : List Field). let k : Held = record { values = h.values; members = l } in k) (append-nil h.members)
+no_members : (h : StackView) → with_members [] h ≡ h
+no_members h = ap (λ (l : List Field). let k : StackView = record { values = h.values; members = l } in k) (append-nil h.members)
 
 module _ (line : Line) (columns : List SqlValue) where
   -- ---- how many values and members there are
@@ -141,14 +141,14 @@ module _ (line : Line) (columns : List SqlValue) where
 
   -- ---- constructors, behind what they are made of
 
-  array_made : (on_null : Nulls) (n : ℕ) (r : Result (List SqlValue) State) (rest : List Step) (h : Held) → ((vs : List SqlValue) → r ≡ Ok vs → length vs ≡ n)
+  array_made : (on_null : Nulls) (n : ℕ) (r : Result (List SqlValue) State) (rest : List OperationStep) (h : StackView) → ((vs : List SqlValue) → r ≡ Ok vs → length vs ≡ n)
       → list_then r (λ vs. performed line columns (array n on_null ∷ rest) (with_values vs h)) ≡ outcome_then (array_outcome on_null r) (λ v. performed line columns rest (with_values (v ∷ []) h))
   array_made on_null n (Ok vs) rest h e =
-      let put_on : List SqlValue → List SqlValue → Held = λ (xs ys : List SqlValue). record { values = xs ++ array_value on_null ys ∷ []; members = h.members } in
+      let put_on : List SqlValue → List SqlValue → StackView = λ (xs ys : List SqlValue). record { values = xs ++ array_value on_null ys ∷ []; members = h.members } in
       after-zero _ ∙ ap (performed line columns rest) (ap₂ put_on (before_last-append h.values vs n (e vs refl)) (last_of-append h.values vs n (e vs refl)))
   array_made _ n (Err s) rest h e = refl
 
-  object_made : (on_null : Nulls) (unique : Bool) (n : ℕ) (r : Result (List Field) State) (rest : List Step) (h : Held) → ((fs : List Field) → r ≡ Ok fs → length fs ≡ n)
+  object_made : (on_null : Nulls) (unique : Bool) (n : ℕ) (r : Result (List Field) State) (rest : List OperationStep) (h : StackView) → ((fs : List Field) → r ≡ Ok fs → length fs ≡ n)
       → list_then r (λ fs. performed line columns (object n on_null unique ∷ rest) (with_members fs h)) ≡ outcome_then (object_outcome on_null unique r) (λ v. performed line columns rest (with_values (v ∷ []) h))
   object_made on_null unique n (Ok fs) rest h e =
       let put_on : List Field → List Field → Performance = λ (xs ys : List Field).
@@ -161,7 +161,7 @@ module _ (line : Line) (columns : List SqlValue) where
 
   mutual
     -- the operations of a value put it on what is held, or raise its state, and take what it costs
-    pub found : (x : b.Value) (rest : List Step) (h : Held)
+    pub found : (x : b.Value) (rest : List OperationStep) (h : StackView)
         → performed line columns (steps_to x ++ rest) h ≡ after (cost line columns x) (outcome_then (given line columns x) (λ v. performed line columns rest (with_values (v ∷ []) h)))
     found (b.Lit x) rest h = refl
     found (b.Column n) rest h = refl
@@ -173,32 +173,32 @@ module _ (line : Line) (columns : List SqlValue) where
         ap (after (query_cost clauses.wrapper x.path.mode (context line) (trace_of x))) (put_then (query_outcome clauses x.path.mode (context line) (trace_of x)) h (performed line columns rest))
     found (b.IsJson call) rest h = refl
     found (b.Object members on_null unique) rest h =
-        ap (λ (l : List Step). performed line columns l h) (append_assoc (steps_to_members members) (object (member_count members) on_null unique ∷ []) rest)
+        ap (λ (l : List OperationStep). performed line columns l h) (append_assoc (steps_to_members members) (object (member_count members) on_null unique ∷ []) rest)
         ∙ found_members members (object (member_count members) on_null unique ∷ rest) h
         ∙ ap (after (members_cost line columns members)) (object_made on_null unique (member_count members) (given_members line columns members) rest h (given_member_count members))
     found (b.Array values on_null) rest h =
-        ap (λ (l : List Step). performed line columns l h) (append_assoc (steps_to_values values) (array (value_count values) on_null ∷ []) rest)
+        ap (λ (l : List OperationStep). performed line columns l h) (append_assoc (steps_to_values values) (array (value_count values) on_null ∷ []) rest)
         ∙ found_values values (array (value_count values) on_null ∷ rest) h
         ∙ ap (after (values_cost line columns values)) (array_made on_null (value_count values) (given_values line columns values) rest h (given_count values))
 
-    pub found_values : (xs : b.Values) (rest : List Step) (h : Held)
+    pub found_values : (xs : b.Values) (rest : List OperationStep) (h : StackView)
         → performed line columns (steps_to_values xs ++ rest) h ≡ after (values_cost line columns xs) (list_then (given_values line columns xs) (λ vs. performed line columns rest (with_values vs h)))
     found_values b.NoValues rest h = sym (after-zero _ ∙ ap (performed line columns rest) (no_values h))
     found_values (b.MoreValues x others) rest h =
-        ap (λ (l : List Step). performed line columns l h) (append_assoc (steps_to x) (steps_to_values others) rest)
+        ap (λ (l : List OperationStep). performed line columns l h) (append_assoc (steps_to x) (steps_to_values others) rest)
         ∙ found x (steps_to_values others ++ rest) h
         ∙ join_values (given line columns x) (given_values line columns others) (cost line columns x) (values_cost line columns others)
         (λ v. performed line columns (steps_to_values others ++ rest) (with_values (v ∷ []) h)) (λ vs. performed line columns rest (with_values vs h))
         (λ v. found_values others rest (with_values (v ∷ []) h)
         ∙ ap (after (values_cost line columns others)) (list_then_same (given_values line columns others) _ _ (λ vs. ap (performed line columns rest) (more_values v vs h))))
 
-    pub found_members : (ms : b.Members) (rest : List Step) (h : Held)
+    pub found_members : (ms : b.Members) (rest : List OperationStep) (h : StackView)
         → performed line columns (steps_to_members ms ++ rest) h ≡ after (members_cost line columns ms) (list_then (given_members line columns ms) (λ fs. performed line columns rest (with_members fs h)))
     found_members b.NoMembers rest h = sym (after-zero _ ∙ ap (performed line columns rest) (no_members h))
     found_members (b.MoreMembers key x others) rest h =
         let behind = steps_to_members others ++ rest in
-        ap (λ (l : List Step). performed line columns l h)
-        (append_assoc (steps_to key) (steps_to x ++ (member ∷ steps_to_members others)) rest ∙ ap (λ (l : List Step). steps_to key ++ l) (append_assoc (steps_to x) (member ∷ steps_to_members others) rest))
+        ap (λ (l : List OperationStep). performed line columns l h)
+        (append_assoc (steps_to key) (steps_to x ++ (member ∷ steps_to_members others)) rest ∙ ap (λ (l : List OperationStep). steps_to key ++ l) (append_assoc (steps_to x) (member ∷ steps_to_members others) rest))
         ∙ found key (steps_to x ++ (member ∷ behind)) h
         ∙ join_members (given line columns key) (given line columns x) (given_members line columns others) (cost line columns key) (cost line columns x) (members_cost line columns others)
         (λ k. performed line columns (steps_to x ++ (member ∷ behind)) (with_values (k ∷ []) h)) (λ fs. performed line columns rest (with_members fs h))
@@ -209,7 +209,7 @@ module _ (line : Line) (columns : List SqlValue) where
         ∙ ap (after (members_cost line columns others)) (list_then_same (given_members line columns others) _ _ (λ fs. ap (performed line columns rest) (more_members (record { key = k; value = v }) fs h)))))
 
   -- those of a list put all its values on, or raise its state
-  pub found_all : (xs : List b.Value) (h : Held)
+  pub found_all : (xs : List b.Value) (h : StackView)
       → performed line columns (steps_to_all xs) h ≡ after (list_cost line columns xs) (list_then (given_list line columns xs) (λ vs. performed line columns [] (with_values vs h)))
   found_all [] h = sym (after-zero _ ∙ ap (performed line columns []) (no_values h))
   found_all (x ∷ xs) h =
@@ -222,16 +222,16 @@ module _ (line : Line) (columns : List SqlValue) where
 -- ---- the steps of one value
 
 -- the value alone, or the state
-abbrev pub value_end : Outcome → Result Held State
+abbrev pub value_end : Outcome → Result StackView State
 value_end (Value v) = Ok (record { values = v ∷ []; members = [] })
 value_end (Raised s) = Err s
 
 module _ (line : Line) (columns : List SqlValue) where
-  abbrev nothing_held : Held
+  abbrev nothing_held : StackView
   nothing_held = record { values = []; members = [] }
 
   one_found : (x : b.Value) → performed line columns (steps_to x) nothing_held ≡ after (cost line columns x) (outcome_then (given line columns x) (λ v. performed line columns [] (with_values (v ∷ []) nothing_held)))
-  one_found x = ap (λ (l : List Step). performed line columns l nothing_held) (sym (append-nil (steps_to x))) ∙ found line columns x [] nothing_held
+  one_found x = ap (λ (l : List OperationStep). performed line columns l nothing_held) (sym (append-nil (steps_to x))) ∙ found line columns x [] nothing_held
 
   one_ends : (n : ℕ) (o : Outcome) → (after n (outcome_then o (λ v. performed line columns [] (with_values (v ∷ []) nothing_held)))).end ≡ value_end o
   one_ends n (Value v) = refl

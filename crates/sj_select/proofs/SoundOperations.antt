@@ -7,13 +7,13 @@ use Rattle.sj_bound.specs.Bound as b
 use Rattle.sj_bound.specs.Sound.{IsSoundValue, AreSoundValues, AreSoundMembers, IsSoundItem, IsSoundColumn, IsSoundTable, IsSound, columns_of}
 use Rattle.sj_select.specs.Columns.{with_variables, columns_of as table_columns}
 use Rattle.sj_select.specs.Filling.{CanFill}
-use Rattle.sj_select.specs.Operations.{Step, member, steps_to, steps_to_values, steps_to_members, steps_to_all}
+use Rattle.sj_select.specs.Operations.{OperationStep, member, steps_to, steps_to_values, steps_to_members, steps_to_all}
 use Rattle.sj_select.specs.Performing.{CanBeGiven}
 use Rattle.sj_select.specs.Rows.{values_in}
 use Rattle.sj_select.specs.Taking.{CanTake}
 
 module _ (columns : List b.ColumnOf) where
-  one : (s : Step) → CanBeGiven s → All CanBeGiven (s ∷ [])
+  one : (s : OperationStep) → CanBeGiven s → All CanBeGiven (s ∷ [])
   one s h = All-cons CanBeGiven s [] h (All-nil CanBeGiven)
 
   mutual

@@ -9,16 +9,16 @@ use Rattle.sj_func.specs.declared.context.Outcome.TheVariants.{Value, Raised}
 use Rattle.sj_build.specs.Constructors.{array_value, object_value}
 use Rattle.sj_build.specs.declared.field.Field.{Field}
 use Rattle.sj_select.specs.Line.{Line, context, tree_of}
-use Rattle.sj_select.specs.Operations.{Step, literal, column, exists, value, query, is_json, member, object, array}
+use Rattle.sj_select.specs.Operations.{OperationStep, literal, column, exists, value, query, is_json, member, object, array}
 use Rattle.sj_select.specs.Values.{literal_outcome, column_outcome, is_json_outcome, trace_of, outcome_of}
 use Rattle.sj_select.specs.declared.stack.Stack.{Stack}
 
 -- the values and the members that were found and are no part of another value yet, the last one at the end
-pub record Held : Type 0 where
+pub record StackView : Type 0 where
   pub values : List SqlValue
   pub members : List Field
 
-abbrev pub held : Stack → Held
+abbrev pub held : Stack → StackView
 held p = record { values = p.values.items; members = p.members.items }
 
 -- the last n of a list, and those before them
@@ -29,7 +29,7 @@ abbrev pub before_last : {X : Type 0} → ℕ → List X → List X
 before_last n xs = take (length xs - n) xs
 
 -- the value of an outcome at the end, or its state
-abbrev pub put : Outcome → Held → Result Held State
+abbrev pub put : Outcome → StackView → Result StackView State
 put (Value v) h = Ok (record { values = h.values ++ v ∷ []; members = h.members })
 put (Raised s) h = Err s
 
@@ -40,18 +40,18 @@ member_of (key ∷ []) = []
 member_of (key ∷ v ∷ others) = record { key = key; value = v } ∷ []
 
 -- the last two values become the last member
-abbrev pub paired : Held → Held
+abbrev pub paired : StackView → StackView
 paired h = record { values = before_last 2 h.values; members = h.members ++ member_of (last_of 2 h.values) }
 
-abbrev pub without_values : ℕ → Held → Held
+abbrev pub without_values : ℕ → StackView → StackView
 without_values n h = record { values = before_last n h.values; members = h.members }
 
-abbrev pub without_members : ℕ → Held → Held
+abbrev pub without_members : ℕ → StackView → StackView
 without_members n h = record { values = h.values; members = before_last n h.members }
 
 -- how steps end, and the steps of the counter that they may take
 pub record Performance : Type 0 where
-  pub end : Result Held State
+  pub end : Result StackView State
   pub cost : ℕ
 
 abbrev pub after : ℕ → Performance → Performance
@@ -61,13 +61,13 @@ abbrev pub stopped : State → Performance
 stopped s = record { end = Err s; cost = 0 }
 
 -- what comes behind a step, where it raised no state
-abbrev pub going_on : Result Held State → (Held → Performance) → Performance
+abbrev pub going_on : Result StackView State → (StackView → Performance) → Performance
 going_on (Ok h) more = more h
 going_on (Err s) more = stopped s
 
 module _ (line : Line) (columns : List SqlValue) where
   -- what one step does
-  abbrev pub done : Step → Held → Result Held State
+  abbrev pub done : OperationStep → StackView → Result StackView State
   done (literal x) h = put (literal_outcome x) h
   done (column n) h = put (column_outcome columns n) h
   done (exists x on_error) h = put (exists_outcome on_error x.path.mode (context line) (trace_of x)) h
@@ -78,7 +78,7 @@ module _ (line : Line) (columns : List SqlValue) where
   done (object n on_null unique) h = put (outcome_of (object_value on_null unique (last_of n h.members))) (without_members n h)
   done (array n on_null) h = put (Value (array_value on_null (last_of n h.values))) (without_values n h)
 
-  abbrev pub step_cost : Step → ℕ
+  abbrev pub step_cost : OperationStep → ℕ
   step_cost (literal x) = 0
   step_cost (column n) = 0
   step_cost (exists x _) = exists_cost x.path.mode (context line) (trace_of x)
@@ -90,17 +90,17 @@ module _ (line : Line) (columns : List SqlValue) where
   step_cost (array n _) = 0
 
   -- steps up to the first that raises a state
-  abbrev pub performed : List Step → Held → Performance
+  abbrev pub performed : List OperationStep → StackView → Performance
   performed [] h = record { end = Ok h; cost = 0 }
   performed (step ∷ steps) h = after (step_cost step) (going_on (done step h) (performed steps))
 
 -- no state was raised and this is held, or this state was raised
-abbrev pub EndsIn : Result Held State → Option State → Held → Type 0
+abbrev pub EndsIn : Result StackView State → Option State → StackView → Type 0
 EndsIn end None h = end ≡ Ok h
 EndsIn end (Some s) h = end ≡ Err s
 
 -- the clauses of a step can be given
-abbrev pub CanBeGiven : Step → Type 0
+abbrev pub CanBeGiven : OperationStep → Type 0
 CanBeGiven (literal x) = Unit {0}
 CanBeGiven (column n) = Unit {0}
 CanBeGiven (exists x _) = Unit {0}

@@ -4,7 +4,7 @@ use Rattle.sj_base.specs.declared.state.State.{State}
 use Rattle.sj_value.specs.declared.value.SqlValue.{SqlValue}
 use Rattle.sj_func.specs.declared.context.Outcome.{Outcome}
 use Rattle.sj_func.specs.declared.context.Outcome.TheVariants.{Raised}
-use Rattle.sj_build.specs.Held.{StandsForValues, StandsForFields}
+use Rattle.sj_build.specs.SoFar.{StandsForValues, StandsForFields}
 use Rattle.sj_build.specs.declared.field.Field.{Field}
 use Rattle.sj_bound.specs.Bound as b
 use Rattle.sj_bound.specs.View.{value_of}

@@ -1,7 +1,7 @@
 // Whole numbers as items hold them.
 ghost use Rattle.std.specs.Prelude.{◌≡◌, ◌<◌, unsigned_abs};
 ghost use Rattle.sj_decimal.specs.Limits.{magnitude_limit};
-ghost use Rattle.sj_item.specs.Held.{exact_value};
+ghost use Rattle.sj_item.specs.MadeValues.{exact_value};
 
 use sj_decimal::Decimal;
 use sj_item::Exact;

@@ -5,7 +5,7 @@ use Rattle.std.proofs.Math.Seq.{map-set_same}
 use Rattle.std.specs.Bool.{one_answer}
 use Rattle.std.specs.List.{list_all}
 use Rattle.sj_rows.specs.Lines.{is_blank_byte}
-use Rattle.sj_rows.specs.Held.{Held, gives, drained}
+use Rattle.sj_rows.specs.HeldLines.{HeldLines, gives, drained}
 use Rattle.sj_base.specs.Outside.{raised}
 use Rattle.sj_json.specs.Tree.{Tree}
 use Rattle.sj_json.specs.Document.{document}
@@ -90,11 +90,11 @@ more_front : (keys : Keys) (n : ℕ) (front : List (Option (List ℕ))) (line : 
 more_front keys n front line = read_lines-append keys n front (line ∷ []) ∙ ap (λ (t : List ReadLine). read_lines keys n front ++ t) (append-nil (read_line keys (n + length front) line))
 
 -- nothing was read yet
-pub read_none : (keys : Keys) (h : Held) → ReadFront keys h h []
+pub read_none : (keys : Keys) (h : HeldLines) → ReadFront keys h h []
 read_none keys h = record { front = []; split = refl; given = omega arith; rest = refl; fed = refl; ended = refl; batch_is = refl }
 
 -- the next line was read behind the others
-pub read_next : (keys : Keys) (old now new : Held) (b b' : List ReadLine) (line : Option (List ℕ)) → ReadFront keys old now b → gives now line new → b' ≡ b ++ read_line keys (now.given + 1) line → ReadFront keys old new b'
+pub read_next : (keys : Keys) (old now new : HeldLines) (b b' : List ReadLine) (line : Option (List ℕ)) → ReadFront keys old now b → gives now line new → b' ≡ b ++ read_line keys (now.given + 1) line → ReadFront keys old new b'
 read_next keys old now new b b' line r g is = record {
   front = r.front ++ line ∷ [];
   split = r.split ∙ ap (λ (t : List (Option (List ℕ))). r.front ++ t) g.0 ∙ sym (append_assoc r.front (line ∷ []) new.waiting);
@@ -109,7 +109,7 @@ read_next keys old now new b b' line r g is = record {
 }
 
 -- no line waits any more
-pub read_all : (keys : Keys) (old now : Held) (b : List ReadLine) → ReadFront keys old now b → now.waiting ≡ [] → ReadOn keys old now b Nothing
+pub read_all : (keys : Keys) (old now : HeldLines) (b : List ReadLine) → ReadFront keys old now b → now.waiting ≡ [] → ReadOn keys old now b Nothing
 read_all keys old now b r none = record { read = r; behind_is = none }
 
 some_front : (keys : Keys) (n : ℕ) (front : List (Option (List ℕ))) (b : List ReadLine) → b ≡ read_lines keys n front → 0 < length b → front ≢ []
@@ -118,11 +118,11 @@ some_front keys n front b is some none =
     omega (arith, empty, some)
 
 -- some lines were read
-pub read_some : (keys : Keys) (old now : Held) (b : List ReadLine) → ReadFront keys old now b → 0 < length b → ReadOn keys old now b Perhaps
+pub read_some : (keys : Keys) (old now : HeldLines) (b : List ReadLine) → ReadFront keys old now b → 0 < length b → ReadOn keys old now b Perhaps
 read_some keys old now b r some = record { read = r; behind_is = some_front keys (old.given + 1) r.front b r.batch_is some }
 
 -- what is left is less than what waited
-pub read_less : (keys : Keys) (old new : Held) (b : List ReadLine) → ReadOn keys old new b Perhaps → length new.waiting < length old.waiting
+pub read_less : (keys : Keys) (old new : HeldLines) (b : List ReadLine) → ReadOn keys old new b Perhaps → length new.waiting < length old.waiting
 read_less keys old new b r = less r.read.front r.read.split r.behind_is
   where
     less : (front : List (Option (List ℕ))) → old.waiting ≡ front ++ new.waiting → front ≢ [] → length new.waiting < length old.waiting
@@ -132,7 +132,7 @@ read_less keys old new b r = less r.read.front r.read.split r.behind_is
 -- ---- the lines that wait
 
 -- what is asked of the lines that were read goes before what is asked of those that wait
-asked_more : (K : Job) (old new : Held) (b b' : List ReadLine) (behind : Behind) → ReadOn K.keys old new b behind → b' ≡ b
+asked_more : (K : Job) (old new : HeldLines) (b b' : List ReadLine) (behind : Behind) → ReadOn K.keys old new b behind → b' ≡ b
     → lines_asked K (old.given + 1) old.waiting ≡ batch_asked K.statements b' ++ lines_asked K (new.given + 1) new.waiting
 asked_more K old new b b' behind r these =
     let number : new.given + 1 ≡ old.given + 1 + length r.read.front = omega (arith, r.read.given) in
@@ -140,26 +140,26 @@ asked_more K old new b b' behind r these =
     ∙ ap (λ (k : ℕ). lines_asked K (old.given + 1) r.read.front ++ lines_asked K k new.waiting) (sym number)
     ∙ ap (λ (t : List Asked). t ++ lines_asked K (new.given + 1) new.waiting) (sym (ap (batch_asked K.statements) (these ∙ r.read.batch_is) ∙ read_asked K (old.given + 1) r.read.front))
 
-pub waiting_prints : (K : Job) (old new : Held) (b b' : List ReadLine) (behind : Behind) → ReadOn K.keys old new b behind → b' ≡ b
+pub waiting_prints : (K : Job) (old new : HeldLines) (b b' : List ReadLine) (behind : Behind) → ReadOn K.keys old new b behind → b' ≡ b
     → prints (lines_asked K (old.given + 1) old.waiting) ≡ followed_by (prints (batch_asked K.statements b')) (prints (lines_asked K (new.given + 1) new.waiting))
 waiting_prints K old new b b' behind r these = ap prints (asked_more K old new b b' behind r these) ∙ prints-append (batch_asked K.statements b') (lines_asked K (new.given + 1) new.waiting)
 
 -- nothing where no line waits
-pub none_waits : (K : Job) (old new : Held) (b : List ReadLine) → ReadOn K.keys old new b Nothing → prints (lines_asked K (new.given + 1) new.waiting) ≡ nothing
+pub none_waits : (K : Job) (old new : HeldLines) (b : List ReadLine) → ReadOn K.keys old new b Nothing → prints (lines_asked K (new.given + 1) new.waiting) ≡ nothing
 none_waits K old new b r = ap (λ (l : List (Option (List ℕ))). prints (lines_asked K (new.given + 1) l)) r.behind_is
 
-pub waiting_cost : (K : Job) (old new : Held) (b b' : List ReadLine) (behind : Behind) → ReadOn K.keys old new b behind → b' ≡ b
+pub waiting_cost : (K : Job) (old new : HeldLines) (b b' : List ReadLine) (behind : Behind) → ReadOn K.keys old new b behind → b' ≡ b
     → cost (lines_asked K (old.given + 1) old.waiting) ≡ cost (batch_asked K.statements b') + cost (lines_asked K (new.given + 1) new.waiting)
 waiting_cost K old new b b' behind r these = ap cost (asked_more K old new b b' behind r these) ∙ cost-append (batch_asked K.statements b') (lines_asked K (new.given + 1) new.waiting)
 
 -- the lines that were read are some of those that are all given in the end
-pub drained_more : (keys : Keys) (old new : Held) (b : List ReadLine) (behind : Behind) → ReadOn keys old new b behind → drained new ≡ drained old
+pub drained_more : (keys : Keys) (old new : HeldLines) (b : List ReadLine) (behind : Behind) → ReadOn keys old new b behind → drained new ≡ drained old
 drained_more keys old new b behind r = drained_same old new r.read.rest count r.read.fed r.read.ended
   where
     count : new.given + length new.waiting ≡ old.given + length old.waiting
     count = omega (arith, r.read.given, ap length r.read.split, length-append r.read.front new.waiting)
 
-    drained_same : (old new : Held) → new.rest ≡ old.rest → new.given + length new.waiting ≡ old.given + length old.waiting → new.fed ≡ old.fed → new.ended ≡ old.ended → drained new ≡ drained old
+    drained_same : (old new : HeldLines) → new.rest ≡ old.rest → new.given + length new.waiting ≡ old.given + length old.waiting → new.fed ≡ old.fed → new.ended ≡ old.ended → drained new ≡ drained old
     drained_same old new a b c d = cc
 
 -- ---- the lines of a batch

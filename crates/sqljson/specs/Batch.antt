@@ -2,7 +2,7 @@
 use Rattle.std.specs.Prelude.{◌≡◌, ◌≢◌, ℕ, ◌+◌, List, [], ◌∷◌, ◌++◌, length, map, Option, None, Some, if◌then◌else◌}
 use Rattle.std.specs.List.{list_all}
 use Rattle.sj_rows.specs.Lines.{is_blank_byte}
-use Rattle.sj_rows.specs.Held.{Held}
+use Rattle.sj_rows.specs.HeldLines.{HeldLines}
 use Rattle.sj_json.specs.Tree.{Tree}
 use Rattle.sj_json.specs.Document.{document}
 use Rattle.sj_bound.specs.Bound.{Bound}
@@ -41,7 +41,7 @@ IsBehind Nothing front rest = rest ≡ []
 IsBehind Perhaps front rest = front ≢ []
 
 -- the first of the lines that waited were read
-pub record ReadFront (keys : Keys) (old new : Held) (batch : List ReadLine) : Type 0 where
+pub record ReadFront (keys : Keys) (old new : HeldLines) (batch : List ReadLine) : Type 0 where
   pub front : List (Option (List ℕ))
   pub split : old.waiting ≡ front ++ new.waiting
   pub given : new.given ≡ old.given + length front
@@ -51,7 +51,7 @@ pub record ReadFront (keys : Keys) (old new : Held) (batch : List ReadLine) : Ty
   pub batch_is : batch ≡ read_lines keys (old.given + 1) front
 
 -- all of them, or some
-pub record ReadOn (keys : Keys) (old new : Held) (batch : List ReadLine) (behind : Behind) : Type 0 where
+pub record ReadOn (keys : Keys) (old new : HeldLines) (batch : List ReadLine) (behind : Behind) : Type 0 where
   pub read : ReadFront keys old new batch
   pub behind_is : IsBehind behind read.front new.waiting
 

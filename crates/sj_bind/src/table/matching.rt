@@ -8,7 +8,7 @@ ghost use Rattle.sj_bind.specs.Paths.{paths_below, children_in, children, table_
 ghost use Rattle.sj_bind.specs.Plans as spec;
 ghost use Rattle.sj_bind.specs.Plans.{standing, each_once, name_count};
 
-use super::paths::{Place, find_path, has_nested};
+use super::paths::{NumberedPath, find_path, has_nested};
 use sj_base::Text;
 use sj_sql_tree::{Column, Columns, NamedPlan, PlanTree, Table};
 
@@ -37,11 +37,11 @@ fn matches_table(plan: &NamedPlan, table: &Table) -> bool
 }
 
 /// The row path, as a path beside no other.
-pub fn root_of(table: &Table) -> Place<'_>
+pub fn root_of(table: &Table) -> NumberedPath<'_>
     ensures number { result.number ≡ 0 }
     ensures columns { result.columns.now ≡ table.now.columns }
 {
-    Place {
+    NumberedPath {
         number: 0,
         columns: &table.columns,
     }
@@ -81,7 +81,7 @@ fn fits(plan: &NamedPlan, columns: &Columns, next: u32) -> bool
 
 /// Whether the plan has each path nested in this one once, and fits them.
 #[cycle(fits)]
-fn fits_below(plan: &NamedPlan, path: Place) -> bool
+fn fits_below(plan: &NamedPlan, path: NumberedPath) -> bool
     requires { path.number + 1 + length (paths_below (columns_of path.columns.now)) ≤ u32.MAX }
     ensures { result ≡ (each_once (standing (plan_of plan.now)) (children (path.entry.number + 1) (columns_of path.entry.columns.now)) && spec.fits (plan_of plan.now) (children (path.entry.number + 1) (columns_of path.entry.columns.now))) }
 {

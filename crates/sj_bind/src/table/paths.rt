@@ -6,13 +6,13 @@ ghost use Rattle.sj_bind.specs.Tables as spec;
 ghost use Rattle.sj_bind.specs.Tables.{lacks_name_in, lacks_name_below};
 ghost use Rattle.sj_bind.specs.Paths.{paths_in, paths_below, children_in, children};
 ghost use Rattle.sj_bind.specs.Plans.{is_nil, path_named};
-ghost use Rattle.sj_bind.specs.Places.{child_of};
+ghost use Rattle.sj_bind.specs.NumberedPaths.{child_of};
 
 use sj_sql_tree::{Column, Columns, PlanTree, Table};
 
 /// A nested path: its number and its columns.
 #[derive(Clone, Copy)]
-pub struct Place<'a> {
+pub struct NumberedPath<'a> {
     pub number: u32,
     pub columns: &'a Columns,
 }
@@ -119,7 +119,7 @@ fn is_nested(column: &Column) -> bool
 
 /// The path of this name among those right under the columns, of which the first has the number `next`.
 #[tactic(auto, using(crate::proofs::PathLists::named_past, crate::proofs::PathLists::named_here))]
-pub fn find_path<'a>(columns: &'a Columns, next: u32, name: &str) -> Option<Place<'a>>
+pub fn find_path<'a>(columns: &'a Columns, next: u32, name: &str) -> Option<NumberedPath<'a>>
     requires { next + length (paths_below (columns_of columns.now)) ≤ u32.MAX }
     ensures found { option_map (child_of name.now) result ≡ path_named name.now (children next (columns_of columns.now)) }
     ensures within { IfSome result (λ place. place.number + 1 + length (paths_below (columns_of place.columns.now)) ≤ next + length (paths_below (columns_of columns.now))) }
@@ -141,13 +141,13 @@ pub fn find_path<'a>(columns: &'a Columns, next: u32, name: &str) -> Option<Plac
 }
 
 /// A column as the path of this name, if it is one.
-fn path_here<'a>(column: &'a Column, next: u32, name: &str) -> Option<Place<'a>>
+fn path_here<'a>(column: &'a Column, next: u32, name: &str) -> Option<NumberedPath<'a>>
     requires { next + length (paths_in (column_of column.now)) ≤ u32.MAX }
     ensures found { option_map (child_of name.now) result ≡ path_named name.now (children_in next (column_of column.now)) }
     ensures within { IfSome result (λ place. place.number + 1 + length (paths_below (columns_of place.columns.now)) ≤ next + length (paths_in (column_of column.now))) }
 {
     match column {
-        Column::Nested(_, Some(own), columns) if own.as_str() == name => Some(Place {
+        Column::Nested(_, Some(own), columns) if own.as_str() == name => Some(NumberedPath {
             number: next,
             columns,
         }),

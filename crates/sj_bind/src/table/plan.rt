@@ -6,13 +6,13 @@ ghost use Rattle.sj_sql_tree.specs.View.{table_of, columns_of, column_of, plan_o
 ghost use Rattle.sj_bound.specs.Limits.{most_paths};
 ghost use Rattle.sj_bind.specs.Tables.{has_too_many, has_path_name_twice};
 ghost use Rattle.sj_bind.specs.Paths.{paths_in, paths_below, children, row_path, table_paths};
-ghost use Rattle.sj_bind.specs.Places.{child_of};
+ghost use Rattle.sj_bind.specs.NumberedPaths.{child_of};
 ghost use Rattle.sj_bind.specs.Plans as spec;
 ghost use Rattle.sj_bind.specs.Grown as grown;
 ghost use Rattle.sj_bind.specs.Grown.{one_more, grown_in, grown_below};
 
 use super::matching::root_of;
-use super::paths::{Place, count_paths_in, find_path};
+use super::paths::{NumberedPath, count_paths_in, find_path};
 use sj_base::{Memory, Text};
 use sj_sql_grammar::{InOut, Siblings};
 use sj_sql_tree::{Column, Columns, NamedPlan, PlanTree, Table};
@@ -90,7 +90,7 @@ fn numbered(alloc: Global, plan: &NamedPlan, columns: &Columns, next: u32) -> Re
 
 /// A path over the plan of its nested paths.
 #[cycle(numbered)]
-fn over(alloc: Global, in_out: InOut, path: Place, below: &NamedPlan) -> Result<Plan, Memory>
+fn over(alloc: Global, in_out: InOut, path: NumberedPath, below: &NamedPlan) -> Result<Plan, Memory>
     requires few { path.number + 1 + length (paths_below (columns_of path.columns.now)) ≤ u32.MAX }
     requires fits { spec.fits (plan_of below.now) (children (path.number + 1) (columns_of path.columns.now)) ≡ true }
     ensures { IfOk result (λ p. plan_tree p ≡ spec.joined in_out path.entry.number (spec.numbered (plan_of below.now) (children (path.entry.number + 1) (columns_of path.entry.columns.now)))) }
@@ -100,7 +100,7 @@ fn over(alloc: Global, in_out: InOut, path: Place, below: &NamedPlan) -> Result<
 }
 
 /// The path of this name among those right under the columns, of which the first has the number `next`.
-fn known_path<'a>(columns: &'a Columns, next: u32, name: &Text) -> Place<'a>
+fn known_path<'a>(columns: &'a Columns, next: u32, name: &Text) -> NumberedPath<'a>
     requires few { next + length (paths_below (columns_of columns.now)) ≤ u32.MAX }
     requires known { is_some (spec.path_named name.now (children next (columns_of columns.now))) ≡ true }
     ensures found { spec.path_named name.now (children next (columns_of columns.now)) ≡ Some (child_of name.now result) }

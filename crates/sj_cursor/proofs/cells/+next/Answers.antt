@@ -5,7 +5,7 @@ use Rattle.sj_cursor.specs.declared.cells.Opening.TheVariants.{Unwrapped}
 use Rattle.sj_cursor.proofs.Draws.{draws_after, draws_takes, join_answer, join_over, approaches_none, loop_answer, turn_near, turn_item, turn_begun, turn_over, turn_answer, count_draws}
 use Rattle.sj_cursor.proofs.ItemAnswers.{no_end, no_item}
 use Rattle.sj_cursor.proofs.Looks.{looking_from, looking_on, looking_enough, looking_end, looking_fault, exists_decides, single_answer, single_price, end_answer, end_price}
-use Rattle.sj_cursor.proofs.Pairs.{row_from, row_item, row_stop, row_end, row_fault, rows_from, rows_item, rows_stop, rows_end, rows_fault}
+use Rattle.sj_cursor.proofs.Pairs.{pairing_from, pairing_item, pairing_stop, pairing_end, pairing_fault, pairings_from, pairings_item, pairings_stop, pairings_end, pairings_fault}
 use Rattle.sj_cursor.proofs.ComparisonVerdicts.{compare_early, compare_all, right_decides}
 use Rattle.sj_cursor.proofs.Operators.{as_it_is, sub_some, subs_some}
 use Rattle.sj_cursor.proofs.Parts.{element_goes, range_bad, range_goes, binary_bad, binary_goes}
@@ -86,61 +86,61 @@ Operand::exists-returns-clause-decides g t c = exists_decides _ _ _ _ _ _ (rw (c
 
 -- ---- pairs
 
-pub Operand::see_row-row-init : goal.Operand::see_row-row-init
-Operand::see_row-row-init g t c = record { same = c.rewind.ensures.same; row = row_from _ _ _ _ _ (c.rewind.ensures.whole Unwrapped _) }
+pub Operand::see_pairing-pairing-init : goal.Operand::see_pairing-pairing-init
+Operand::see_pairing-pairing-init g t c = record { same = c.rewind.ensures.same; pairing = pairing_from _ _ _ _ _ (c.rewind.ensures.whole Unwrapped _) }
 
-pub Operand::see_row-returns-then-halts-clause-seen : goal.Operand::see_row-returns-then-halts-clause-seen
-Operand::see_row-returns-then-halts-clause-seen g t c =
-    row_stop _ _ _ _ _ _ _ _ _ _ _ _ _ c.row.invariant.row c.in-Item.ensures.answers (rw c.truth.ensures at c.saw-row.ensures.found) (sym c.halts.ensures ∙ c.if-halts.true)
+pub Operand::see_pairing-returns-then-halts-clause-seen : goal.Operand::see_pairing-returns-then-halts-clause-seen
+Operand::see_pairing-returns-then-halts-clause-seen g t c =
+    pairing_stop _ _ _ _ _ _ _ _ _ _ _ _ _ c.pairing.invariant.pairing c.in-Item.ensures.answers (rw c.truth.ensures at c.saw-pairing.ensures.found) (sym c.halts.ensures ∙ c.if-halts.true)
 
-pub Operand::see_row-row-smaller : goal.Operand::see_row-row-smaller
-Operand::see_row-row-smaller g t c = count_draws _ _ _ _ _ c.in-Item.ensures.answers
+pub Operand::see_pairing-pairing-smaller : goal.Operand::see_pairing-pairing-smaller
+Operand::see_pairing-pairing-smaller g t c = count_draws _ _ _ _ _ c.in-Item.ensures.answers
 
-pub Operand::see_row-row-preserved : goal.Operand::see_row-row-preserved
-Operand::see_row-row-preserved g t c = record {
-  same = c.in-Item.ensures.same ∙ c.row.invariant.same;
-  row = row_item _ _ _ _ _ _ _ _ _ _ _ _ _ c.row.invariant.row c.in-Item.ensures.answers (rw c.truth.ensures at c.saw-row.ensures.found) (rw c.truth.ensures at c.saw-row.ensures.doubt) (sym c.halts.ensures ∙ c.if-halts.false);
+pub Operand::see_pairing-pairing-preserved : goal.Operand::see_pairing-pairing-preserved
+Operand::see_pairing-pairing-preserved g t c = record {
+  same = c.in-Item.ensures.same ∙ c.pairing.invariant.same;
+  pairing = pairing_item _ _ _ _ _ _ _ _ _ _ _ _ _ c.pairing.invariant.pairing c.in-Item.ensures.answers (rw c.truth.ensures at c.saw-pairing.ensures.found) (rw c.truth.ensures at c.saw-pairing.ensures.doubt) (sym c.halts.ensures ∙ c.if-halts.false);
 }
 
-pub Operand::see_row-returns-in-End-clause-seen : goal.Operand::see_row-returns-in-End-clause-seen
-Operand::see_row-returns-in-End-clause-seen g t c = row_end _ _ _ _ _ _ _ _ _ _ c.row.invariant.row c.in-End.ensures.answers
+pub Operand::see_pairing-returns-in-End-clause-seen : goal.Operand::see_pairing-returns-in-End-clause-seen
+Operand::see_pairing-returns-in-End-clause-seen g t c = pairing_end _ _ _ _ _ _ _ _ _ _ c.pairing.invariant.pairing c.in-End.ensures.answers
 
-pub Operand::see_row-returns-in-Fault-clause-seen : goal.Operand::see_row-returns-in-Fault-clause-seen
-Operand::see_row-returns-in-Fault-clause-seen g t c = row_fault _ _ _ _ _ _ _ _ _ _ _ c.row.invariant.row c.in-Fault.ensures.answers
+pub Operand::see_pairing-returns-in-Fault-clause-seen : goal.Operand::see_pairing-returns-in-Fault-clause-seen
+Operand::see_pairing-returns-in-Fault-clause-seen g t c = pairing_fault _ _ _ _ _ _ _ _ _ _ _ c.pairing.invariant.pairing c.in-Fault.ensures.answers
 
-pub Comparison::see_rows-rows-init : goal.Comparison::see_rows-rows-init
-Comparison::see_rows-rows-init g t c = record {
+pub Comparison::see_pairings-pairings-init : goal.Comparison::see_pairings-pairings-init
+Comparison::see_pairings-pairings-init g t c = record {
   same = ap (λ k. Rattle.sj_path_grammar.specs.Tree.Compares c.args.self.now.op k (operand_core c.args.self.now.right)) c.rewind.ensures.same;
   op = refl;
-  rows = rows_from _ _ _ _ _ _ (c.rewind.ensures.whole Unwrapped _);
+  pairings = pairings_from _ _ _ _ _ _ (c.rewind.ensures.whole Unwrapped _);
 }
 
-pub Comparison::see_rows-rows-smaller : goal.Comparison::see_rows-rows-smaller
-Comparison::see_rows-rows-smaller g t c = count_draws _ _ _ _ _ c.in-Item.ensures.answers
+pub Comparison::see_pairings-pairings-smaller : goal.Comparison::see_pairings-pairings-smaller
+Comparison::see_pairings-pairings-smaller g t c = count_draws _ _ _ _ _ c.in-Item.ensures.answers
 
-pub Comparison::see_rows-rows-preserved : goal.Comparison::see_rows-rows-preserved
-Comparison::see_rows-rows-preserved g t c =
-    let right : operand_core c.rows.self.right ≡ operand_core c.args.self.now.right = cc c.rows.invariant.same in
+pub Comparison::see_pairings-pairings-preserved : goal.Comparison::see_pairings-pairings-preserved
+Comparison::see_pairings-pairings-preserved g t c =
+    let right : operand_core c.pairings.self.right ≡ operand_core c.args.self.now.right = cc c.pairings.invariant.same in
     record {
-      same = ap (λ k. Rattle.sj_path_grammar.specs.Tree.Compares c.rows.self.op k (operand_core c.see_row.new.self)) c.in-Item.ensures.same
-          ∙ ap (λ k. Rattle.sj_path_grammar.specs.Tree.Compares c.rows.self.op (operand_core c.rows.self.left) k) c.see_row.ensures.same
-          ∙ c.rows.invariant.same;
-      op = c.rows.invariant.op;
-      rows = rw c.saw-rows.ensures.some (rows_item _ _ _ _ _ _ _ _ _ _ _ _ _ _ _ _ _ _ c.rows.invariant.rows c.in-Item.ensures.answers
-          (rw (right, c.rows.invariant.op) at c.see_row.ensures.seen) c.saw-rows.ensures.found c.saw-rows.ensures.doubt (sym c.halts.ensures ∙ c.if-halts.false));
+      same = ap (λ k. Rattle.sj_path_grammar.specs.Tree.Compares c.pairings.self.op k (operand_core c.see_pairing.new.self)) c.in-Item.ensures.same
+          ∙ ap (λ k. Rattle.sj_path_grammar.specs.Tree.Compares c.pairings.self.op (operand_core c.pairings.self.left) k) c.see_pairing.ensures.same
+          ∙ c.pairings.invariant.same;
+      op = c.pairings.invariant.op;
+      pairings = rw c.saw-pairings.ensures.some (pairings_item _ _ _ _ _ _ _ _ _ _ _ _ _ _ _ _ _ _ c.pairings.invariant.pairings c.in-Item.ensures.answers
+          (rw (right, c.pairings.invariant.op) at c.see_pairing.ensures.seen) c.saw-pairings.ensures.found c.saw-pairings.ensures.doubt (sym c.halts.ensures ∙ c.if-halts.false));
     }
 
-pub Comparison::see_rows-returns-then-halts-clause-seen : goal.Comparison::see_rows-returns-then-halts-clause-seen
-Comparison::see_rows-returns-then-halts-clause-seen g t c =
-    let right : operand_core c.rows.self.right ≡ operand_core c.args.self.now.right = cc c.rows.invariant.same in
-    rows_stop _ _ _ _ _ _ _ _ _ _ _ _ _ _ _ _ _ _ _ c.rows.invariant.rows c.in-Item.ensures.answers
-    (rw (right, c.rows.invariant.op) at c.see_row.ensures.seen) c.saw-rows.ensures.found (sym c.halts.ensures ∙ c.if-halts.true)
+pub Comparison::see_pairings-returns-then-halts-clause-seen : goal.Comparison::see_pairings-returns-then-halts-clause-seen
+Comparison::see_pairings-returns-then-halts-clause-seen g t c =
+    let right : operand_core c.pairings.self.right ≡ operand_core c.args.self.now.right = cc c.pairings.invariant.same in
+    pairings_stop _ _ _ _ _ _ _ _ _ _ _ _ _ _ _ _ _ _ _ c.pairings.invariant.pairings c.in-Item.ensures.answers
+    (rw (right, c.pairings.invariant.op) at c.see_pairing.ensures.seen) c.saw-pairings.ensures.found (sym c.halts.ensures ∙ c.if-halts.true)
 
-pub Comparison::see_rows-returns-in-End-clause-seen : goal.Comparison::see_rows-returns-in-End-clause-seen
-Comparison::see_rows-returns-in-End-clause-seen g t c = rows_end _ _ _ _ _ _ _ _ _ _ _ _ c.rows.invariant.rows c.in-End.ensures.answers
+pub Comparison::see_pairings-returns-in-End-clause-seen : goal.Comparison::see_pairings-returns-in-End-clause-seen
+Comparison::see_pairings-returns-in-End-clause-seen g t c = pairings_end _ _ _ _ _ _ _ _ _ _ _ _ c.pairings.invariant.pairings c.in-End.ensures.answers
 
-pub Comparison::see_rows-returns-in-Fault-clause-seen : goal.Comparison::see_rows-returns-in-Fault-clause-seen
-Comparison::see_rows-returns-in-Fault-clause-seen g t c = rows_fault _ _ _ _ _ _ _ _ _ _ _ _ _ c.rows.invariant.rows c.in-Fault.ensures.answers
+pub Comparison::see_pairings-returns-in-Fault-clause-seen : goal.Comparison::see_pairings-returns-in-Fault-clause-seen
+Comparison::see_pairings-returns-in-Fault-clause-seen g t c = pairings_fault _ _ _ _ _ _ _ _ _ _ _ _ _ c.pairings.invariant.pairings c.in-Fault.ensures.answers
 
 pub Comparison::asks_right-returns-clause-asked : goal.Comparison::asks_right-returns-clause-asked
 Comparison::asks_right-returns-clause-asked g t c = rw c.if-some.false (record {
@@ -150,22 +150,22 @@ Comparison::asks_right-returns-clause-asked g t c = rw c.if-some.false (record {
 
 pub Comparison::holds-returns-then-halts-clause-decides : goal.Comparison::holds-returns-then-halts-clause-decides
 Comparison::holds-returns-then-halts-clause-decides g t c =
-    compare_early _ _ _ _ _ _ _ _ _ (rw c.is_early-early.ensures at c.see_rows-rows.ensures.seen) (rw c.is_early-early.ensures at (sym c.halts.ensures ∙ c.if-halts.true))
+    compare_early _ _ _ _ _ _ _ _ _ (rw c.is_early-early.ensures at c.see_pairings-pairings.ensures.seen) (rw c.is_early-early.ensures at (sym c.halts.ensures ∙ c.if-halts.true))
 
 pub Comparison::holds-returns-clause-decides : goal.Comparison::holds-returns-clause-decides
 Comparison::holds-returns-clause-decides g t c =
-    let right : operand_core c.see_rows-rows.new.self.right ≡ operand_core c.args.self.now.right = cc c.see_rows-rows.ensures.same in
-    rw c.truth-2.ensures (compare_all _ _ _ _ _ _ _ _ _ _ _ (rw c.is_early-early.ensures at c.see_rows-rows.ensures.seen) (rw c.is_early-early.ensures at (sym c.halts.ensures ∙ c.if-halts.false)) (rw right at c.asks_right-faulty.ensures.asked))
+    let right : operand_core c.see_pairings-pairings.new.self.right ≡ operand_core c.args.self.now.right = cc c.see_pairings-pairings.ensures.same in
+    rw c.truth-2.ensures (compare_all _ _ _ _ _ _ _ _ _ _ _ (rw c.is_early-early.ensures at c.see_pairings-pairings.ensures.seen) (rw c.is_early-early.ensures at (sym c.halts.ensures ∙ c.if-halts.false)) (rw right at c.asks_right-faulty.ensures.asked))
 
 pub Comparison::holds-returns-then-put_one : goal.Comparison::holds-returns-then-put_one
 Comparison::holds-returns-then-put_one g t c = record {
-  decides = right_decides _ _ _ _ _ _ _ _ _ _ _ (c.put_one.ensures c.if-put_one.true) c.is_early-early.ensures c.truth.ensures c.see_row.ensures.seen;
-  same = ap (λ k. Rattle.sj_path_grammar.specs.Tree.Compares c.args.self.now.op k (operand_core c.args.self.now.right)) c.see_row.ensures.same;
+  decides = right_decides _ _ _ _ _ _ _ _ _ _ _ (c.put_one.ensures c.if-put_one.true) c.is_early-early.ensures c.truth.ensures c.see_pairing.ensures.seen;
+  same = ap (λ k. Rattle.sj_path_grammar.specs.Tree.Compares c.args.self.now.op k (operand_core c.args.self.now.right)) c.see_pairing.ensures.same;
 }
 
 pub Start::holds-returns-clause-decides : goal.Start::holds-returns-clause-decides
 Start::holds-returns-clause-decides g t c =
-    right_decides _ _ _ _ _ _ _ _ _ _ _ (ap Rattle.sj_step.specs.Trace.only (sym c.initial_item-initial.ensures)) c.is_early-early.ensures c.truth.ensures c.see_row.ensures.seen
+    right_decides _ _ _ _ _ _ _ _ _ _ _ (ap Rattle.sj_step.specs.Trace.only (sym c.initial_item-initial.ensures)) c.is_early-early.ensures c.truth.ensures c.see_pairing.ensures.seen
 
 -- ---- connectives and filters
 

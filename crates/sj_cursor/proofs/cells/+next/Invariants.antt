@@ -8,7 +8,7 @@ use Rattle.sj_cursor.specs.Looks.{found_value}
 use Rattle.sj_cursor.specs.Left.{core, left, doing, doing_nodes, operand_core, operand_left, operand_whole, each_core, each_left, doing_opening, binary_core, filter_core, elements_core, parts_core, more_core, part_core, bounds_core, range_core, test_core, comparison_core, start_core, both_and, both_or}
 use Rattle.sj_cursor.specs.declared.cells.Opening.TheVariants.{Unwrapped}
 use Rattle.sj_cursor.proofs.Looks.{Looking}
-use Rattle.sj_cursor.proofs.Pairs.{RowLeft, RowsLeft}
+use Rattle.sj_cursor.proofs.Pairs.{PairingLeft, PairingsLeft}
 use Rattle.sj_cursor.proofs.cells.+next.Given as goal
 
 -- ---- the nodes of what is asked fall, and where they stay, the rank does
@@ -28,8 +28,8 @@ decreases-Operand::number g l = 16 * expr_nodes (operand_core l.self.now) + 6
 abbrev pub decreases-Operand::index : goal.decreases-Operand::index
 decreases-Operand::index g l = 16 * expr_nodes (operand_core l.self.now) + 6
 
-abbrev pub decreases-Operand::see_row : goal.decreases-Operand::see_row
-decreases-Operand::see_row g l = 16 * expr_nodes (operand_core l.self.now) + 5
+abbrev pub decreases-Operand::see_pairing : goal.decreases-Operand::see_pairing
+decreases-Operand::see_pairing g l = 16 * expr_nodes (operand_core l.self.now) + 5
 
 abbrev pub decreases-Operand::element : goal.decreases-Operand::element
 decreases-Operand::element g l = 16 * expr_nodes (operand_core l.self.now) + 7
@@ -91,8 +91,8 @@ decreases-Start::holds g l = 16 * pred_nodes (start_core l.self.now) + 9
 abbrev pub decreases-Comparison::holds : goal.decreases-Comparison::holds
 decreases-Comparison::holds g l = 16 * pred_nodes (comparison_core l.self.now) + 9
 
-abbrev pub decreases-Comparison::see_rows : goal.decreases-Comparison::see_rows
-decreases-Comparison::see_rows g l = 16 * pred_nodes (comparison_core l.self.now) + 8
+abbrev pub decreases-Comparison::see_pairings : goal.decreases-Comparison::see_pairings
+decreases-Comparison::see_pairings g l = 16 * pred_nodes (comparison_core l.self.now) + 8
 
 abbrev pub decreases-Comparison::asks_right : goal.decreases-Comparison::asks_right
 decreases-Comparison::asks_right g l = 16 * pred_nodes (comparison_core l.self.now) + 8
@@ -130,21 +130,21 @@ invariant-Operand::look-looking g l = record {
 abbrev pub decreases-Operand::look-looking : goal.decreases-Operand::look-looking
 decreases-Operand::look-looking g l = count (operand_left l.how l.self (env_value l.env))
 
-abbrev pub invariant-Operand::see_row-row : goal.invariant-Operand::see_row-row
-invariant-Operand::see_row-row g l = record {
+abbrev pub invariant-Operand::see_pairing-pairing : goal.invariant-Operand::see_pairing-pairing
+invariant-Operand::see_pairing-pairing g l = record {
   same : operand_core l.self ≡ operand_core l.fn.self;
-  row : RowLeft l.early (beside_truth l.beside) (operand_whole Unwrapped (operand_core l.fn.self) (env_value l.env)) (operand_left Unwrapped l.self (env_value l.env)) l.row.found l.row.doubt l.fn.steps l.steps;
+  pairing : PairingLeft l.early (beside_truth l.beside) (operand_whole Unwrapped (operand_core l.fn.self) (env_value l.env)) (operand_left Unwrapped l.self (env_value l.env)) l.pairing.found l.pairing.doubt l.fn.steps l.steps;
 }
 
-abbrev pub decreases-Operand::see_row-row : goal.decreases-Operand::see_row-row
-decreases-Operand::see_row-row g l = count (operand_left Unwrapped l.self (env_value l.env))
+abbrev pub decreases-Operand::see_pairing-pairing : goal.decreases-Operand::see_pairing-pairing
+decreases-Operand::see_pairing-pairing g l = count (operand_left Unwrapped l.self (env_value l.env))
 
-abbrev pub invariant-Comparison::see_rows-rows : goal.invariant-Comparison::see_rows-rows
-invariant-Comparison::see_rows-rows g l = record {
+abbrev pub invariant-Comparison::see_pairings-pairings : goal.invariant-Comparison::see_pairings-pairings
+invariant-Comparison::see_pairings-pairings g l = record {
   same : comparison_core l.self ≡ comparison_core l.fn.self;
   op : l.self.op ≡ l.fn.self.op;
-  rows : RowsLeft l.early (items_compare l.fn.self.op) (operand_whole Unwrapped (operand_core l.fn.self.left) (env_value l.env)) (operand_left Unwrapped l.self.left (env_value l.env)) (operand_whole Unwrapped (operand_core l.fn.self.right) (env_value l.env)) l.rows.found l.rows.doubt l.rows.some l.fn.steps l.steps;
+  pairings : PairingsLeft l.early (items_compare l.fn.self.op) (operand_whole Unwrapped (operand_core l.fn.self.left) (env_value l.env)) (operand_left Unwrapped l.self.left (env_value l.env)) (operand_whole Unwrapped (operand_core l.fn.self.right) (env_value l.env)) l.pairings.found l.pairings.doubt l.pairings.some l.fn.steps l.steps;
 }
 
-abbrev pub decreases-Comparison::see_rows-rows : goal.decreases-Comparison::see_rows-rows
-decreases-Comparison::see_rows-rows g l = count (operand_left Unwrapped l.self.left (env_value l.env))
+abbrev pub decreases-Comparison::see_pairings-pairings : goal.decreases-Comparison::see_pairings-pairings
+decreases-Comparison::see_pairings-pairings g l = count (operand_left Unwrapped l.self.left (env_value l.env))

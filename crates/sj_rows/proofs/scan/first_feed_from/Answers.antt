@@ -1,5 +1,5 @@
 use Rattle.std.proofs.Common.{subst}
-use Rattle.sj_rows.specs.Held.{HasNoFeed}
+use Rattle.sj_rows.specs.HeldLines.{HasNoFeed}
 use Rattle.sj_rows.proofs.Splits.{no_feed_from}
 use Rattle.sj_rows.proofs.scan.first_feed_from.Goals as goal
 

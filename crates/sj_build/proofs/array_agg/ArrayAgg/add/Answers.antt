@@ -1,6 +1,6 @@
 use Rattle.std.proofs.Common.{◌≡◌, true, sym, ◌∙◌, subst}
 use Rattle.sj_build.specs.Constructors.{is_kept, value_text}
-use Rattle.sj_build.specs.Held.{StandsForValues}
+use Rattle.sj_build.specs.SoFar.{StandsForValues}
 use Rattle.sj_build.proofs.Growing.{place_kept, text_kept}
 use Rattle.sj_build.proofs.array_agg.ArrayAgg.add.Goals as goal
 

@@ -5,7 +5,7 @@ use Rattle.sj_build.specs.Answers.{RefusesAs}
 use Rattle.sj_build.specs.Constructors.{is_kept, kept_key, pair_text, member_text, object_text, object_value}
 use Rattle.sj_text.specs.Rendering.{comma}
 use Rattle.sj_build.specs.Growing.{opening}
-use Rattle.sj_build.specs.Held.{ObjectHeld, AreTaken, StandsForFields}
+use Rattle.sj_build.specs.SoFar.{ObjectSoFar, AreTaken, StandsForFields}
 use Rattle.sj_build.specs.Keys.{owned_keys}
 use Rattle.sj_text.specs.declared.place.Place.TheVariants.{Later}
 use Rattle.sj_build.proofs.Growing.{text_kept, text_dropped}
@@ -20,7 +20,7 @@ returns-in_err-key-clause-refusal c =
     λ fields stand.
     let old = subst (StandsForFields fields) (sym c.self.view_is) stand in
     let cause = refuses_null s.nulls (is_some s.keys) fields s.place (owned_keys s.keys) old.taken field [] (Json (object_text s.nulls (fields ++ field ∷ []))) c.in_err-key.field-0.0 c.in_err-key.ensures.refusal in
-    rw (p.1, p.2) (subst (λ (held : ObjectHeld). RefusesAs (object_value held.nulls held.unique (fields ++ field ∷ [])) c.in_err-key.field-0.0) c.self.view_is cause)
+    rw (p.1, p.2) (subst (λ (held : ObjectSoFar). RefusesAs (object_value held.nulls held.unique (fields ++ field ∷ [])) c.in_err-key.field-0.0) c.self.view_is cause)
 
 pub returns-in_default-clause-stands : goal.returns-in_default-clause-stands
 returns-in_default-clause-stands c =
@@ -42,7 +42,7 @@ returns-in-Err-clause-refusal c =
     let kept : kept_key s.nulls field ≡ Ok (Some key) = c.in_ok-key.ensures.ok ∙ ap shown c.in-Some.is in
     λ fields stand.
     let old = subst (StandsForFields fields) (sym c.self.view_is) stand in
-    subst (λ (held : ObjectHeld). RefusesAs (object_value held.nulls held.unique (fields ++ field ∷ [])) c.in-Err.refusal) c.self.view_is
+    subst (λ (held : ObjectSoFar). RefusesAs (object_value held.nulls held.unique (fields ++ field ∷ [])) c.in-Err.refusal) c.self.view_is
     (refuses_as s.nulls (is_some s.keys) fields s.place (owned_keys s.keys) old.taken field key kept [] (Json (object_text s.nulls (fields ++ field ∷ []))) c.in-Err.refusal c.in-Err.ensures.refusal)
 
 pub returns-clause-stands : goal.returns-clause-stands

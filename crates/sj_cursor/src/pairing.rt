@@ -3,12 +3,12 @@ ghost use Rattle.std.specs.Prelude.{◌≡◌, ◌||◌, ◌&&◌, true};
 ghost use Rattle.sj_item.specs.Items.{item_value};
 ghost use Rattle.sj_cursor.specs.Comparisons.{is_true};
 ghost use Rattle.sj_cursor.specs.Verdicts.{is_unknown};
-ghost use Rattle.sj_cursor.specs.Cells.{beside_truth, is_lax, decided_truth, row_truth};
+ghost use Rattle.sj_cursor.specs.Cells.{beside_truth, is_lax, decided_truth, pairing_truth};
 
 use sj_item::{Item, Truth};
 use sj_path_tree::{Compare, Mode};
 
-/// What stands beside the items of a row.
+/// What stands beside the items of a pairing.
 #[derive(Clone, Copy)]
 pub(crate) enum Beside<'a, 'd> {
     /// The left item of a comparison.
@@ -44,25 +44,25 @@ pub(crate) fn is_early(mode: Mode) -> bool
 
 /// What was seen of the pairs of one item.
 #[derive(Clone, Copy)]
-pub(crate) struct Row {
+pub(crate) struct Pairing {
     /// A pair is true.
     pub(crate) found: bool,
     /// A pair has no answer, or the items end in a fault.
     pub(crate) doubt: bool,
 }
 
-impl Row {
-    pub(crate) fn saw(self, truth: Truth) -> Row
+impl Pairing {
+    pub(crate) fn saw(self, truth: Truth) -> Pairing
         ensures found { result.found ≡ (self.found || is_true truth) }
         ensures doubt { result.doubt ≡ (self.doubt || is_unknown truth) }
     {
         match truth {
-            Truth::True => Row {
+            Truth::True => Pairing {
                 found: true,
                 doubt: self.doubt,
             },
             Truth::False => self,
-            Truth::Unknown => Row {
+            Truth::Unknown => Pairing {
                 found: self.found,
                 doubt: true,
             },
@@ -77,7 +77,7 @@ impl Row {
 
     /// The truth of a comparison of which this was seen: with `early`, a true pair decides.
     pub(crate) fn truth(self, early: bool) -> Truth
-        ensures { result ≡ row_truth early self.found self.doubt }
+        ensures { result ≡ pairing_truth early self.found self.doubt }
     {
         if self.halts(early) {
             Truth::True
@@ -91,22 +91,22 @@ impl Row {
 
 /// What was seen of all pairs so far.
 #[derive(Clone, Copy)]
-pub(crate) struct Rows {
+pub(crate) struct Pairings {
     pub(crate) found: bool,
     pub(crate) doubt: bool,
     /// There was a left item.
     pub(crate) some: bool,
 }
 
-impl Rows {
-    pub(crate) fn saw(self, row: Row) -> Rows
-        ensures found { result.found ≡ (self.found || row.found) }
-        ensures doubt { result.doubt ≡ (self.doubt || row.doubt) }
+impl Pairings {
+    pub(crate) fn saw(self, pairing: Pairing) -> Pairings
+        ensures found { result.found ≡ (self.found || pairing.found) }
+        ensures doubt { result.doubt ≡ (self.doubt || pairing.doubt) }
         ensures some { result.some ≡ true }
     {
-        Rows {
-            found: self.found || row.found,
-            doubt: self.doubt || row.doubt,
+        Pairings {
+            found: self.found || pairing.found,
+            doubt: self.doubt || pairing.doubt,
             some: true,
         }
     }

@@ -22,7 +22,7 @@ pub struct Exact {
 }
 
 impl Exact {
-    ghost use Rattle.sj_item.specs.Held.{exact_value};
+    ghost use Rattle.sj_item.specs.MadeValues.{exact_value};
 
     /// Holds the decimal.
     pub fn new(value: Decimal) -> Exact
@@ -66,7 +66,7 @@ pub struct ShortText {
 }
 
 impl ShortText {
-    ghost use Rattle.sj_item.specs.Held.{short_text};
+    ghost use Rattle.sj_item.specs.MadeValues.{short_text};
 
     /// The greatest length, in bytes.
     pub const MAX_LEN: usize = MAX_TEXT_LEN;

@@ -15,20 +15,20 @@ so_far text (x ∷ xs) = text (x ∷ xs)
 -- ---- arrays
 
 -- what is made of a NULL, the text so far, and where the next element stands in it
-pub record ArrayHeld : Type 0 where
+pub record ArraySoFar : Type 0 where
   pub nulls : Nulls
   pub text : List ℕ
   pub place : Place
 
 -- These values were added, in this order, and nothing else.
-pub record StandsForValues (values : List SqlValue) (held : ArrayHeld) : Type 0 where
+pub record StandsForValues (values : List SqlValue) (held : ArraySoFar) : Type 0 where
   pub text : held.text ≡ so_far (array_text held.nulls) values
   pub place : held.place ≡ place_behind (kept_values held.nulls values)
 
 -- ---- objects
 
 -- the same, whether no two keys may be equal, and the keys so far where they may not
-pub record ObjectHeld : Type 0 where
+pub record ObjectSoFar : Type 0 where
   pub nulls : Nulls
   pub unique : Bool
   pub text : List ℕ
@@ -42,6 +42,6 @@ pub record AreTaken (choice : Nulls) (unique : Bool) (fields : List Field) (plac
   pub known : keys ≡ (if unique then map key_text (kept_fields choice fields) else [])
 
 -- These fields were added, in this order, and nothing else.
-pub record StandsForFields (fields : List Field) (held : ObjectHeld) : Type 0 where
+pub record StandsForFields (fields : List Field) (held : ObjectSoFar) : Type 0 where
   pub taken : AreTaken held.nulls held.unique fields held.place held.keys
   pub text : held.text ≡ so_far (object_text held.nulls) fields

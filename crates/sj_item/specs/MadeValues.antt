@@ -1,8 +1,8 @@
 -- What an item holds in itself.
 use Rattle.std.specs.Prelude.{ℕ, ◌+◌, ◌*◌, ◌^◌, List, take, ℤ}
 use Rattle.sj_decimal.specs.Signed.{signed}
-use Rattle.sj_item.specs.declared.held.Exact.{Exact}
-use Rattle.sj_item.specs.declared.held.ShortText.{ShortText}
+use Rattle.sj_item.specs.declared.made.Exact.{Exact}
+use Rattle.sj_item.specs.declared.made.ShortText.{ShortText}
 
 -- the decimal
 abbrev pub exact_value : Exact → ℤ × ℕ
