@@ -8,3 +8,7 @@ pub mod Numbers
 pub mod Pieces
 -- for sj_sql and sj_sql_grammar
 pub mod Keywords
+-- for the lemmas of `Longest`
+pub mod Sizes
+-- for `longest_pieces`
+pub mod Longest

@@ -10,16 +10,16 @@ use Rattle.sj_sql_token.specs.Quotes.{inside_len, undoubled, marks_len}
 
 -- ---- how far the inside reaches
 
-two : (n m k : ℕ) (o : Option ℕ) → n + m ≡ k → option_map (λ x. x + n) (option_map (λ x. x + m) o) ≡ option_map (λ x. x + k) o
+pub two : (n m k : ℕ) (o : Option ℕ) → n + m ≡ k → option_map (λ x. x + n) (option_map (λ x. x + m) o) ≡ option_map (λ x. x + k) o
 two n m k None e = refl
 two n m k (Some x) e = ap Some (omega (arith, e))
 
-inside_plain : (m b : ℕ) (bs : List ℕ) → (b == m) ≡ false → inside_len m (b ∷ bs) ≡ option_map (λ n. n + 1) (inside_len m bs)
+pub inside_plain : (m b : ℕ) (bs : List ℕ) → (b == m) ≡ false → inside_len m (b ∷ bs) ≡ option_map (λ n. n + 1) (inside_len m bs)
 inside_plain m b [] e = ap (λ t. cond t (Some 0) None) e
 inside_plain m b (c ∷ bs) e =
     ap (λ t. cond t (cond (c == m) (option_map (λ n. n + 2) (inside_len m bs)) (Some 0)) (option_map (λ n. n + 1) (inside_len m (c ∷ bs)))) e
 
-inside_double : (m b c : ℕ) (bs : List ℕ) → (b == m) ≡ true → (c == m) ≡ true → inside_len m (b ∷ c ∷ bs) ≡ option_map (λ n. n + 2) (inside_len m bs)
+pub inside_double : (m b c : ℕ) (bs : List ℕ) → (b == m) ≡ true → (c == m) ≡ true → inside_len m (b ∷ c ∷ bs) ≡ option_map (λ n. n + 2) (inside_len m bs)
 inside_double m b c bs e f =
     ap (λ t. cond t (cond (c == m) (option_map (λ n. n + 2) (inside_len m bs)) (Some 0)) (option_map (λ n. n + 1) (inside_len m (c ∷ bs)))) e
     ∙ ap (λ t. cond t (option_map (λ n. n + 2) (inside_len m bs)) (Some 0)) f
@@ -51,7 +51,7 @@ ends m b len rest after read split mark single =
 
 -- ---- two marks for one
 
-undoubled_plain : (m b : ℕ) (bs : List ℕ) → (b == m) ≡ false → undoubled m (b ∷ bs) ≡ b ∷ undoubled m bs
+pub undoubled_plain : (m b : ℕ) (bs : List ℕ) → (b == m) ≡ false → undoubled m (b ∷ bs) ≡ b ∷ undoubled m bs
 undoubled_plain m b [] e = refl
 undoubled_plain m b (c ∷ bs) e = ap (λ t. cond (t && (c == m)) (m ∷ undoubled m bs) (b ∷ undoubled m (c ∷ bs))) e
 
@@ -83,7 +83,7 @@ undoubled_mark m b [] e f = refl
 undoubled_mark m b (c ∷ bs) e f =
     ap (λ t. cond (t && (c == m)) (m ∷ undoubled m bs) (b ∷ undoubled m (c ∷ bs))) e ∙ ap (λ t. cond t (m ∷ undoubled m bs) (b ∷ undoubled m (c ∷ bs))) (f c bs refl)
 
-undoubled_double : (m b c : ℕ) (bs : List ℕ) → (b == m) ≡ true → (c == m) ≡ true → undoubled m (b ∷ c ∷ bs) ≡ b ∷ undoubled m bs
+pub undoubled_double : (m b c : ℕ) (bs : List ℕ) → (b == m) ≡ true → (c == m) ≡ true → undoubled m (b ∷ c ∷ bs) ≡ b ∷ undoubled m bs
 undoubled_double m b c bs e f =
     ap (λ t. cond (t && (c == m)) (m ∷ undoubled m bs) (b ∷ undoubled m (c ∷ bs))) e ∙ ap (λ t. cond t (m ∷ undoubled m bs) (b ∷ undoubled m (c ∷ bs))) f
     ∙ ap (λ x. x ∷ undoubled m bs) (sym (eqb-true b m e))
@@ -133,7 +133,7 @@ turn m n text rest after b left read run split step =
     ∙ ap (λ x. take n rest ++ undoubled m x) split ∙ ap (λ x. take n rest ++ x) step ∙ sym (append_assoc (take n rest) (b ∷ []) (undoubled m left))
     ∙ ap (λ x. x ++ undoubled m left) (sym (written m n rest after b split))) ∙ sym (append_assoc text (take (n + 1) rest) (undoubled m left))
 
-next_cons : (m : ℕ) (after : List ℕ) → next_is m after ≡ true → after ≡ m ∷ drop 1 after
+pub next_cons : (m : ℕ) (after : List ℕ) → next_is m after ≡ true → after ≡ m ∷ drop 1 after
 next_cons m [] h = absurd cc
 next_cons m (c ∷ after) h = ap (λ x. x ∷ after) (eqb-true c m h)
 

@@ -69,7 +69,7 @@ name_piece bs (Some n) = if is_utf8 (take n bs) then p.Token (k.Quoted (undouble
 abbrev pub comment_at : List ℕ → Piece
 comment_at bs = let n = prefix_len (λ b. not (b == 10)) bs in if is_utf8 (take n bs) then p.Passed n else p.Broken
 
--- the longest piece that begins with the byte b, before the bytes bs
+-- The longest piece that begins with the byte b, before the bytes bs. By the law `longest_pieces` no longer front has a form.
 unfoldable pub piece_at : ℕ → List ℕ → Piece
 piece_at b bs =
     if is_blank b then p.Passed 0
