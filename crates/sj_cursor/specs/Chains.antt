@@ -1,55 +1,75 @@
--- Plain paths: the root or `@` and, behind it, accessors of members, in lax mode. Private clauses alone cite this; it is proved to be what `Meaning` says.
+-- Plain paths: the root or `@` and, behind it, accessors of members and of all elements, in lax mode. Private clauses alone cite this; it is proved to be what `Meaning` says.
 use Rattle.std.specs.Prelude.{◌≡◌, ◌≤◌, ℕ, Bool, List, [], ◌∷◌, map, None, if◌then◌else◌}
 use Rattle.sj_base.specs.Outside.{raised}
 use Rattle.sj_json.specs.Tree.{NumberedChild}
 use Rattle.sj_doc.specs.Listed.{node_id, node_tree}
-use Rattle.sj_doc.specs.Slots.{texts}
 use Rattle.sj_doc.specs.declared.doc.NodeRef.{NodeRef}
 use Rattle.sj_path_grammar.specs.Tree as t
 use Rattle.sj_path_grammar.specs.declared.tree.Mode.TheVariants.{Lax}
 use Rattle.sj_item.specs.Items.{ItemValue, node}
 use Rattle.sj_step.specs.Trace.{Trace, only, join, each}
-use Rattle.sj_step.specs.Reach.{reach, by_key, unwrap, child_item, every}
+use Rattle.sj_step.specs.Reach.{reach, by_key, all_elements, unwrap, child_item, every}
 use Rattle.sj_cursor.specs.Meaning.{Env, meaning}
 use Rattle.sj_cursor.specs.Cells.{opened}
 use Rattle.sj_cursor.specs.Takers.{Taken, taken_of, taking_cost}
 use Rattle.sj_cursor.specs.declared.cells.Opening.{Opening}
 use Rattle.sj_cursor.specs.declared.chain.Chain.{Chain}
+use Rattle.sj_cursor.specs.declared.chain.Link.{Link}
+use Rattle.sj_cursor.specs.declared.chain.Link.TheVariants as links
 
 abbrev pub node_value : NodeRef → ItemValue
 node_value n = node (node_id n) (node_tree n)
 
--- accessors of members on an expression, in order
-abbrev pub accessed : t.Expr → List (List ℕ) → t.Expr
+-- ---- the accessors of a plain path
+
+abbrev pub accessor : Link → t.Step
+accessor (links.Member key) = t.Member key.now
+accessor links.AllElements = t.AllElements
+
+-- accessors on an expression, in order
+abbrev pub accessed : t.Expr → List Link → t.Expr
 accessed e [] = e
-accessed e (key ∷ keys) = accessed (t.Access e (t.Member key)) keys
+accessed e (link ∷ rest) = accessed (t.Access e (accessor link)) rest
+
+-- what one of them gives of one item: a member is also looked for in the elements of an array
+abbrev pub linked : Link → ItemValue → Trace
+linked (links.Member key) x = each (unwrap Lax x) (reach (by_key key.now) Lax)
+linked links.AllElements x = reach all_elements Lax x
 
 -- what they give of one item, where the items at their end are opened
-abbrev pub below : Opening → List (List ℕ) → ItemValue → Trace
+abbrev pub below : Opening → List Link → ItemValue → Trace
 below how [] x = opened how Lax x
-below how (key ∷ keys) x = each (each (unwrap Lax x) (reach (by_key key) Lax)) (below how keys)
+below how (link ∷ rest) x = each (linked link x) (below how rest)
 
--- the same of an item that was unwrapped
-abbrev pub under : Opening → List ℕ → List (List ℕ) → ItemValue → Trace
-under how key keys x = each (reach (by_key key) Lax x) (below how keys)
+-- what a member under a key and the accessors behind it give of an item that was unwrapped
+abbrev pub under : Opening → List ℕ → List Link → ItemValue → Trace
+under how key rest x = each (reach (by_key key) Lax x) (below how rest)
 
 -- all elements of an array, each as its key, its number and its tree
 abbrev pub elements_of : List NumberedChild → Trace
 elements_of elements = every 1 (map child_item elements)
 
--- what the accessors give of the elements of an array
-abbrev pub over : Opening → List ℕ → List (List ℕ) → List NumberedChild → Trace
-over how key keys elements = each (elements_of elements) (under how key keys)
+-- what the same member gives of the elements of an array
+abbrev pub over : Opening → List ℕ → List Link → List NumberedChild → Trace
+over how key rest elements = each (elements_of elements) (under how key rest)
+
+-- what accessors give of the elements of an array
+abbrev pub throughout : Opening → List Link → List NumberedChild → Trace
+throughout how rest elements = each (elements_of elements) (below how rest)
+
+-- ---- what has a chain
 
 -- an expression is a node there, in lax mode
 pub record IsLaxNode (e : t.Expr) (env : Env) (n : NodeRef) : Type 0 where
   pub lax : env.mode ≡ Lax
   pub is : meaning e env ≡ only (node_value n)
 
--- the keys of a plain path
+-- the accessors of a plain path
 pub record IsChainOf (path : t.Path) (chain : Chain) : Type 0 where
   pub lax : path.mode ≡ Lax
-  pub keys : accessed t.Root (texts chain.keys.items) ≡ path.expr
+  pub links : accessed t.Root chain.links.items ≡ path.expr
+
+-- ---- going through a trace
 
 -- A trace was gone through, or its beginning where that was enough, whatever stands behind it.
 pub record Sought (f : Taken) (t : Trace) (g : Taken) (enough : Bool) (steps later : ℕ) : Type 0 where

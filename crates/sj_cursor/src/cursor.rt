@@ -31,7 +31,7 @@ pub struct Cursor<'d> {
     vars: &'d Vars,
     pub(crate) root: Item<'d>,
     cell: Box<Cell<'d>>,
-    // the keys of the path, where it is plain
+    // the accessors of the path, where it is plain
     pub(crate) chain: Option<Chain<'d>>,
     pub(crate) stands: Stands,
 }

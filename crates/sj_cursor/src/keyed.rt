@@ -11,7 +11,7 @@ ghost use Rattle.sj_cursor.specs.PairingsSeen.{PairingSeen};
 ghost use Rattle.sj_cursor.specs.declared.cells.Opening.{Opening as HowOpened};
 
 use crate::cells::{Cell, Each, Opening, Operand, Operator, Simple, Source};
-use crate::chain::{look_below, seek};
+use crate::chain::{Link, look_below, seek};
 use crate::env::Env;
 use crate::look::{Limit, Look};
 use crate::pairing::{Beside, Pairing};
@@ -36,9 +36,9 @@ impl<'d> Keyed<'d> {
         limit: Limit,
         steps: &mut Steps<L>,
     ) -> Look<'d>
-        ensures { Finds limit (below how (self.entry.key.now ∷ []) (node_value self.entry.node)) (look_value result) steps.old steps.new }
+        ensures { Finds limit (below how (Link.Member self.entry.key ∷ []) (node_value self.entry.node)) (look_value result) steps.old steps.new }
     {
-        look_below(how, &[self.key], self.node, limit, steps)
+        look_below(how, &[Link::Member(self.key)], self.node, limit, steps)
     }
 
     /// Their pairs with what stands beside them; with `early`, up to the first true one.
@@ -48,15 +48,15 @@ impl<'d> Keyed<'d> {
         beside: Beside<'_, 'd>,
         steps: &mut Steps<L>,
     ) -> Pairing
-        ensures { PairingSeen early (beside_truth beside.entry) (below Opening.Unwrapped (self.entry.key.now ∷ []) (node_value self.entry.node)) result.found result.doubt steps.old steps.new }
+        ensures { PairingSeen early (beside_truth beside.entry) (below Opening.Unwrapped (Link.Member self.entry.key ∷ []) (node_value self.entry.node)) result.found result.doubt steps.old steps.new }
     {
         let mut gathered = Gathered::nothing();
         let aim = Aim::Pairs(early, beside);
-        let keys = [self.key];
+        let links = [Link::Member(self.key)];
         seek(
             Opening::Unwrapped,
             &aim,
-            &keys,
+            &links,
             self.node,
             &mut gathered,
             steps,
@@ -122,7 +122,7 @@ impl<'d> Each<'d> {
 impl<'d> Operand<'d> {
     /// Its node and key, where it is such an operand and its `$` or `@` is a node.
     pub(crate) fn keyed(&self, env: &Env<'_, 'd>) -> Option<Keyed<'d>>
-        ensures { IfSome result (λ keyed. (how : HowOpened) → operand_whole how (operand_core self.now) (env_value env.now) ≡ below how (keyed.key.now ∷ []) (node_value keyed.node)) }
+        ensures { IfSome result (λ keyed. (how : HowOpened) → operand_whole how (operand_core self.now) (env_value env.now) ≡ below how (Link.Member keyed.key ∷ []) (node_value keyed.node)) }
     {
         let Cell::Each(each) = &*self.cell else {
             return None;

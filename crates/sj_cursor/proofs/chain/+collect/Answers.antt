@@ -1,16 +1,14 @@
 use Rattle.std.proofs.Common.{ap, sym, ◌∙◌}
 use Rattle.sj_path_grammar.specs.Tree as t
-use Rattle.sj_doc.specs.Slots.{texts}
-use Rattle.sj_path_tree.specs.Tree.{expr_of, step_of}
-use Rattle.sj_cursor.specs.Chains.{accessed}
-use Rattle.sj_cursor.proofs.Chains.{key_behind}
+use Rattle.sj_path_tree.specs.Tree.{expr_of}
+use Rattle.sj_cursor.specs.Chains.{accessed, accessor}
+use Rattle.sj_cursor.proofs.Chains.{link_behind}
 use Rattle.sj_cursor.proofs.chain.+collect.Goals as goal
 
-pub returns-in_ok-push-in-Member : goal.returns-in_ok-push-in-Member
-returns-in_ok-push-in-Member n c = λ plain.
-    let e = t.Access (expr_of c.in-Access.inner.value) in
-    ap (λ xs. accessed t.Root (texts xs)) c.in_ok-push-in-Member.ensures.items
-    ∙ key_behind _ c.collect.new.keys.items c.as_str.result (c.in_ok-plain-in-Member.ensures plain ∙ ap expr_of c.deref.ensures)
-    ∙ ap (λ k. e (t.Member k)) c.as_str.ensures.value
-    ∙ sym (ap (λ s. e (step_of s)) c.in-Member.is)
+pub returns-in_ok-push-in-Some : goal.returns-in_ok-push-in-Some
+returns-in_ok-push-in-Some n c = λ plain.
+    ap (accessed t.Root) c.in_ok-push-in-Some.ensures.items
+    ∙ link_behind t.Root c.collect.new.links.items c.in-Some.link
+    ∙ ap (λ e. t.Access e (accessor c.in-Some.link)) (c.in_ok-plain-in-Some.ensures plain ∙ ap expr_of c.deref.ensures)
+    ∙ ap (t.Access (expr_of c.in-Access.inner.value)) c.in-Some.ensures
     ∙ sym (ap expr_of c.in-Access.is)
