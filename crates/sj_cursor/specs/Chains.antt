@@ -1,14 +1,15 @@
--- Plain paths: the root or `@` and, behind it, accessors of members and of all elements, in lax mode. Private clauses alone cite this; it is proved to be what `Meaning` says.
-use Rattle.std.specs.Prelude.{◌≡◌, ◌≤◌, ℕ, Bool, List, [], ◌∷◌, map, None, if◌then◌else◌}
+-- Plain paths: the root or `@` and, behind it, accessors of members, of all elements and of the element at an index, in lax mode. Private clauses alone cite this; it is proved to be what `Meaning` says.
+use Rattle.std.specs.Prelude.{◌≡◌, ◌≤◌, ℕ, Bool, List, [], ◌∷◌, map, Option, Some, None, if◌then◌else◌, pos}
 use Rattle.sj_base.specs.Outside.{raised}
 use Rattle.sj_json.specs.Tree.{NumberedChild}
 use Rattle.sj_doc.specs.Listed.{node_id, node_tree}
 use Rattle.sj_doc.specs.declared.doc.NodeRef.{NodeRef}
 use Rattle.sj_path_grammar.specs.Tree as t
+use Rattle.sj_path_grammar.specs.declared.tree.Literal.TheVariants.{Num}
 use Rattle.sj_path_grammar.specs.declared.tree.Mode.TheVariants.{Lax}
 use Rattle.sj_item.specs.Items.{ItemValue, node}
-use Rattle.sj_step.specs.Trace.{Trace, only, join, each}
-use Rattle.sj_step.specs.Reach.{reach, by_key, all_elements, unwrap, child_item, every}
+use Rattle.sj_step.specs.Trace.{Trace, stop, only, after_visits, join, each}
+use Rattle.sj_step.specs.Reach.{reach, by_key, all_elements, by_range, unwrap, child_item, every, lax_range}
 use Rattle.sj_cursor.specs.Meaning.{Env, meaning}
 use Rattle.sj_cursor.specs.Cells.{opened}
 use Rattle.sj_cursor.specs.Takers.{Taken, taken_of, taking_cost}
@@ -25,6 +26,7 @@ node_value n = node (node_id n) (node_tree n)
 abbrev pub accessor : Link → t.Step
 accessor (links.Member key) = t.Member key.now
 accessor links.AllElements = t.AllElements
+accessor (links.Element index) = t.Elements (t.Only (t.One (t.Lit (Num (pos index, 0)))))
 
 -- accessors on an expression, in order
 abbrev pub accessed : t.Expr → List Link → t.Expr
@@ -35,6 +37,7 @@ accessed e (link ∷ rest) = accessed (t.Access e (accessor link)) rest
 abbrev pub linked : Link → ItemValue → Trace
 linked (links.Member key) x = each (unwrap Lax x) (reach (by_key key.now) Lax)
 linked links.AllElements x = reach all_elements Lax x
+linked (links.Element index) x = reach (by_range (pos index) (pos index)) Lax x
 
 -- what they give of one item, where the items at their end are opened
 abbrev pub below : Opening → List Link → ItemValue → Trace
@@ -56,6 +59,15 @@ over how key rest elements = each (elements_of elements) (under how key rest)
 -- what accessors give of the elements of an array
 abbrev pub throughout : Opening → List Link → List NumberedChild → Trace
 throughout how rest elements = each (elements_of elements) (below how rest)
+
+-- the element of an array at an index, behind the visits up to it; of a shorter array there is nothing
+abbrev pub element : ℕ → List NumberedChild → Trace
+element index elements = lax_range (pos index) (pos index) (map child_item elements)
+
+-- a trace is one node behind n visits, or it is empty
+abbrev pub Reaches : Trace → Option NodeRef → ℕ → ℕ → ℕ → Type 0
+Reaches t None n steps later = (t ≡ stop) × (later ≡ steps)
+Reaches t (Some found) n steps later = (t ≡ after_visits n (only (node_value found))) × (later ≡ raised steps n)
 
 -- ---- what has a chain
 

@@ -1,11 +1,13 @@
-// Plain paths, which are the root or `@` and accessors of members and of all elements behind it, in lax mode. Their items on a node
-// are found without cells.
-ghost use Rattle.std.specs.Prelude.{◌≡◌, [], true, IfOk, IfSome};
+// Plain paths, which are the root or `@` and, behind it, accessors of members, of all elements and of the element at an index, in lax
+// mode. Their items on a node are found without cells.
+ghost use Rattle.std.specs.Prelude.{◌≡◌, ◌+◌, [], ◌∷◌, true, IfOk, IfSome, pos};
+ghost use Rattle.sj_json.specs.Tree.{children, numbered};
+ghost use Rattle.sj_doc.specs.Listed.{node_id, node_tree};
 ghost use Rattle.sj_path_grammar.specs.Tree as tree;
 ghost use Rattle.sj_path_grammar.specs.declared.tree.Mode.TheVariants.{Lax};
-ghost use Rattle.sj_path_tree.specs.Tree.{path_of, expr_of, step_of};
+ghost use Rattle.sj_path_tree.specs.Tree.{path_of, expr_of, step_of, subs_of};
 ghost use Rattle.sj_cursor.specs.Cells.{opened};
-ghost use Rattle.sj_cursor.specs.Chains.{IsChainOf, Sought, node_value, accessor, accessed, below, under, over, throughout, elements_of};
+ghost use Rattle.sj_cursor.specs.Chains.{IsChainOf, Sought, Reaches, node_value, accessor, accessed, below, under, over, throughout, element, elements_of};
 ghost use Rattle.sj_cursor.specs.Looks.{Finds, look_value};
 ghost use Rattle.sj_cursor.specs.Takers.{taken_value};
 
@@ -13,8 +15,9 @@ use crate::cells::Opening;
 use crate::look::{Limit, Look};
 use crate::take::{Aim, Gathered};
 use sj_base::{Ledger, Memory, Steps};
+use sj_decimal::Decimal;
 use sj_doc::{Children, Kind, NodeRef};
-use sj_path_tree::{Expr, Mode, Path, Step};
+use sj_path_tree::{Expr, Literal, Mode, Path, Step, Sub, Subs};
 use std::alloc::Global;
 
 /// An accessor of a plain path.
@@ -24,6 +27,8 @@ pub(crate) enum Link<'d> {
     Member(&'d str),
     /// All elements of an array, and else the item itself.
     AllElements,
+    /// The element of an array at an index. An item that is no array counts as an array of that one item.
+    Element(u32),
 }
 
 /// The accessors of a plain path, in their order.
@@ -107,6 +112,27 @@ fn link_of<'d>(step: &'d Step) -> Option<Link<'d>>
     match step {
         Step::Member(key) => Some(Link::Member(key.as_str())),
         Step::AllElements => Some(Link::AllElements),
+        Step::Elements(subs) => Some(Link::Element(index_in(subs)?)),
+        _ => None,
+    }
+}
+
+// The only subscript of a list, where it is a literal that is an index.
+fn index_in(subs: &Subs) -> Option<u32>
+    ensures { IfSome result (λ index. accessor (Link.Element index) ≡ tree.Elements (subs_of subs.now)) }
+{
+    match subs {
+        Subs::Only(Sub::One(Expr::Lit(Literal::Num(number)))) => index_of(*number),
+        _ => None,
+    }
+}
+
+// A number as an index, where it is a whole one. Any other one is left to the cells, which cut it.
+fn index_of(number: Decimal) -> Option<u32>
+    ensures { IfSome result (λ index. number ≡ (pos index, 0)) }
+{
+    match number.parts() {
+        (whole, 0) => u32::try_from(whole).ok(),
         _ => None,
     }
 }
@@ -134,6 +160,7 @@ pub(crate) fn seek<'d, L: Ledger>(
                 Kind::Array => seek_elements(how, aim, rest, node.children(), gathered, steps),
                 _ => seek(how, aim, rest, node, gathered, steps),
             },
+            Link::Element(index) => seek_element(how, aim, *index, rest, node, gathered, steps),
         },
     }
 }
@@ -174,6 +201,28 @@ fn take_elements<'d, L: Ledger>(
     false
 }
 
+// The element of an array at an index. The elements before it are handed out too, but none is where the array is shorter.
+fn element_at<'d, L: Ledger>(
+    array: NodeRef<'d>,
+    index: u32,
+    steps: &mut Steps<L>,
+) -> Option<NodeRef<'d>>
+    ensures { Reaches (element index (numbered (node_id array.entry + 1) (children (node_tree array.entry)))) result (index + 1) steps.old steps.new }
+{
+    if array.len() <= u64::from(index) {
+        return None;
+    }
+    let mut elements = array.children();
+    let mut before = index;
+    'elements: while let Some(element) = elements.next(steps) {
+        if before == 0 {
+            return Some(element.node);
+        }
+        before -= 1;
+    }
+    None
+}
+
 // What accessors give of the elements of an array.
 #[cycle(seek)]
 fn seek_elements<'d, L: Ledger>(
@@ -192,6 +241,28 @@ fn seek_elements<'d, L: Ledger>(
         }
     }
     false
+}
+
+// What accessors give of the element at an index. An item that is no array has itself at the index 0.
+#[cycle(seek)]
+fn seek_element<'d, L: Ledger>(
+    how: Opening,
+    aim: &Aim<'_, 'd>,
+    index: u32,
+    rest: &[Link<'d>],
+    node: NodeRef<'d>,
+    gathered: &mut Gathered<'d>,
+    steps: &mut Steps<L>,
+) -> bool
+    ensures { Sought (taken_value aim.now gathered.old) (below how (Link.Element index ∷ rest.now) (node_value node.entry)) (taken_value aim.now gathered.new) result steps.old steps.new }
+{
+    match node.kind() {
+        Kind::Array => match element_at(node, index, steps) {
+            Some(element) => seek(how, aim, rest, element, gathered, steps),
+            None => false,
+        },
+        _ => index == 0 && seek(how, aim, rest, node, gathered, steps),
+    }
 }
 
 // What a member under a key and the accessors behind it give of the elements of an array, which is unwrapped.

@@ -40,9 +40,9 @@
 //! **A rewind** sends each cell back to its beginning: no item is at hand, and nothing was given. It takes no memory, so one
 //! cursor serves the items of one row after another, of one line after another. The cells go back when they are first asked.
 //!
-//! **A plain path**, `lax $` and accessors of members and of all elements behind it, needs no cells where a cursor is asked at its
-//! beginning whether there is an item, or which is the only one. `chain.rt` then goes down the document from accessor to accessor.
-//! `specs/Chains.antt` says what is found so.
+//! **A plain path**, `lax $` and behind it accessors of members, `[*]` and subscripts such as `[0]`, needs no cells where a cursor is
+//! asked at its beginning whether there is an item, or which is the only one. `chain.rt` then goes down the document from accessor to
+//! accessor. `specs/Chains.antt` says what is found so.
 //! An operand that is one member of `@` or `$`, as `@.qty` above, is read in the same way for each item that the filter tests: its
 //! cells are asked in strict mode and where the item is no node.
 //!

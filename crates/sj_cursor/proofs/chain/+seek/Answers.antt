@@ -1,8 +1,9 @@
-use Rattle.std.proofs.Common.{false, ap, sym, ◌∙◌}
+use Rattle.std.proofs.Common.{◌≡◌, false, eqb, ap, sym, ◌∙◌, arith}
+use Rattle.std.proofs.lemmas.Bool.Decides.{nat_tests}
 use Rattle.sj_path_grammar.specs.declared.tree.Mode.TheVariants.{Lax}
 use Rattle.sj_step.proofs.Keyed.{fewer}
 use Rattle.sj_cursor.specs.Chains.{over, throughout}
-use Rattle.sj_cursor.proofs.Chains.{first_rest, sought_first, member_array, member_other, elements_array, elements_other, keyed, under_none, under_object, seeking_over, seeking_enough, sought_none, sought_same, element_next, elements_over, member_next, members_over}
+use Rattle.sj_cursor.proofs.Chains.{first_rest, sought_first, member_array, member_other, elements_array, elements_other, sought_element, index_short, index_first, index_none, keyed, under_none, under_object, seeking_over, seeking_enough, sought_none, sought_same, element_next, elements_over, member_next, members_over}
 use Rattle.sj_cursor.proofs.chain.+seek.Goals as goal
 
 pub seek-returns-in-Array : goal.seek-returns-in-Array
@@ -24,6 +25,23 @@ pub seek-returns-in_default-kind : goal.seek-returns-in_default-kind
 seek-returns-in_default-kind g t c =
     sought_first _ _ _ _ _ _ _ _ _ _ _ c.seek.ensures (first_rest _ _ _ c.in-len1-up.len_at_least c.in-AllElements.is)
     (elements_other _ _ _ _ (rw c.kind-in-AllElements.ensures at c.in_default-kind.not-Array))
+
+-- ---- the element at an index
+
+pub seek_element-returns-in-Some : goal.seek_element-returns-in-Some
+seek_element-returns-in-Some g t c = sought_element _ _ _ _ _ _ _ c.in-Some.element _ _ _ _ (sym c.kind.ensures ∙ c.in-Array.is) c.in-Some.ensures c.seek.ensures
+
+pub seek_element-returns-in-None : goal.seek_element-returns-in-None
+seek_element-returns-in-None g t c = rw c.in-None.ensures.1 (sought_none _ _ _ (index_short _ _ _ _ _ (sym c.kind.ensures ∙ c.in-Array.is) c.in-None.ensures.0))
+
+pub seek_element-returns-then-index-eq0 : goal.seek_element-returns-then-index-eq0
+seek_element-returns-then-index-eq0 g t c =
+    sought_same _ _ _ _ _ _ _ c.seek-then-index-eq0.ensures (index_first _ _ _ _ _ (rw c.kind.ensures at c.in_default.not-Array) c.if-index-eq0.true)
+
+pub seek_element-returns-else-index-eq0 : goal.seek_element-returns-else-index-eq0
+seek_element-returns-else-index-eq0 g t c =
+    let behind : eqb c.args.index 0 ≡ false = grind (arith, nat_tests) in
+    rw behind (sought_none _ _ _ (index_none _ _ _ _ _ (rw c.kind.ensures at c.in_default.not-Array) c.if-index-eq0.false))
 
 -- ---- the elements of an array
 

@@ -16,6 +16,9 @@ decreases-seek_under g l = 3 * length l.rest.now + 2
 abbrev pub decreases-seek_members : goal.decreases-seek_members
 decreases-seek_members g l = 3 * length l.rest.now + 1
 
+abbrev pub decreases-seek_element : goal.decreases-seek_element
+decreases-seek_element g l = 3 * length l.rest.now + 1
+
 abbrev pub invariant-seek_elements-elements : goal.invariant-seek_elements-elements
 invariant-seek_elements-elements g l =
     Seeking (taken_value l.aim l.fn.gathered) (throughout l.how l.rest l.initial.elements) (taken_value l.aim l.gathered) (throughout l.how l.rest l.elements) l.fn.steps l.steps
