@@ -14,10 +14,11 @@ use std::marker::Model;
 /// where they stand for the same number.
 #[derive(Clone, Copy)]
 pub struct Decimal {
-    // the widest first, so that no room is lost between them
+    // The unused bytes behind the last two are three and eight. With these two the other way round they would be eleven,
+    // which a processor copies in two parts that overlap, and it waits where it reads such bytes back.
     pub(crate) magnitude: u128,
-    pub(crate) scale: u32,
     pub(crate) negative: bool,
+    pub(crate) scale: u32,
 }
 
 impl Model for Decimal {
