@@ -31,6 +31,7 @@ use std::alloc::Global;
 ///
 /// # Errors
 /// [`Memory`] where memory runs out. What is said of the cursor and of the counter holds then too.
+#[inline(always)]
 pub fn json_value<'d, L: Ledger>(
     alloc: Global,
     cursor: &mut Cursor<'d>,
@@ -53,6 +54,7 @@ pub fn json_value<'d, L: Ledger>(
 }
 
 // The item as a value of the type.
+#[inline(always)]
 fn cast_item<'d>(alloc: Global, item: Item<'d>, spec: &ValueSpec) -> Result<Outcome, Memory>
     requires { IsValueSpec spec.now }
     ensures outcome { IfOk result (λ o. o ≡ value_cast spec.now.on_error (cast_of (item_value item.entry) spec.now.ty)) }

@@ -107,7 +107,7 @@ enum Operand<'d> {
     Structured,
 }
 
-#[inline]
+#[inline(always)]
 fn as_operand<'d>(item: Item<'d>) -> Operand<'d>
     ensures { CastsAs (item_tree (item_value item.entry)) result }
 {
@@ -122,7 +122,7 @@ fn as_operand<'d>(item: Item<'d>) -> Operand<'d>
     }
 }
 
-#[inline]
+#[inline(always)]
 fn node_operand<'d>(node: NodeRef<'d>) -> Operand<'d>
     ensures { CastsAs (node_tree node.entry) result }
 {
@@ -150,6 +150,7 @@ fn spelled(string: &str) -> Result<Decimal, State>
 }
 
 // The number rounded to a whole one.
+#[inline(always)]
 fn whole(number: Decimal) -> Decimal
     ensures { result ≡ (rounded 0 number, 0) }
 {
@@ -162,6 +163,7 @@ fn whole(number: Decimal) -> Decimal
 }
 
 // A whole number, where it is from low to high.
+#[inline(always)]
 fn within(whole: Decimal, low: i128, high: i128) -> Result<Decimal, State>
     requires { whole.1 ≡ 0 }
     ensures { result ≡ whole_within low high whole.0 }

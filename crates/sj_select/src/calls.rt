@@ -50,6 +50,7 @@ impl<'d> ExistsCall<'d> {
 }
 
 impl<'d> ValueCall<'d> {
+    #[inline(always)]
     pub(crate) fn outcome<L: Ledger>(
         &mut self,
         alloc: Global,
