@@ -8,6 +8,7 @@ import random
 SEED = 20161215
 ELEMENTS = 1_000_000
 WIDTH = 30
+DEPTH = 32
 NAMES = ["Ann", "Bo", "Chloé", "Dmitri", "Eun-ji", "Fatima", "Gábor", "Hana"]
 LONGEST = 16_777_216  # bytes of the longest line that the program reads
 WORDS = ["lorem", "ipsum", "dolor", "sit", "amet", "consectetur", "adipiscing", "elit", "größer", "naïve"]
@@ -114,6 +115,16 @@ def mixed(values, number):
     if kind == 1:
         return f"[{whole}]"
     return values.scalar() if kind == 2 else whole[: 1 + int(values.chance.random() * (len(whole) - 1))]
+
+
+def small(_values, number):
+    """A line of seven bytes: an object of one member, a digit."""
+    return f'{{"a":{number % 10}}}'
+
+
+def deep(_values, number):
+    """A leaf behind 32 members `a`, each of them behind another member."""
+    return '{"k":1,"a":' * DEPTH + f'{{"leaf":{number}}}' + "}" * DEPTH
 
 
 KINDS = {

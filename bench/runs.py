@@ -21,7 +21,8 @@ class Tool:
 
     name: str
     words: list
-    seconds: list = field(default_factory=list)
+    seconds: list = field(default_factory=list)  # by the clock
+    busy: list = field(default_factory=list)  # seconds of processor time
     peak: int = 0  # kilobytes
 
 
@@ -52,6 +53,17 @@ def with_orjson(loop):
     return Tool("orjson", [sys.executable, str(HERE / "with_orjson.py"), loop])
 
 
+def build_with_simdjson(room):
+    """The program with the loops over simdjson's DOM, built in the room, or None where simdjson's headers or a compiler are missing."""
+    program, source = Path(room, "with_simdjson"), HERE / "with_simdjson.cpp"
+    words = ["c++", "-O3", "-std=c++17", "-o", str(program), str(source), "-lsimdjson"]
+    try:
+        built = subprocess.run(words, capture_output=True).returncode == 0
+    except OSError:
+        built = False
+    return program if built else None
+
+
 def measure(tool, corpus, answers):
     """Runs a tool once over a corpus, and notes its time and its peak of memory."""
     with open(corpus, "rb") as given, open(answers, "wb") as wrote:
@@ -63,7 +75,10 @@ def measure(tool, corpus, answers):
             tool.peak = max(tool.peak, peak_of(ran.pid))
         tool.seconds.append(time.perf_counter() - begun)
         os.close(ended)
-    if ran.wait():
+    _, status, took = os.wait4(ran.pid, 0)
+    ran.returncode = os.waitstatus_to_exitcode(status)
+    tool.busy.append(took.ru_utime + took.ru_stime)
+    if ran.returncode:
         sys.exit(f"{tool.name} ended with status {ran.returncode}")
 
 
@@ -77,9 +92,10 @@ def peak_of(process):
 
 
 def tell(found, written):
-    """Prints what the runs of the tools took on a corpus of this many bytes. The first tool is the program."""
-    print(f"  {'':10}{'MB/s':>10}{'sqljson/it':>12}{'peak MB':>10}")
-    own = statistics.median(found[0].seconds)
+    """Prints what the runs of the tools took on a corpus of this many bytes. The first tool is the program. Its speed is told beside that
+    of each other by the medians of the times by the clock, and by the least of the processor times."""
+    print(f"  {'':10}{'MB/s':>10}{'sqljson/it':>12}{'processor':>11}{'peak MB':>10}")
+    own, own_busy = statistics.median(found[0].seconds), min(found[0].busy)
     for tool in found:
-        seconds = statistics.median(tool.seconds)
-        print(f"  {tool.name:10}{written / MEGABYTE / seconds:10.1f}{seconds / own:12.2f}{tool.peak / 1000:10.1f}")
+        seconds, busy = statistics.median(tool.seconds), min(tool.busy)
+        print(f"  {tool.name:10}{written / MEGABYTE / seconds:10.1f}{seconds / own:12.2f}{busy / own_busy:11.2f}{tool.peak / 1000:10.1f}")

@@ -2,8 +2,8 @@
 
 Each loop writes the rows that the program writes for its statement, byte for byte: the line's number, the statement's,
 which is 1, `R` and the values, or `E` and the SQLSTATE. A loop is made for the lines that corpora.py writes, as one
-would write it by hand for a known input: `member` for lines that are objects, `is_json` for any lines, and the others
-for orders, which have all their members.
+would write it by hand for a known input: `member` for lines that are objects, `is_json` for any lines, `wide`, `small`
+and `deep` for lines of these kinds, and the others for orders, which have all their members.
 """
 import sys
 
@@ -59,6 +59,31 @@ def aggregate(lines, write):
             write(b"%d\t1\tR\t%s\t%s\n" % (number, json([item["sku"] for item in items]), json(pieces)))
 
 
+def exists(lines, write):
+    for number, line in enumerate(lines, 1):
+        write(b"%d\t1\tR\t%s\n" % (number, b"TRUE" if "name" in loads(line)["customer"] else b"FALSE"))
+
+
+def wide(lines, write):
+    for number, line in enumerate(lines, 1):
+        found = loads(line)
+        a, b = (text(found[key]) if key in found else "\\N" for key in "ab")
+        write(f"{number}\t1\tR\t{a}\t{b}\n".encode())
+
+
+def small(lines, write):
+    for number, line in enumerate(lines, 1):
+        write(b"%d\t1\tR\t%d\n" % (number, loads(line)["a"]))
+
+
+def deep(lines, write):
+    for number, line in enumerate(lines, 1):
+        found = loads(line)
+        while "a" in found:
+            found = found["a"]
+        write(b"%d\t1\tR\t%d\n" % (number, found["leaf"]))
+
+
 def text(value):
     """A text as it stands in a row. (On short texts `translate` takes longer.)"""
     return value.replace("\\", "\\\\").replace("\t", "\\t").replace("\n", "\\n").replace("\r", "\\r")
@@ -89,7 +114,7 @@ def kind_of(line):
     return OBJECT if found is dict else ARRAY if found is list else SCALAR
 
 
-LOOPS = {loop.__name__: loop for loop in (member, value, query, table, is_json, aggregate)}
+LOOPS = {loop.__name__: loop for loop in (member, exists, value, query, table, is_json, aggregate, wide, small, deep)}
 
 
 if __name__ == "__main__":
