@@ -26,6 +26,7 @@ ROOMS = TOP / "crates" / PROGRAM / "out" / "rooms"
 SOURCES = ["src", "specs", "proofs"]
 MADE = ["rlib", "incremental"]  # the library, and what a check of it can begin with
 EACH_TAKES = 3_000_000_000  # bytes of memory for a crate that is being proved: about 1.2 GB for each of two jobs, and some to spare
+PATIENCE = 10  # how much later, by `nice`, the processors come to a proof that the longest chain does not wait for
 PAUSE = 0.2  # seconds
 SHOWN = 20  # lines of a failed proof
 
@@ -79,10 +80,11 @@ class Proofs:
         return [it for it in self.left if self.done.issuperset(self.below[it])]
 
     def start(self, crate):
-        """Starts the proof of a crate: with all processors if the longest chain waits for it, else with half of them."""
+        """Starts the proof of a crate: with all processors if the longest chain waits for it, else with half of them and behind the others."""
         is_next = all(self.behind[it] <= self.behind[crate] for it in self.running)
         self.left.remove(crate)
-        self.running[crate] = Room(crate, self.below[crate], processors() if is_next else max(1, processors() // 2))
+        jobs, patience = (processors(), 0) if is_next else (max(1, processors() // 2), PATIENCE)
+        self.running[crate] = Room(crate, self.below[crate], jobs, patience)
 
     def end(self, crate, room):
         close(crate)
@@ -99,7 +101,7 @@ class Proofs:
 class Room:
     """A small repository in which a crate is proved: the crate's files and those of the crates below it, with their libraries."""
 
-    def __init__(self, crate, below, jobs):
+    def __init__(self, crate, below, jobs, patience):
         self.began = time.monotonic()
         self.crate, self.folder, self.log = crate, ROOMS / crate, ROOMS / f"{crate}.log"
         for it in [*below, crate]:
@@ -109,7 +111,7 @@ class Room:
         (self.folder / "crates.txt").write_text("".join(mine), encoding="utf-8")
         with open(self.log, "wb") as log:
             how = {"cwd": self.folder / "crates" / crate, "stdin": subprocess.DEVNULL, "stdout": log, "stderr": subprocess.STDOUT}
-            self.proof = subprocess.Popen(["rt", "lib", "--jobs", str(jobs)], **how)
+            self.proof = subprocess.Popen(["nice", "-n", str(patience), "rt", "lib", "--jobs", str(jobs)], **how)
 
     def furnish(self, crate):
         """Gives the room the files of a crate as they are now, and what of it was built before."""
