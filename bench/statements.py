@@ -1,3 +1,4 @@
+#!/usr/bin/env python3
 """Measures the built program beside loops over orjson and over simdjson's DOM, statement by statement.
 
 usage, at the top: bench/statements.py [--only NAME]
