@@ -25,8 +25,11 @@ PROGRAM = "sqljson"
 ROOMS = TOP / "crates" / PROGRAM / "out" / "rooms"
 SOURCES = ["src", "specs", "proofs"]
 MADE = ["rlib", "incremental"]  # the library, and what a check of it can begin with
-EACH_TAKES = 3_000_000_000  # bytes of memory for a crate that is being proved: about 1.2 GB for each of two jobs, and some to spare
-PATIENCE = 10  # how much later, by `nice`, the processors come to a proof that the longest chain does not wait for
+EACH_TAKES = 3_000_000_000  # bytes of memory for a crate that is being proved: about 1.5 GB for each of its jobs, and most have one
+MINUTES = {"sj_cursor": 7, "sj_select": 6, "sj_sql": 6, "sj_bind": 5, "sj_path": 3, "sj_table": 3, PROGRAM: 4}  # of processor time, as measured
+MINUTES_OF_OTHERS = 1
+SLACK = 3  # minutes by which a short proof may end later and hold up none of the longest chain
+PATIENCE = 5  # how much later, by `nice`, the processors then come to it
 PAUSE = 0.2  # seconds
 SHOWN = 20  # lines of a failed proof
 
@@ -49,11 +52,11 @@ class Proofs:
         self.left, self.running, self.done = self.in_turn(), {}, set()
 
     def longest_behind(self, stands_on):
-        """How much text each crate has on the longest chain from it up to the program."""
+        """How many minutes the longest chain takes from each crate up to the program."""
         found = {}
         for crate in sorted(self.below, key=lambda it: -len(self.below[it])):
             above = [found[it] for it in found if crate in stands_on[it]]
-            found[crate] = size(crate) + max(above, default=0)
+            found[crate] = MINUTES.get(crate, MINUTES_OF_OTHERS) + max(above, default=0)
         return found
 
     def in_turn(self):
@@ -80,11 +83,13 @@ class Proofs:
         return [it for it in self.left if self.done.issuperset(self.below[it])]
 
     def start(self, crate):
-        """Starts the proof of a crate: with all processors if the longest chain waits for it, else with half of them and behind the others."""
-        is_next = all(self.behind[it] <= self.behind[crate] for it in self.running)
+        """Starts the proof of a crate. One for which the longest chain waits shares all processors. A second job reads all libraries once more, so the rest have
+        one each, and together they fill what is free; those that are short and hold up nothing soon come last."""
+        longest = max(self.behind[it] for it in [*self.left, *self.running])
         self.left.remove(crate)
-        jobs, patience = (processors(), 0) if is_next else (max(1, processors() // 2), PATIENCE)
-        self.running[crate] = Room(crate, self.below[crate], jobs, patience)
+        jobs = processors() if self.behind[crate] == longest else 1
+        can_wait = crate not in MINUTES and longest - self.behind[crate] > SLACK
+        self.running[crate] = Room(crate, self.below[crate], jobs, PATIENCE if can_wait else 0)
 
     def end(self, crate, room):
         close(crate)
@@ -174,19 +179,15 @@ def below(crate, stands_on):
     return found
 
 
-def size(crate):
-    return sum(it.stat().st_size for part in SOURCES for it in (TOP / "crates" / crate / part).rglob("*") if it.is_file())
-
-
 def processors():
     return len(os.sched_getaffinity(0))
 
 
 def lanes():
-    """How many crates are proved at once: one for each processor, where memory lasts. `rt` itself reckons with far more memory for the upper crates than they
-    take, by the lines of all libraries below, and would prove them with one job."""
+    """How many crates are proved at once: two more than there are processors, so that the longest chain does not wait for a place, where memory lasts. `rt`
+    itself reckons with far more memory for the upper crates than they take, by the lines of all libraries below, and would prove them with one job."""
     free = re.search(r"^MemAvailable: +(\d+) kB", Path("/proc/meminfo").read_text(), re.M)
-    return max(1, min(processors(), 1024 * int(free[1]) // EACH_TAKES))
+    return max(1, min(processors() + 2, 1024 * int(free[1]) // EACH_TAKES))
 
 
 def say(what):
