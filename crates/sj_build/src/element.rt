@@ -6,7 +6,6 @@ ghost use Rattle.sj_build.specs.Answers.{RefusesNull};
 ghost use Rattle.sj_text.specs.Rendering.{comma};
 ghost use Rattle.sj_build.specs.Growing.{Extends};
 
-use crate::field::Field;
 use crate::refusal::BuildRefusal;
 use sj_base::{Bytes, Memory, State};
 use sj_text::{Place, string_text};
@@ -24,12 +23,16 @@ pub(crate) fn is_kept(nulls: Nulls, value: &SqlValue) -> bool
 
 // The key of a member that is kept, or `None` where the member is dropped. A key that is no text is refused, whatever
 // the value.
-pub(crate) fn kept_key(field: &Field, nulls: Nulls) -> Result<Option<&str>, BuildRefusal>
-    ensures ok { IfOk result (λ kept. spec.kept_key nulls field.now ≡ Ok (option_map (λ key. key.now) kept)) }
-    ensures refusal { IfErr result (RefusesNull (spec.kept_key nulls field.now)) }
+pub(crate) fn kept_key<'k>(
+    key: &'k SqlValue,
+    value: &SqlValue,
+    nulls: Nulls,
+) -> Result<Option<&'k str>, BuildRefusal>
+    ensures ok { IfOk result (λ kept. spec.kept_key nulls (record { key = key.now; value = value.now }) ≡ Ok (option_map (λ key. key.now) kept)) }
+    ensures refusal { IfErr result (RefusesNull (spec.kept_key nulls (record { key = key.now; value = value.now }))) }
 {
-    match &field.key {
-        SqlValue::Text(key) if is_kept(nulls, &field.value) => Ok(Some(key.as_str())),
+    match key {
+        SqlValue::Text(key) if is_kept(nulls, value) => Ok(Some(key.as_str())),
         SqlValue::Text(_) => Ok(None),
         SqlValue::Null | SqlValue::Num(_, _) | SqlValue::Bool(_) | SqlValue::Json(_) => {
             Err(BuildRefusal::State(State::S22004))

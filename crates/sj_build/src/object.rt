@@ -45,7 +45,7 @@ pub fn json_object(
     let mut place = Place::First;
     text.push(b"{")?;
     for field in fields {
-        if let Some(key) = kept_key(field, nulls)? {
+        if let Some(key) = kept_key(&field.key, &field.value, nulls)? {
             note_lent(&mut keys.noted, key)?;
             lead(&mut text, place)?;
             member_text(&mut text, key, &field.value)?;

@@ -10,7 +10,6 @@ ghost use Rattle.sj_build.specs.Answers.{RefusesAs, RefusesRepeated};
 ghost use Rattle.sj_build.specs.Keys.{owned_keys, noted};
 
 use crate::element::{kept_key, lead, member_text, take_bracket};
-use crate::field::Field;
 use crate::keys::note_copy;
 use crate::refusal::BuildRefusal;
 use indexmap::IndexSet;
@@ -84,20 +83,20 @@ impl ObjectAgg {
         }
     }
 
-    /// Adds a member at the end.
+    /// Adds a member at the end, by its key and its value.
     ///
     /// # Errors
     /// `State` exactly where the member is refused behind those that were added, with its state: 22004 where its key is
     /// no text, as NULL is none, though its value be dropped; and 22030 where with `unique` it is kept and its key is
     /// that of a member kept before it. `Memory` where memory ran out. In both cases nothing has changed.
-    pub fn add(&mut self, field: &Field) -> Result<(), BuildRefusal>
-        ensures stands { (fields : List Field) → StandsForFields fields self.old → OnOk result (StandsForFields (fields ++ field.now ∷ []) self.new) }
-        ensures refusal { (fields : List Field) → StandsForFields fields self.old → IfErr result (RefusesAs (object_value self.old.nulls self.old.unique (fields ++ field.now ∷ []))) }
+    pub fn add(&mut self, key: &SqlValue, value: &SqlValue) -> Result<(), BuildRefusal>
+        ensures stands { (fields : List Field) → StandsForFields fields self.old → OnOk result (StandsForFields (fields ++ record { key = key.now; value = value.now } ∷ []) self.new) }
+        ensures refusal { (fields : List Field) → StandsForFields fields self.old → IfErr result (RefusesAs (object_value self.old.nulls self.old.unique (fields ++ record { key = key.now; value = value.now } ∷ []))) }
         ensures nulls { self.new.nulls ≡ self.old.nulls }
         ensures unique { self.new.unique ≡ self.old.unique }
         ensures err { OnErr result (self.new ≡ self.old) }
     {
-        let Some(key) = kept_key(field, self.nulls)? else {
+        let Some(key) = kept_key(key, value, self.nulls)? else {
             open(&mut self.text)?;
             return Ok(());
         };
@@ -108,7 +107,7 @@ impl ObjectAgg {
             self.place,
             &mut self.keys,
             key,
-            &field.value,
+            value,
         );
         if let Err(refusal) = added {
             self.text.truncate(end);

@@ -3,7 +3,7 @@
 
 use super::cases::expect;
 use sj_base::Text;
-use sj_build::{BuildRefusal, Field, ObjectAgg};
+use sj_build::{BuildRefusal, ObjectAgg};
 use sj_value::{Nulls, SqlValue};
 use std::alloc::Global;
 use std::process::Abort;
@@ -22,11 +22,7 @@ fn value(alloc: Global, word: &str) -> Result<SqlValue, Fail> {
 /// Adds a member of the words on both sides of an equals sign, and says in which state it is refused.
 fn added(alloc: Global, object: &mut ObjectAgg, word: &str) -> Result<&'static str, Fail> {
     let (name, word) = word.split_once('=').ok_or("no equals sign")?;
-    let field = Field {
-        key: value(alloc, name)?,
-        value: value(alloc, word)?,
-    };
-    match object.add(&field) {
+    match object.add(&value(alloc, name)?, &value(alloc, word)?) {
         Ok(()) => Ok("added"),
         Err(BuildRefusal::State(state)) => Ok(state.code()),
         Err(BuildRefusal::Memory) => Err("memory")?,

@@ -3,7 +3,7 @@ use Rattle.std.specs.Prelude.{◌≡◌, List, Option, Some, None, Result, Ok, E
 use Rattle.sj_base.specs.declared.state.State.{State}
 use Rattle.sj_value.specs.declared.value.SqlValue.{SqlValue}
 use Rattle.sj_func.specs.declared.context.Outcome.{Outcome}
-use Rattle.sj_func.specs.declared.context.Outcome.TheVariants.{Raised}
+use Rattle.sj_func.specs.declared.context.Outcome.TheVariants.{Value, Raised}
 use Rattle.sj_build.specs.SoFar.{StandsForValues, StandsForFields}
 use Rattle.sj_build.specs.declared.field.Field.{Field}
 use Rattle.sj_bound.specs.Bound as b
@@ -17,11 +17,19 @@ use Rattle.sj_select.specs.declared.aggregate.Aggregate.TheVariants as held
 use Rattle.sj_select.specs.declared.aggregate.ArrayCall.{ArrayCall}
 use Rattle.sj_select.specs.declared.aggregate.ObjectCall.{ObjectCall}
 use Rattle.sj_select.specs.declared.finder.Finder.{Finder}
+use Rattle.sj_select.specs.declared.finder.Lent.{Lent}
+use Rattle.sj_select.specs.declared.finder.Lent.TheVariants as lent
 
 -- the operations find the value, and their clauses can be given
 pub record IsFinder (f : Finder) : Type 0 where
   pub finds : steps_of f.operations.items ≡ steps_to (value_of f.value.now)
   pub given : Each CanBeGiven (steps_of f.operations.items)
+
+-- what was found, wherever it stands
+abbrev pub lent_outcome : Lent → Outcome
+lent_outcome (lent.Column v) = Value v.now
+lent_outcome (lent.Made v) = Value v
+lent_outcome (lent.Raised s) = Raised s
 
 -- the clauses of what an aggregate takes can be given
 abbrev pub CanTake : b.Item → Type 0

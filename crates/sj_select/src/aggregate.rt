@@ -15,8 +15,7 @@ use crate::line::LineDoc;
 use crate::stack::Stack;
 use sj_base::{Ledger, Memory, State, Steps};
 use sj_bound::BoundItem;
-use sj_build::{ArrayAgg, BuildRefusal, Field, ObjectAgg};
-use sj_func::Outcome;
+use sj_build::{ArrayAgg, BuildRefusal, ObjectAgg};
 use sj_value::{Nulls, SqlValue};
 use std::alloc::Global;
 use std::mem;
@@ -76,12 +75,13 @@ impl<'d> ArrayCall<'d> {
         ensures ready { IsArrayReady self.new }
         ensures printable { All IsPrintable stack.new.values.items }
     {
-        match self.value.find(alloc, line, columns, stack, steps)? {
-            Outcome::Value(value) => {
-                self.array.add(&value)?;
+        let found = self.value.lend(alloc, line, columns, stack, steps)?;
+        match found.value() {
+            Ok(value) => {
+                self.array.add(value)?;
                 Ok(None)
             }
-            Outcome::Raised(state) => Ok(Some(state)),
+            Err(state) => Ok(Some(state)),
         }
     }
 
@@ -126,15 +126,17 @@ impl<'d> ObjectCall<'d> {
         ensures ready { IsObjectReady self.new }
         ensures printable { All IsPrintable stack.new.values.items }
     {
-        let key = match self.key.find(alloc, line, columns, stack, steps)? {
-            Outcome::Value(key) => key,
-            Outcome::Raised(state) => return Ok(Some(state)),
+        let found_key = self.key.lend(alloc, line, columns, stack, steps)?;
+        let key = match found_key.value() {
+            Ok(key) => key,
+            Err(state) => return Ok(Some(state)),
         };
-        let value = match self.value.find(alloc, line, columns, stack, steps)? {
-            Outcome::Value(value) => value,
-            Outcome::Raised(state) => return Ok(Some(state)),
+        let found_value = self.value.lend(alloc, line, columns, stack, steps)?;
+        let value = match found_value.value() {
+            Ok(value) => value,
+            Err(state) => return Ok(Some(state)),
         };
-        match self.object.add(&Field { key, value }) {
+        match self.object.add(key, value) {
             Ok(()) => Ok(None),
             Err(BuildRefusal::State(state)) => Ok(Some(state)),
             Err(BuildRefusal::Memory) => Err(Memory),

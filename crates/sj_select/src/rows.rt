@@ -1,6 +1,7 @@
 // The rows of a statement for a line.
-ghost use Rattle.std.specs.Prelude.{◌≡◌, [], All, IfOk};
+ghost use Rattle.std.specs.Prelude.{◌≡◌, [], All, IfOk, true};
 ghost use Rattle.sj_value.specs.Values.{IsPrintable};
+ghost use Rattle.sj_table.specs.Series.{done};
 ghost use Rattle.sj_table.specs.Takes.{Spends};
 ghost use Rattle.sj_bound.specs.Bound as b;
 ghost use Rattle.sj_bound.specs.Sound.{IsSound};
@@ -207,6 +208,18 @@ impl<'d> RowsOf<'d> {
         self.stage = Stage::behind(found);
         keep_row(found, &mut self.source.stack);
         Ok(Turn::of(found))
+    }
+
+    /// Whether it is known that no row is left and no state is raised, as it is behind the only row of a statement without a table.
+    /// Where it is not known, `next` tells.
+    #[inline(always)]
+    pub fn is_over(&self) -> bool
+        ensures { result ≡ true → self.now.left ≡ done }
+    {
+        match self.stage {
+            Stage::Ended => true,
+            Stage::Going | Stage::Raised(_) => false,
+        }
     }
 
     /// Takes the row just given, whose values can be printed. Before the first row and after an end it is empty. Then no row is at hand;

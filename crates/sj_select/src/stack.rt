@@ -51,7 +51,10 @@ impl Stack {
         ensures values { self.new.values.items ≡ [] }
         ensures members { self.new.members.items ≡ [] }
     {
-        self.values.clear();
+        // Most often there is nothing to clear.
+        if !self.values.is_empty() {
+            self.values.clear();
+        }
         self.members.clear();
     }
 

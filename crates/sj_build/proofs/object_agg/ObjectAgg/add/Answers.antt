@@ -2,6 +2,7 @@ use Rattle.std.proofs.Common.{◌≡◌, is_some, Some, None, Ok, ◌++◌, ◌�
 use Rattle.std.proofs.lemmas.Result.{err_from_is_err_and}
 use Rattle.sj_value.specs.declared.value.SqlValue.TheVariants.{Json}
 use Rattle.sj_build.specs.Answers.{RefusesAs}
+use Rattle.sj_build.specs.declared.field.Field.{Field}
 use Rattle.sj_build.specs.Constructors.{is_kept, kept_key, pair_text, member_text, object_text, object_value}
 use Rattle.sj_text.specs.Rendering.{comma}
 use Rattle.sj_build.specs.Growing.{opening}
@@ -15,7 +16,7 @@ use Rattle.sj_build.proofs.object_agg.ObjectAgg.add.Goals as goal
 pub returns-in_err-key-clause-refusal : goal.returns-in_err-key-clause-refusal
 returns-in_err-key-clause-refusal c =
     let s = c.self.inside in
-    let field = c.args.field.now in
+    let field : Field = record { key = c.args.key.now; value = c.args.value.now } in
     let p = err_from_is_err_and c.from_residual.result c.from_residual.ensures.1 in
     λ fields stand.
     let old = subst (StandsForFields fields) (sym c.self.view_is) stand in
@@ -25,7 +26,7 @@ returns-in_err-key-clause-refusal c =
 pub returns-in_default-clause-stands : goal.returns-in_default-clause-stands
 returns-in_default-clause-stands c =
     let s = c.self.inside in
-    let field = c.args.field.now in
+    let field : Field = record { key = c.args.key.now; value = c.args.value.now } in
     let dropped : kept_key s.nulls field ≡ Ok None = c.in_ok-key.ensures.ok ∙ ap shown c.in_default.is in
     λ fields stand.
     let old = subst (StandsForFields fields) (sym c.self.view_is) stand in
@@ -37,7 +38,7 @@ returns-in_default-clause-stands c =
 pub returns-in-Err-clause-refusal : goal.returns-in-Err-clause-refusal
 returns-in-Err-clause-refusal c =
     let s = c.self.inside in
-    let field = c.args.field.now in
+    let field : Field = record { key = c.args.key.now; value = c.args.value.now } in
     let key = c.in-Some.key.now in
     let kept : kept_key s.nulls field ≡ Ok (Some key) = c.in_ok-key.ensures.ok ∙ ap shown c.in-Some.is in
     λ fields stand.
@@ -48,7 +49,7 @@ returns-in-Err-clause-refusal c =
 pub returns-clause-stands : goal.returns-clause-stands
 returns-clause-stands c =
     let s = c.self.inside in
-    let field = c.args.field.now in
+    let field : Field = record { key = c.args.key.now; value = c.args.value.now } in
     let key = c.in-Some.key.now in
     let kept : kept_key s.nulls field ≡ Ok (Some key) = c.in_ok-key.ensures.ok ∙ ap shown c.in-Some.is in
     let has = has_key s.nulls field key kept in
