@@ -1,5 +1,5 @@
 // The rows of a statement for a line.
-ghost use Rattle.std.specs.Prelude.{◌≡◌, [], All, IfOk, true};
+ghost use Rattle.std.specs.Prelude.{◌≡◌, [], All, IfOk, None, true};
 ghost use Rattle.sj_value.specs.Values.{IsPrintable};
 ghost use Rattle.sj_table.specs.Series.{done};
 ghost use Rattle.sj_table.specs.Takes.{Spends};
@@ -210,11 +210,12 @@ impl<'d> RowsOf<'d> {
         Ok(Turn::of(found))
     }
 
-    /// Whether it is known that no row is left and no state is raised, as it is behind the only row of a statement without a table.
-    /// Where it is not known, `next` tells.
+    /// Whether it is known that no row is left and no state is raised. Of a statement without a table this is always known, so its
+    /// only row is the last that is asked for. Of a table it may be known later: where it is not, `next` tells.
     #[inline(always)]
     pub fn is_over(&self) -> bool
-        ensures { result ≡ true → self.now.left ≡ done }
+        ensures over { result ≡ true → self.now.left ≡ done }
+        ensures alone { (bound_of self.now.bound).table ≡ None → self.now.left ≡ done → result ≡ true }
     {
         match self.stage {
             Stage::Ended => true,

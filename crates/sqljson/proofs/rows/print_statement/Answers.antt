@@ -25,7 +25,7 @@ loop-turn-preserved g c = record {
 pub returns-then-is_over-clause-prints : goal.returns-then-is_over-clause-prints
 returns-then-is_over-clause-prints g c =
     printing_done _ _ _ _ (printing_more _ _ _ _ _ _ _ c.loop-turn.invariant.printing (turn_row _ _ _ _ _ c.as_slice.result.now c.in-Ok.ensures.gives c.in-Row.is (c.as_slice.ensures.value ∙ c.take_row-row.ensures.is) ∙ ap (λ xs. followed_by (row_print c.args.number c.args.statement c.as_slice.result.now) (rows_print c.args.number c.args.statement xs)) (sym c.take_row-row.ensures.left)) c.in-Ok-row.ensures.prints)
-    (ap (rows_print c.args.number c.args.statement) (sym c.give_back.ensures.left ∙ c.is_over.ensures c.if-is_over.true))
+    (ap (rows_print c.args.number c.args.statement) (sym c.give_back.ensures.left ∙ c.is_over.ensures.over c.if-is_over.true))
 
 pub returns-in-Err-clause-prints : goal.returns-in-Err-clause-prints
 returns-in-Err-clause-prints g c = printing_memory _ _ _ _ c.loop-turn.invariant.printing
