@@ -2,13 +2,13 @@
 
 usage, at the top of the repository: python3 -B -m checks.build   (the script `sqljson` calls it)
 
-`rt` lets one command at a time work in a crate's folder and those below it. So each crate is proved in a room of its own, a small repository of the crate and
-those below it with their built libraries, and what was made there then becomes the crate's own `out`, also where the build fails or is interrupted: the
-next one goes on with it. At last `rt run` builds the program, and proves again whatever was changed meanwhile.
+Each crate is proved by `rattle build`, the kit's compiler, which writes what it builds only if the crate is proved: the library of a crate, and the object file
+of the program, which `rattle-link` links. A library holds the statements of its crate and not the proofs, as in the gate, so that the crates above it have less
+to read. Beside each stands a sum of all that it was made from. Where that is the same, also after a build that failed or was interrupted, it is taken again.
 """
 import fcntl
+import hashlib
 import os
-import re
 import shutil
 import signal
 import subprocess
@@ -17,146 +17,92 @@ import time
 from contextlib import contextmanager
 from pathlib import Path
 
-from checks.crates import listed
+from checks.crates import named
+from checks.schedule import Failed, Proof, Schedule, end_of, say
 from checks.times import clock
 
 TOP = Path(__file__).resolve().parent.parent
 PROGRAM = "sqljson"
-ROOMS = TOP / "crates" / PROGRAM / "out" / "rooms"
+OUT = TOP / "crates" / PROGRAM / "out"
+MADE = OUT / "build"
 SOURCES = ["src", "specs", "proofs"]
-MADE = ["rlib", "incremental"]  # the library, and what a check of it can begin with
-EACH_TAKES = 3_000_000_000  # bytes of memory for a crate that is being proved: about 1.5 GB for each of its jobs, and most have one
-MINUTES = {"sj_cursor": 7, "sj_select": 6, "sj_sql": 6, "sj_bind": 5, "sj_path": 3, "sj_table": 3, PROGRAM: 4}  # of processor time, as measured
-MINUTES_OF_OTHERS = 1
-SLACK = 3  # minutes by which a short proof may end later and hold up none of the longest chain
-PATIENCE = 5  # how much later, by `nice`, the processors then come to it
-PAUSE = 0.2  # seconds
-SHOWN = 20  # lines of a failed proof
+TARGET = "x86_64-unknown-linux-gnu"
 
 
-class Failed(Exception):
-    """A crate was not proved, or the program was not built; the log says why."""
-
-    def __init__(self, log):
-        super().__init__()
-        self.log = log
-
-
-class Proofs:
-    """The crates that are to be proved, and those that are being proved or are done."""
+class Kit:
+    """The compiler, its libraries and its linker, which lie beside the command `rt`."""
 
     def __init__(self):
-        stands_on = listed(TOP)
-        self.below = {crate: below(crate, stands_on) for crate in [*below(PROGRAM, stands_on), PROGRAM]}
-        self.behind = self.longest_behind(stands_on)
-        self.left, self.running, self.done = self.in_turn(), {}, set()
+        self.folder = Path(shutil.which("rt")).resolve().parent.parent
+        self.identity = subprocess.run(["rt", "version"], capture_output=True, check=True).stdout
 
-    def longest_behind(self, stands_on):
-        """How many minutes the longest chain takes from each crate up to the program."""
-        found = {}
-        for crate in sorted(self.below, key=lambda it: -len(self.below[it])):
-            above = [found[it] for it in found if crate in stands_on[it]]
-            found[crate] = MINUTES.get(crate, MINUTES_OF_OTHERS) + max(above, default=0)
-        return found
+    def path(self, name):
+        return str(self.folder / name)
 
-    def in_turn(self):
-        """The libraries, those first that the longest chain waits for."""
-        return sorted((it for it in self.below if it != PROGRAM), key=lambda it: -self.behind[it])
+    def words_to_build(self, crate, stands_on, jobs):
+        """The command that proves a crate over the libraries of those below it, and writes what it makes of the crate."""
+        is_program = crate == PROGRAM
+        words = [self.path("bin/rattle"), "build", "--crate-name", crate, "src/main.rt" if is_program else "src/lib.rt"]
+        words += ["--extern", f"std={self.path('rlibs/std.rlib')}", "-L", f"dependency={self.path('rlibs')}", "-L", f"dependency={MADE}"]
+        for name in stands_on:
+            folder = MADE if (TOP / "crates" / name).is_dir() else self.folder / "rlibs"
+            words += ["--extern", f"{name}={folder / name}.rlib"]
+        words += ["--antt-project", self.path("rattle/logic/antt-project.json"), "--logic-built", self.path("logic_built")]
+        words += ["--links", f"{crate}=", "--jobs", str(jobs), "-o", str(made_of(crate))]
+        return [*words, "--toolchain", self.path("toolchain"), "--backend", "llvm"] if is_program else [*words, "--statements"]
 
-    def make(self):
-        """Proves each library once those below it are."""
-        most = lanes()
-        try:
-            while self.left or self.running:
-                for crate in self.ready()[: most - len(self.running)]:
-                    self.start(crate)
-                time.sleep(PAUSE)
-                for crate in [it for it, room in self.running.items() if room.proof.poll() is not None]:
-                    self.end(crate, self.running.pop(crate))
-        finally:
-            for crate, room in self.running.items():
-                room.proof.terminate()
-                room.proof.wait()
-                close(crate)
-
-    def ready(self):
-        return [it for it in self.left if self.done.issuperset(self.below[it])]
-
-    def start(self, crate):
-        """Starts the proof of a crate. One for which the longest chain waits shares all processors. A second job reads all libraries once more, so the rest have
-        one each, and together they fill what is free; those that are short and hold up nothing soon come last."""
-        longest = max(self.behind[it] for it in [*self.left, *self.running])
-        self.left.remove(crate)
-        jobs = processors() if self.behind[crate] == longest else 1
-        can_wait = crate not in MINUTES and longest - self.behind[crate] > SLACK
-        self.running[crate] = Room(crate, self.below[crate], jobs, PATIENCE if can_wait else 0)
-
-    def end(self, crate, room):
-        close(crate)
-        if room.proof.returncode:
-            raise Failed(room.log)
-        self.done.add(crate)
-        self.tell(f"{crate} {'is proved, in ' + clock(room.age()) if room.has_proved() else 'was proved before'}")
-        room.log.unlink()
-
-    def tell(self, what):
-        say(f"{len(self.done)} of {len(self.below)}: {what}")
+    def words_to_link(self, program):
+        words = [self.path("bin/rattle-link"), "--target", TARGET, "--toolchain", self.path("toolchain"), "-o", str(program), str(made_of(PROGRAM))]
+        return [*words, *(self.path(f"c/{name}.a") for name in ("libos_c", "liblibc_c"))]
 
 
-class Room:
-    """A small repository in which a crate is proved: the crate's files and those of the crates below it, with their libraries."""
+class Crates:
+    """What each crate is made from, and what was made of it."""
 
-    def __init__(self, crate, below, jobs, patience):
-        self.began = time.monotonic()
-        self.crate, self.folder, self.log = crate, ROOMS / crate, ROOMS / f"{crate}.log"
-        for it in [*below, crate]:
-            self.furnish(it)
-        lines = (TOP / "crates.txt").read_text(encoding="utf-8").splitlines(keepends=True)
-        mine = [line for line in lines if re.split(r"[\s:]", line)[0] in {*below, crate}]
-        (self.folder / "crates.txt").write_text("".join(mine), encoding="utf-8")
-        with open(self.log, "wb") as log:
-            how = {"cwd": self.folder / "crates" / crate, "stdin": subprocess.DEVNULL, "stdout": log, "stderr": subprocess.STDOUT}
-            self.proof = subprocess.Popen(["nice", "-n", str(patience), "rt", "lib", "--jobs", str(jobs)], **how)
+    def __init__(self, kit):
+        self.kit, self.stands_on, self.sums = kit, named(TOP), {}
 
-    def furnish(self, crate):
-        """Gives the room the files of a crate as they are now, and what of it was built before."""
-        own, room = TOP / "crates" / crate, self.folder / "crates" / crate
-        for part in SOURCES:
-            if (own / part).is_dir():
-                shutil.copytree(own / part, room / part)
-        with held(own):
-            for part in MADE if crate == self.crate else MADE[:1]:
-                if (own / "out" / part).is_dir():
-                    shutil.copytree(own / "out" / part, room / "out" / part, copy_function=link)
+    def sum_of(self, crate):
+        """The sum of all that a crate is proved from: the kit, the crate's line of crates.txt, its files, and the same of the crates below it."""
+        found = hashlib.sha256(self.kit.identity)
+        for name in self.stands_on[crate]:
+            found.update(f"\n{name} {self.sums.get(name, '')}".encode())
+        folder = TOP / "crates" / crate
+        for path in sorted(path for part in SOURCES for path in (folder / part).rglob("*") if path.is_file()):
+            text = path.read_bytes()
+            found.update(f"\n{path.relative_to(folder)} {len(text)}\n".encode() + text)
+        return found.hexdigest()
 
-    def has_proved(self):
-        return b"logic=proved" in self.log.read_bytes()
+    def start(self, crate, jobs, patience):
+        """Starts the proof of a crate, unless what stands there was made from the same."""
+        self.sums[crate] = self.sum_of(crate)
+        if made_of(crate).exists() and read(stamp_of(crate)) == self.sums[crate]:
+            return None
+        stamp_of(crate).unlink(missing_ok=True)
+        words = self.kit.words_to_build(crate, self.stands_on[crate], jobs)
+        return Proof(crate, words, TOP / "crates" / crate, MADE / f"{crate}.log", patience)
 
-    def age(self):
-        return time.monotonic() - self.began
-
-
-def close(crate):
-    """Makes what was built in the room of a crate the crate's own, and removes the room. A library is whole once it has a stamp."""
-    own, made = TOP / "crates" / crate, ROOMS / crate / "crates" / crate / "out"
-    with held(own):
-        for part, sign in zip(MADE, ["stamp", ""]):
-            if (made / part / sign).exists():
-                shutil.rmtree(own / "out" / part, ignore_errors=True)
-                (own / "out").mkdir(exist_ok=True)
-                (made / part).rename(own / "out" / part)
-    shutil.rmtree(ROOMS / crate, ignore_errors=True)
+    def keep(self, proof):
+        """Puts down the sum of what was made. Where a file was changed meanwhile, the next build makes it again."""
+        if proof.command.returncode == 0 and self.sum_of(proof.crate) == self.sums[proof.crate]:
+            stamp_of(proof.crate).write_text(self.sums[proof.crate], encoding="utf-8")
 
 
-def link(one, other):
-    """Gives what was built a second name: `rt` replaces such files and does not write into them. Its small notes, into which it may write, are copied."""
-    is_fixed = one.endswith(".oantt") or f"{os.sep}rlib{os.sep}" in one
-    (os.link if is_fixed else shutil.copy2)(one, other)
+def made_of(crate):
+    return MADE / (f"{crate}.o" if crate == PROGRAM else f"{crate}.rlib")
+
+
+def stamp_of(crate):
+    return MADE / f"{crate}.sum"
+
+
+def read(file):
+    return file.read_text(encoding="utf-8") if file.exists() else None
 
 
 @contextmanager
 def held(folder):
-    """Waits until no `rt` works in the folder, and keeps others out."""
+    """Waits until no other command works in the folder, and keeps others out."""
     opened = os.open(folder, os.O_RDONLY)
     try:
         try:
@@ -169,64 +115,43 @@ def held(folder):
         os.close(opened)
 
 
-def below(crate, stands_on):
-    """All crates that a crate stands on."""
-    found, left = set(), [crate]
-    while left:
-        new = set(stands_on[left.pop()]) - found
-        found |= new
-        left += new
-    return found
-
-
-def processors():
-    return len(os.sched_getaffinity(0))
-
-
-def lanes():
-    """How many crates are proved at once: two more than there are processors, so that the longest chain does not wait for a place, where memory lasts. `rt`
-    itself reckons with far more memory for the upper crates than they take, by the lines of all libraries below, and would prove them with one job."""
-    free = re.search(r"^MemAvailable: +(\d+) kB", Path("/proc/meminfo").read_text(), re.M)
-    return max(1, min(processors() + 2, 1024 * int(free[1]) // EACH_TAKES))
-
-
-def say(what):
-    print(f"sqljson: {what}", file=sys.stderr, flush=True)
-
-
-def build_program():
-    """Builds the program over the libraries. `rt run` also runs it: over a file without statements it writes nothing."""
-    log = ROOMS / f"{PROGRAM}.log"
+def link(kit):
+    """Links the program, and puts it in its place once it is whole."""
+    linked = MADE / PROGRAM
+    log = MADE / f"{PROGRAM}.log"
     with open(log, "wb") as said:
-        how = {"cwd": TOP / "crates" / PROGRAM, "stdin": subprocess.DEVNULL, "stdout": said, "stderr": subprocess.STDOUT}
-        if subprocess.run(["rt", "run", "--jobs", str(processors()), "--", "run", os.devnull], **how).returncode:
+        if subprocess.run(kit.words_to_link(linked), stdin=subprocess.DEVNULL, stdout=said, stderr=subprocess.STDOUT).returncode:
             raise Failed(log)
+    log.unlink()
+    linked.replace(OUT / PROGRAM)
 
 
 def build():
     began = time.monotonic()
-    ROOMS.mkdir(parents=True, exist_ok=True)
-    with held(ROOMS):
-        for crate in listed(TOP):
-            if (ROOMS / crate).is_dir():
-                close(crate)
-        proofs = Proofs()
-        proofs.make()
-        build_program()
-        proofs.done.add(PROGRAM)
-        proofs.tell(f"the program is proved and built, {clock(time.monotonic() - began)} after the build began")
+    kit = Kit()
+    MADE.mkdir(parents=True, exist_ok=True)
+    with held(MADE):
+        crates = Crates(kit)
+        Schedule(TOP, PROGRAM, with_program=True).prove(crates.start, crates.keep)
+        link(kit)
+        say(f"the program is proved and built, {clock(time.monotonic() - began)} after the build began")
 
 
-def main():
-    signal.signal(signal.SIGTERM, lambda *_: signal.raise_signal(signal.SIGINT))
+def interrupt(*_):
+    raise KeyboardInterrupt
+
+
+def main(work=build):
+    for it in (signal.SIGINT, signal.SIGTERM, signal.SIGHUP):
+        if signal.getsignal(it) != signal.SIG_IGN:  # as under nohup
+            signal.signal(it, interrupt)
     try:
-        build()
+        work()
     except KeyboardInterrupt:
         say("the build was interrupted, and the next one goes on from here")
         return 1
     except Failed as failed:
-        print(*failed.log.read_text(errors="replace").splitlines()[-SHOWN:], sep="\n", file=sys.stderr)
-        say(f"{failed.log.stem} is not proved, so the program was not built; the whole log is {failed.log}")
+        end_of(failed)
         return 1
     return 0
 
