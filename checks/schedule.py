@@ -91,11 +91,12 @@ class Schedule:
         return [it for it in self.left if self.done.issuperset(self.below[it])]
 
     def start(self, crate, start):
-        """Starts the proof of a crate. One for which the longest chain waits shares all processors. A second job reads all libraries once more, so the rest have
-        one each, and together they fill what is free; those that are short and hold up nothing soon come last."""
-        longest = max(self.behind[it] for it in [*self.left, *(proof.crate for proof in self.running)])
+        """Starts the proof of a crate. A second job reads all libraries once more, so most have one, and together they fill the processors. One for which the
+        longest chain waits has two, or as many as no other proof would take. Those that are short and hold up nothing soon come last."""
         self.left.remove(crate)
-        jobs = processors() if self.behind[crate] == longest else 1
+        longest = max(self.behind[it] for it in [crate, *self.left, *(proof.crate for proof in self.running)])
+        beside = len(self.running) + len(self.ready())
+        jobs = max(min(2, processors()), processors() - beside) if self.behind[crate] == longest else 1
         can_wait = crate not in MINUTES and longest - self.behind[crate] > SLACK
         proof = start(crate, jobs, PATIENCE if can_wait else 0)
         if proof:
