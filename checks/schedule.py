@@ -32,7 +32,7 @@ class Proof:
     def __init__(self, crate, words, folder, log, patience):
         self.began, self.crate, self.log = time.monotonic(), crate, log
         with open(log, "wb") as said:
-            how = {"cwd": folder, "stdin": subprocess.DEVNULL, "stdout": said, "stderr": subprocess.STDOUT, "start_new_session": True}
+            how = {"cwd": folder, "stdin": subprocess.DEVNULL, "stdout": said, "stderr": subprocess.STDOUT, "process_group": 0}
             self.command = subprocess.Popen(["nice", "-n", str(patience), *words], **how)
 
     def has_ended(self):
@@ -96,7 +96,7 @@ class Schedule:
         self.left.remove(crate)
         longest = max(self.behind[it] for it in [crate, *self.left, *(proof.crate for proof in self.running)])
         beside = len(self.running) + len(self.ready())
-        jobs = max(min(2, processors()), processors() - beside) if self.behind[crate] == longest else 1
+        jobs = max(min(3, processors()), processors() - beside) if self.behind[crate] == longest else 1
         can_wait = crate not in MINUTES and longest - self.behind[crate] > SLACK
         proof = start(crate, jobs, PATIENCE if can_wait else 0)
         if proof:

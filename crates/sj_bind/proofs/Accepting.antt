@@ -6,7 +6,7 @@ use Rattle.std.proofs.lemmas.Bool.Decides.{nat_tests}
 use Rattle.std.proofs.lemmas.List.Elements.{All-nil, All-cons, All-append}
 use Rattle.sj_path_grammar.specs.declared.refusal.Name.{Name}
 use Rattle.sj_path_grammar.specs.declared.refusal.Name.TheVariants as lacks
-use Rattle.sj_path_grammar.specs.Tree.{Path}
+use Rattle.sj_path_tree.specs.Tree.{Path}
 use Rattle.sj_value.specs.declared.types.SqlType.TheVariants as types
 use Rattle.sj_value.specs.Types.{AreDigits, IsCastType}
 use Rattle.sj_sql_token.specs.declared.token.Token.TheVariants as k

@@ -4,7 +4,7 @@ use Rattle.std.specs.Borrow.{Bor}
 use Rattle.sj_sql_tree.specs.declared.tree.SValue.{SValue}
 use Rattle.sj_sql_tree.specs.declared.tree.Column.{Column}
 use Rattle.sj_path_tree.specs.declared.tree.Path.{Path}
-use Rattle.sj_path_tree.specs.Tree.{path_of}
+use Rattle.sj_path_tree.specs.View.{path_of}
 use Rattle.sj_sql_tree.specs.View.{svalue_of, column_of}
 use Rattle.sj_bind.specs.declared.parts.Call.{Call}
 use Rattle.sj_bind.specs.PartsView.{call_of, calls_of, keys_of, columns_at, paths_at}

@@ -1,6 +1,6 @@
 -- The columns and the paths of a table, with and without their numbers.
 use Rattle.std.proofs.Common.{◌≡◌, ℕ, ◌+◌, List, [], ◌∷◌, ◌++◌, length, refl, ap, ◌∙◌}
-use Rattle.sj_path_grammar.specs.Tree.{Path}
+use Rattle.sj_path_tree.specs.Tree.{Path}
 use Rattle.sj_sql_grammar.specs.Tree.{ColumnOf, Ordinality, Regular, Formatted, Existence, Nested, Columns, Last, More}
 use Rattle.sj_bind.specs.Leaves.{leaves_in, leaves}
 use Rattle.sj_bind.specs.Paths.{TablePath, paths_in}

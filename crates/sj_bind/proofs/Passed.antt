@@ -3,7 +3,7 @@ use Rattle.std.proofs.Common.{◌≡◌, ℕ, Bool, true, false, ◌||◌, List,
 use Rattle.std.specs.List.{list_any}
 use Rattle.std.specs.Str.{bytes_eq}
 use Rattle.sj_path_tree.specs.Vars.{Variables, has_name}
-use Rattle.sj_path_grammar.specs.declared.tree.Literal.{Literal}
+use Rattle.sj_path_tree.specs.declared.parts.Literal.{Literal}
 use Rattle.sj_sql_grammar.specs.declared.clauses.Passed.{Passed}
 use Rattle.sj_bind.specs.Clauses.{passed, passed_names}
 use Rattle.sj_bind.specs.Tables.{has_twice}

@@ -3,8 +3,8 @@ use Rattle.std.proofs.Common.{◌≡◌, ℕ, Bool, true, false, cond, is_err, u
 use Rattle.std.specs.Result.{result_ok}
 use Rattle.sj_decimal.specs.declared.arithmetic.NumFault.{NumFault}
 use Rattle.sj_decimal.specs.Rounding.{rounded_within}
-use Rattle.sj_path_grammar.specs.declared.tree.Literal.{Literal}
-use Rattle.sj_path_grammar.specs.declared.tree.Literal.TheVariants as literal
+use Rattle.sj_path_tree.specs.declared.parts.Literal.{Literal}
+use Rattle.sj_path_tree.specs.declared.parts.Literal.TheVariants as literal
 use Rattle.sj_json.specs.Tree.{exact, Tree, truth, string, number}
 use Rattle.sj_base.specs.declared.state.State.{State as SqlState}
 use Rattle.sj_item.specs.Scalars.{number_cast, whole_cast, truth_cast, text_cast}

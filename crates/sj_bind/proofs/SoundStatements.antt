@@ -4,7 +4,7 @@ use Rattle.std.specs.Prelude.{IsSomeAnd, IfOk}
 use Rattle.std.specs.List.{All, list_any}
 use Rattle.std.proofs.lemmas.List.Elements.{All-nil, All-cons, All-push}
 use Rattle.sj_base.specs.Names.{is_among}
-use Rattle.sj_path_grammar.specs.Tree.{Path}
+use Rattle.sj_path_tree.specs.Tree.{Path}
 use Rattle.sj_sql_grammar.specs.Tree as t
 use Rattle.sj_sql_tree.specs.View.{svalue_of, svalues_of, smembers_of, tvalue_of, tvalues_of, tmembers_of, item_of, plain_of, items_of, table_of, statement_of}
 use Rattle.sj_sql_tree.specs.declared.tree.SValue.{SValue, Lit, Exists, Value, Query, IsJson, Object, Array}

@@ -6,7 +6,7 @@ use Rattle.std.specs.Str.{bytes_eq}
 use Rattle.std.proofs.lemmas.List.Elements.{All-nil, All-cons, All-head, All-tail}
 use Rattle.std.proofs.lemmas.Slice.Eq.{bytes_eq-Decides}
 use Rattle.sj_base.specs.Names.{is_among}
-use Rattle.sj_path_grammar.specs.Tree.{Path}
+use Rattle.sj_path_tree.specs.Tree.{Path}
 use Rattle.sj_path_tree.specs.Vars.{covers}
 use Rattle.sj_sql_grammar.specs.declared.clauses.Passed.{Passed}
 use Rattle.sj_sql_grammar.specs.Tree.{ColumnOf, Ordinality, Regular, Formatted, Existence, Nested, Columns, Last, More, Table}

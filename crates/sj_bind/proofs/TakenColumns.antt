@@ -2,9 +2,9 @@
 use Rattle.std.proofs.Common.{◌≡◌, ℕ, suc, ◌+◌, false, List, [], ◌∷◌, ◌++◌, length, refl, sym, ap, subst, ◌∙◌}
 use Rattle.std.specs.List.{All, AllByRecursion, list_any}
 use Rattle.std.proofs.lemmas.List.Elements.{recursion_from_All}
-use Rattle.sj_path_grammar.specs.Tree as g
+use Rattle.sj_path_tree.specs.Tree as g
 use Rattle.sj_path_tree.specs.declared.tree.Path.{Path}
-use Rattle.sj_path_tree.specs.Tree.{path_of}
+use Rattle.sj_path_tree.specs.View.{path_of}
 use Rattle.sj_sql_grammar.specs.Tree.{Columns, Last, More, ColumnOf, Ordinality, Regular, Formatted, Existence, Nested}
 use Rattle.sj_bound.specs.declared.bound.BoundColumn.{BoundColumn}
 use Rattle.sj_bound.specs.View.{paths_of, columns_of, column_of}

@@ -1,6 +1,6 @@
 -- The answer of the binding of a statement.
 use Rattle.std.specs.Prelude.{◌≡◌, Result, Ok, Err, Some, None}
-use Rattle.sj_path_grammar.specs.Tree.{Path}
+use Rattle.sj_path_tree.specs.Tree.{Path}
 use Rattle.sj_sql_grammar.specs.Tree.{Statement}
 use Rattle.sj_bound.specs.declared.bound.Bound.{Bound}
 use Rattle.sj_bind.specs.declared.refusal.BindRefusal.{BindRefusal}

@@ -2,8 +2,8 @@
 -- its variables.
 use Rattle.std.specs.Prelude.{ℕ, Bool, true, false, ◌&&◌, List, [], ◌∷◌, is_err, unwrap_or}
 use Rattle.std.specs.Result.{result_ok}
-use Rattle.sj_path_grammar.specs.declared.tree.Literal.{Literal}
-use Rattle.sj_path_grammar.specs.Tree.{Path}
+use Rattle.sj_path_tree.specs.declared.parts.Literal.{Literal}
+use Rattle.sj_path_tree.specs.Tree.{Path}
 use Rattle.sj_path_tree.specs.Vars.{Variables}
 use Rattle.sj_step.specs.Literals.{literal_item}
 use Rattle.sj_sql_grammar.specs.declared.clauses.Passed.{Passed}

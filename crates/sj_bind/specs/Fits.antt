@@ -1,7 +1,7 @@
 -- What the functions and the names in a value meet once the rules on them hold.
 use Rattle.std.specs.Prelude.{◌≡◌, ℕ, true, false, List, [], ◌∷◌}
 use Rattle.sj_base.specs.Names.{is_among}
-use Rattle.sj_path_grammar.specs.Tree.{Path}
+use Rattle.sj_path_tree.specs.Tree.{Path}
 use Rattle.sj_sql_grammar.specs.Tree.{Common, ValueCall, Value, Lit, Column, Exists, ValueOf, Query, IsJson, Object, Array, Values, NoValues, MoreValues, Members, NoMembers, MoreMembers, Item, Single, ArrayAgg, ObjectAgg}
 use Rattle.sj_sql_grammar.specs.declared.clauses.TypeName.{TypeName}
 use Rattle.sj_sql_grammar.specs.declared.clauses.ValueDo.{ValueDo}

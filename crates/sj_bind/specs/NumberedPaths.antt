@@ -1,6 +1,6 @@
 -- Nested paths where they lie in memory.
 use Rattle.std.specs.Prelude.{ℕ, List, Some}
-use Rattle.sj_path_grammar.specs.Tree.{Path}
+use Rattle.sj_path_tree.specs.Tree.{Path}
 use Rattle.sj_sql_tree.specs.View.{columns_of}
 use Rattle.sj_bind.specs.declared.table.paths.NumberedPath.{NumberedPath}
 use Rattle.sj_bind.specs.Paths.{Child}

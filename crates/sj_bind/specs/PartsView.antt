@@ -1,12 +1,12 @@
 -- The parts of a SELECT list, without where they lie in memory.
 use Rattle.std.specs.Prelude.{List, [], ◌∷◌}
 use Rattle.std.specs.Borrow.{Bor}
-use Rattle.sj_path_grammar.specs.Tree.{Path}
+use Rattle.sj_path_tree.specs.Tree.{Path}
 use Rattle.sj_sql_grammar.specs.Tree as t
 use Rattle.sj_sql_tree.specs.declared.tree.SValue.{SValue}
 use Rattle.sj_sql_tree.specs.declared.tree.Column.{Column}
 use Rattle.sj_path_tree.specs.declared.tree.Path.{Path as ParsedPath}
-use Rattle.sj_path_tree.specs.Tree.{path_of}
+use Rattle.sj_path_tree.specs.View.{path_of}
 use Rattle.sj_sql_tree.specs.View.{svalue_of, column_of, exists_of, value_call_of, query_of}
 use Rattle.sj_bind.specs.declared.parts.Call.{Call}
 use Rattle.sj_bind.specs.declared.parts.Call.TheVariants as c

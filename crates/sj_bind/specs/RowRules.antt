@@ -1,7 +1,7 @@
 -- The rules on names and on keys beside a table.
 use Rattle.std.specs.Prelude.{ℕ, Bool, not, List}
 use Rattle.sj_base.specs.Names.{is_among}
-use Rattle.sj_path_grammar.specs.Tree.{Path}
+use Rattle.sj_path_tree.specs.Tree.{Path}
 use Rattle.sj_sql_grammar.specs.Tree.{Value}
 use Rattle.sj_bind.specs.Rules.{is_key}
 

@@ -2,7 +2,7 @@
 use Rattle.std.specs.Prelude.{◌≡◌, ℕ, Bool, false, not, ◌||◌, List}
 use Rattle.std.specs.List.{list_all}
 use Rattle.sj_base.specs.Names.{is_among}
-use Rattle.sj_path_grammar.specs.Tree.{Path}
+use Rattle.sj_path_tree.specs.Tree.{Path}
 use Rattle.sj_path_tree.specs.Vars.{has_name, names}
 use Rattle.sj_sql_grammar.specs.Tree.{ColumnOf, Ordinality, Regular, Formatted, Existence, Nested}
 use Rattle.sj_sql_grammar.specs.declared.clauses.Passed.{Passed}

@@ -3,7 +3,7 @@
 ghost use Rattle.std.specs.Prelude.{◌≡◌};
 ghost use Rattle.std.specs.List.{list_all};
 ghost use Rattle.sj_base.specs.Names.{is_among};
-ghost use Rattle.sj_path_tree.specs.Tree.{path_of, expr_of, step_of, sub_of, subs_of, pred_of};
+ghost use Rattle.sj_path_tree.specs.View.{path_of, expr_of, step_of, sub_of, subs_of, pred_of};
 ghost use Rattle.sj_path_tree.specs.Vars as spec;
 ghost use Rattle.sj_bind.specs.Names.{names_of};
 

@@ -2,7 +2,7 @@
 
 ghost use Rattle.std.specs.Prelude.{ℕ, List, Option};
 ghost use Rattle.std.specs.List.{All as Each};
-ghost use Rattle.sj_path_grammar.specs.Tree.{Path};
+ghost use Rattle.sj_path_tree.specs.Tree.{Path};
 ghost use Rattle.sj_sql_token.specs.Tokens.{Lexed};
 ghost use Rattle.sj_sql_grammar.specs.declared.refusal.FileKind.{FileKind};
 ghost use Rattle.sj_sql_grammar.specs.Tree.{Statement};

@@ -1,7 +1,7 @@
 //! The variables of PASSING clauses.
 
 ghost use Rattle.std.specs.Prelude.{◌≡◌, false, IfOk};
-ghost use Rattle.sj_path_tree.specs.Tree.{path_of};
+ghost use Rattle.sj_path_tree.specs.View.{path_of};
 ghost use Rattle.sj_sql_tree.specs.View.{common_of};
 ghost use Rattle.sj_bind.specs.Clauses.{passed, passed_names, path_with};
 ghost use Rattle.sj_bind.specs.Rules as spec;

@@ -1,7 +1,7 @@
 -- Bound statements, without where their parts lie in memory.
 use Rattle.std.specs.Prelude.{ℕ, Bool as Truth, List, Option}
-use Rattle.sj_path_grammar.specs.declared.tree.Literal.{Literal}
-use Rattle.sj_path_grammar.specs.Tree.{Path}
+use Rattle.sj_path_tree.specs.declared.parts.Literal.{Literal}
+use Rattle.sj_path_tree.specs.Tree.{Path}
 use Rattle.sj_path_tree.specs.Vars.{Variables}
 use Rattle.sj_sql_grammar.specs.declared.clauses.IsJsonCall.{IsJsonCall}
 use Rattle.sj_value.specs.declared.clauses.ExistsAction.{ExistsAction}

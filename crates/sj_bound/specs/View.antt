@@ -1,9 +1,9 @@
 -- A bound statement without where its parts lie in memory.
 use Rattle.std.specs.Prelude.{List, [], ◌∷◌, map, Option, Some, None, Box}
 use Rattle.std.specs.declared.alloc.Global.{Global}
-use Rattle.sj_path_grammar.specs.Tree as g
+use Rattle.sj_path_tree.specs.Tree as g
 use Rattle.sj_path_tree.specs.declared.tree.Path.{Path}
-use Rattle.sj_path_tree.specs.Tree.{path_of}
+use Rattle.sj_path_tree.specs.View.{path_of}
 use Rattle.sj_value.specs.Plans.{plan_tree}
 use Rattle.sj_bound.specs.Bound as b
 use Rattle.sj_bound.specs.declared.bound.BoundPath.{BoundPath}

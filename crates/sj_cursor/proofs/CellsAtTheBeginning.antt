@@ -1,8 +1,8 @@
 -- Cells that are of a path and go back at its beginning have what the cursor has left.
 use Rattle.std.proofs.Common.{◌≡◌, ap, ◌∙◌}
-use Rattle.sj_path_grammar.specs.Tree as t
+use Rattle.sj_path_tree.specs.Tree as t
 use Rattle.sj_item.specs.Items.{ItemValue}
-use Rattle.sj_path_tree.specs.Tree.{path_of, expr_of}
+use Rattle.sj_path_tree.specs.View.{path_of, expr_of}
 use Rattle.sj_path_tree.specs.declared.tree.Path.{Path}
 use Rattle.sj_step.specs.Trace.{Trace}
 use Rattle.sj_cursor.specs.Standing.{standing_left}

@@ -5,7 +5,7 @@ use Rattle.std.specs.Prelude.{◌≤ℤ◌, int_le, if◌then◌else◌}
 use Rattle.std.proofs.Common.{◌≡◌, ℕ, zero, suc, ◌+◌, ◌-◌, ◌<◌, ◌≤◌, ℤ, pos, ◌-ℤ◌, List, [], ◌∷◌, ◌++◌, map, take, drop, get_or, length, Bool, true, false, ◌&&◌, Some, ap, sym, ◌∙◌, refl, arith}
 use Rattle.std.proofs.lemmas.Int.{ints}
 use Rattle.std.proofs.lemmas.List.{take_all}
-use Rattle.sj_base.specs.Outside.{raised}
+use Rattle.sj_base.specs.Count.{raised}
 use Rattle.sj_decimal.specs.Rounding.{whole_of}
 use Rattle.sj_json.specs.Tree.{Tree, children, Child as JsonChild, numbered, NumberedChild}
 use Rattle.sj_doc.specs.Keyed.{is_key, from_key}
@@ -13,9 +13,9 @@ use Rattle.sj_doc.specs.Kinds.{kind_of}
 use Rattle.sj_doc.specs.declared.doc.NodeRef.{NodeRef}
 use Rattle.sj_doc.specs.declared.node.Kind.{Kind}
 use Rattle.sj_doc.specs.declared.node.Kind.TheVariants as kinds
-use Rattle.sj_path_grammar.specs.Tree as t
-use Rattle.sj_path_grammar.specs.declared.tree.Literal.TheVariants.{Num}
-use Rattle.sj_path_grammar.specs.declared.tree.Mode.TheVariants.{Lax}
+use Rattle.sj_path_tree.specs.Tree as t
+use Rattle.sj_path_tree.specs.declared.parts.Literal.TheVariants.{Num}
+use Rattle.sj_path_tree.specs.declared.parts.Mode.TheVariants.{Lax}
 use Rattle.sj_item.specs.Items.{ItemValue, node, made_number, item_tree}
 use Rattle.sj_step.specs.Trace.{Trace, stop, visit, give, only, after_visits, join, each}
 use Rattle.sj_step.specs.Reach.{reach, on_kind, by_key, all_elements, by_range, unwrapped, unwrap, child_item, under_key, range_of_one, last, last_on}

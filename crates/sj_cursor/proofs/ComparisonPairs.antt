@@ -1,7 +1,7 @@
 -- Going through the pairs finds what a comparison is, within what it may take.
 use Rattle.std.proofs.Common.{◌≡◌, ℕ, suc, ◌+◌, ◌*◌, ◌<◌, max, List, [], ◌∷◌, Bool, true, false, cond, ◌||◌, Option, Some, None, ap, sym, ◌∙◌, refl, arith}
 use Rattle.std.specs.List.{list_any}
-use Rattle.sj_path_grammar.specs.declared.tree.Mode.TheVariants.{Lax, Strict}
+use Rattle.sj_path_tree.specs.declared.parts.Mode.TheVariants.{Lax, Strict}
 use Rattle.sj_item.specs.Items.{ItemValue}
 use Rattle.sj_step.specs.Trace.{Trace, stop, fail, visit, give, items, count, visits, visits_before}
 use Rattle.sj_cursor.specs.Verdicts.{is_faulty, is_unknown}

@@ -1,6 +1,6 @@
 -- What a draw from a part is for the whole.
 use Rattle.std.proofs.Common.{◌≡◌, ℕ, zero, suc, ◌+◌, ◌≤◌, ◌<◌, arith, refl, ap, sym, ◌∙◌}
-use Rattle.sj_base.specs.Outside.{raised}
+use Rattle.sj_base.specs.Count.{raised}
 use Rattle.sj_base.specs.declared.state.State.{State}
 use Rattle.sj_item.specs.Items.{ItemValue, PullValue, gives, ends, faults}
 use Rattle.sj_step.specs.Trace.{Trace, stop, fail, visit, give, only, after_visits, join, each, first, rest, visits_to_first, count}

@@ -3,12 +3,12 @@ use Rattle.std.proofs.Common.{◌≡◌, ℕ, List, [], ◌∷◌, Some, ℤ, po
 use Rattle.sj_base.specs.declared.state.State.TheVariants.{S22033, S22036, S22038, S2203C}
 use Rattle.sj_decimal.specs.declared.comparing.Compare.TheVariants as comparisons
 use Rattle.sj_json.specs.Tree.{Tree, string, number, exact, array, object, no_items, item, no_members, member}
-use Rattle.sj_path_grammar.specs.declared.tree.Mode.{Mode}
-use Rattle.sj_path_grammar.specs.declared.tree.Mode.TheVariants.{Lax, Strict}
-use Rattle.sj_path_grammar.specs.declared.tree.Arith.TheVariants.{Add}
-use Rattle.sj_path_grammar.specs.declared.tree.Method.TheVariants as methods
-use Rattle.sj_path_grammar.specs.declared.tree.Literal.TheVariants as literals
-use Rattle.sj_path_grammar.specs.Tree.{Expr, Root, Context, Last, Lit, Access, Minus, Binary, Member, AllElements, Elements, Filter, Call, One, Range, Only, More, Compares, IsUnknown}
+use Rattle.sj_path_tree.specs.declared.parts.Mode.{Mode}
+use Rattle.sj_path_tree.specs.declared.parts.Mode.TheVariants.{Lax, Strict}
+use Rattle.sj_path_tree.specs.declared.parts.Arith.TheVariants.{Add}
+use Rattle.sj_path_tree.specs.declared.parts.Method.TheVariants as methods
+use Rattle.sj_path_tree.specs.declared.parts.Literal.TheVariants as literals
+use Rattle.sj_path_tree.specs.Tree.{Expr, Root, Context, Last, Lit, Access, Minus, Binary, Member, AllElements, Elements, Filter, Call, One, Range, Only, More, Compares, IsUnknown}
 use Rattle.sj_item.specs.Items.{ItemValue, node, made_number}
 use Rattle.sj_item.specs.Pairs.{trees_compare}
 use Rattle.sj_step.specs.Trace.{Trace, items, fault_of, visits}

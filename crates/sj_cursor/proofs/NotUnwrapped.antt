@@ -4,7 +4,7 @@ use Rattle.sj_doc.specs.Kinds.{kind_of}
 use Rattle.sj_doc.specs.declared.node.Kind.{Kind}
 use Rattle.sj_doc.specs.declared.node.Kind.TheVariants as kinds
 use Rattle.sj_doc.specs.declared.doc.NodeRef.{NodeRef}
-use Rattle.sj_path_grammar.specs.declared.tree.Mode.{Mode}
+use Rattle.sj_path_tree.specs.declared.parts.Mode.{Mode}
 use Rattle.sj_item.specs.Items.{ItemValue, item_value, item_tree}
 use Rattle.sj_item.specs.declared.item.Item.{Item}
 use Rattle.sj_item.specs.declared.item.Item.TheVariants as items

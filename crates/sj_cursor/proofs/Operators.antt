@@ -1,8 +1,8 @@
 -- What is done with the opened items of an expression is the meaning of the whole.
 use Rattle.std.specs.Prelude.{if◌then◌else◌}
 use Rattle.std.proofs.Common.{◌≡◌, Bool, true, false, ◌+◌, ◌≤◌, ap, refl, arith}
-use Rattle.sj_path_grammar.specs.Tree as t
-use Rattle.sj_path_grammar.specs.declared.tree.Method.{Method}
+use Rattle.sj_path_tree.specs.Tree as t
+use Rattle.sj_path_tree.specs.declared.parts.Method.{Method}
 use Rattle.sj_path_tree.specs.Nodes.{expr_nodes, sub_nodes, subs_nodes}
 use Rattle.sj_step.specs.Trace.{each}
 use Rattle.sj_step.specs.Reach.{spread}

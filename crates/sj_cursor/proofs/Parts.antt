@@ -1,10 +1,10 @@
 -- Operands and subscripts, as they are asked.
 use Rattle.std.proofs.Common.{◌≡◌, ℕ, ◌≤◌, Result, Ok, Err, ℤ}
-use Rattle.sj_base.specs.Outside.{raised}
+use Rattle.sj_base.specs.Count.{raised}
 use Rattle.sj_base.specs.declared.state.State.{State}
 use Rattle.sj_base.specs.declared.state.State.TheVariants.{S22033, S22038}
-use Rattle.sj_path_grammar.specs.declared.tree.Arith.{Arith}
-use Rattle.sj_path_grammar.specs.declared.tree.Mode.{Mode}
+use Rattle.sj_path_tree.specs.declared.parts.Arith.{Arith}
+use Rattle.sj_path_tree.specs.declared.parts.Mode.{Mode}
 use Rattle.sj_item.specs.Items.{ItemValue}
 use Rattle.sj_step.specs.Trace.{Trace, fail}
 use Rattle.sj_cursor.specs.Draws.{Approaches}

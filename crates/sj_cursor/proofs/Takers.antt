@@ -1,7 +1,7 @@
 -- What is taken of a trace is what is looked for in it, and what is seen of its pairing.
 use Rattle.std.specs.Prelude.{if◌then◌else◌, is_some}
 use Rattle.std.proofs.Common.{◌≡◌, ℕ, zero, suc, ◌+◌, ◌≤◌, Bool, true, false, ◌||◌, ◌&&◌, Option, None, ap, sym, ◌∙◌, refl, arith}
-use Rattle.sj_base.specs.Outside.{raised}
+use Rattle.sj_base.specs.Count.{raised}
 use Rattle.sj_base.specs.declared.state.State.{State}
 use Rattle.sj_item.specs.Items.{ItemValue}
 use Rattle.sj_step.specs.Trace.{Trace, stop, fail, visit, give, after_visits}

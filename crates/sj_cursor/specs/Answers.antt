@@ -1,8 +1,8 @@
 -- What a cursor answers when it is asked whether there is an item, and which is the only one.
 use Rattle.std.specs.Prelude.{Bool, true, false, Option, Some, None, Result, Ok, Err, if◌then◌else◌}
 use Rattle.sj_base.specs.declared.state.State.{State}
-use Rattle.sj_path_grammar.specs.declared.tree.Mode.{Mode}
-use Rattle.sj_path_grammar.specs.declared.tree.Mode.TheVariants.{Lax, Strict}
+use Rattle.sj_path_tree.specs.declared.parts.Mode.{Mode}
+use Rattle.sj_path_tree.specs.declared.parts.Mode.TheVariants.{Lax, Strict}
 use Rattle.sj_item.specs.Items.{item_value}
 use Rattle.sj_item.specs.declared.item.Item.{Item}
 use Rattle.sj_step.specs.Trace.{Trace, fault_of}

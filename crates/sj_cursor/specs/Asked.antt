@@ -1,6 +1,6 @@
 -- Whether a right operand ends in a fault, asked where there was no left item.
 use Rattle.std.specs.Prelude.{◌≡◌, ◌≤◌, ℕ, Bool, false, cond}
-use Rattle.sj_base.specs.Outside.{raised}
+use Rattle.sj_base.specs.Count.{raised}
 use Rattle.sj_step.specs.Trace.{Trace, visits}
 use Rattle.sj_cursor.specs.Verdicts.{is_faulty}
 

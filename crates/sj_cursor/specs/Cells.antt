@@ -1,9 +1,9 @@
 -- What cells are of, and what they have left.
 use Rattle.std.specs.Prelude.{Bool, true, false, ◌&&◌, if◌then◌else◌}
-use Rattle.sj_path_grammar.specs.declared.tree.Mode.{Mode}
-use Rattle.sj_path_grammar.specs.declared.tree.Mode.TheVariants.{Lax, Strict}
-use Rattle.sj_path_grammar.specs.declared.tree.Method.{Method}
-use Rattle.sj_path_grammar.specs.Tree as t
+use Rattle.sj_path_tree.specs.declared.parts.Mode.{Mode}
+use Rattle.sj_path_tree.specs.declared.parts.Mode.TheVariants.{Lax, Strict}
+use Rattle.sj_path_tree.specs.declared.parts.Method.{Method}
+use Rattle.sj_path_tree.specs.Tree as t
 use Rattle.sj_item.specs.Items.{ItemValue, item_value, made_number}
 use Rattle.sj_item.specs.Truths.{truth_of}
 use Rattle.sj_item.specs.Pairs.{items_compare, item_starts_with}

@@ -1,12 +1,12 @@
 -- Plain paths: the root or `@` and, behind it, accessors of members, of all elements and of the element at an index, in lax mode. Private clauses alone cite this; it is proved to be what `Meaning` says.
 use Rattle.std.specs.Prelude.{◌≡◌, ◌≤◌, ℕ, Bool, List, [], ◌∷◌, map, Option, Some, None, if◌then◌else◌, pos}
-use Rattle.sj_base.specs.Outside.{raised}
+use Rattle.sj_base.specs.Count.{raised}
 use Rattle.sj_json.specs.Tree.{NumberedChild}
 use Rattle.sj_doc.specs.Listed.{node_id, node_tree}
 use Rattle.sj_doc.specs.declared.doc.NodeRef.{NodeRef}
-use Rattle.sj_path_grammar.specs.Tree as t
-use Rattle.sj_path_grammar.specs.declared.tree.Literal.TheVariants.{Num}
-use Rattle.sj_path_grammar.specs.declared.tree.Mode.TheVariants.{Lax}
+use Rattle.sj_path_tree.specs.Tree as t
+use Rattle.sj_path_tree.specs.declared.parts.Literal.TheVariants.{Num}
+use Rattle.sj_path_tree.specs.declared.parts.Mode.TheVariants.{Lax}
 use Rattle.sj_item.specs.Items.{ItemValue, node}
 use Rattle.sj_step.specs.Trace.{Trace, stop, only, after_visits, join, each}
 use Rattle.sj_step.specs.Reach.{reach, by_key, all_elements, by_range, unwrap, child_item, every, lax_range}

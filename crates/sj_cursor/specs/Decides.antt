@@ -1,6 +1,6 @@
 -- An answer on a predicate.
 use Rattle.std.specs.Prelude.{◌≡◌, ◌≤◌, ℕ}
-use Rattle.sj_base.specs.Outside.{raised}
+use Rattle.sj_base.specs.Count.{raised}
 use Rattle.sj_item.specs.declared.truth.Truth.{Truth}
 use Rattle.sj_cursor.specs.Verdicts.{Verdict}
 

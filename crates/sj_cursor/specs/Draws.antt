@@ -1,6 +1,6 @@
 -- Taking the first item of a trace, or its end, at no more steps than there are visits before it.
 use Rattle.std.specs.Prelude.{◌≡◌, ◌≤◌, ℕ}
-use Rattle.sj_base.specs.Outside.{raised}
+use Rattle.sj_base.specs.Count.{raised}
 use Rattle.sj_item.specs.Items.{PullValue}
 use Rattle.sj_step.specs.Trace.{Trace, stop, fail, visit, give, first, rest, visits_to_first}
 

@@ -1,5 +1,5 @@
 -- The part of a list of subscripts of which these are the cells.
-use Rattle.sj_path_grammar.specs.Tree as t
+use Rattle.sj_path_tree.specs.Tree as t
 use Rattle.sj_cursor.specs.Left.{core}
 use Rattle.sj_cursor.specs.declared.build.Ends.{Ends}
 use Rattle.sj_cursor.specs.declared.build.Ends.TheVariants as ends

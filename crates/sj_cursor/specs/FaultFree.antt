@@ -1,11 +1,11 @@
 -- Paths whose form rules out a fault on every item. In lax mode an accessor that doesn't fit gives no item, and a filter keeps none
 -- whose predicate is unknown. So what is left that may fail is a method, a sign, arithmetic, and a subscript that is no number.
 use Rattle.std.specs.Prelude.{Bool, true, false, ◌&&◌}
-use Rattle.sj_path_grammar.specs.declared.tree.Mode.{Mode}
-use Rattle.sj_path_grammar.specs.declared.tree.Mode.TheVariants.{Lax, Strict}
-use Rattle.sj_path_grammar.specs.declared.tree.Literal.{Literal}
-use Rattle.sj_path_grammar.specs.declared.tree.Literal.TheVariants as literals
-use Rattle.sj_path_grammar.specs.Tree.{Path, Expr, Root, Var, Context, Last, Lit, Access, Step, Member, AllMembers, AllElements, Elements, Filter, Sub, One, Range, Subs, Only, More}
+use Rattle.sj_path_tree.specs.declared.parts.Mode.{Mode}
+use Rattle.sj_path_tree.specs.declared.parts.Mode.TheVariants.{Lax, Strict}
+use Rattle.sj_path_tree.specs.declared.parts.Literal.{Literal}
+use Rattle.sj_path_tree.specs.declared.parts.Literal.TheVariants as literals
+use Rattle.sj_path_tree.specs.Tree.{Path, Expr, Root, Var, Context, Last, Lit, Access, Step, Member, AllMembers, AllElements, Elements, Filter, Sub, One, Range, Subs, Only, More}
 
 abbrev pub is_number : Literal → Bool
 is_number (literals.Num d) = true

@@ -2,9 +2,9 @@
 use Rattle.std.specs.Prelude.{◌≡◌, ℕ, Some, None, Result, ℤ}
 use Rattle.sj_base.specs.declared.state.State.{State}
 use Rattle.sj_base.specs.declared.state.State.TheVariants.{S22039}
-use Rattle.sj_path_grammar.specs.Tree as t
-use Rattle.sj_path_grammar.specs.declared.tree.Arith.{Arith}
-use Rattle.sj_path_grammar.specs.declared.tree.Mode.{Mode}
+use Rattle.sj_path_tree.specs.Tree as t
+use Rattle.sj_path_tree.specs.declared.parts.Arith.{Arith}
+use Rattle.sj_path_tree.specs.declared.parts.Mode.{Mode}
 use Rattle.sj_item.specs.Items.{ItemValue, item_value, made_number}
 use Rattle.sj_path_tree.specs.Nodes.{pred_nodes, subs_nodes}
 use Rattle.sj_step.specs.Trace.{Trace, stop, fail, only, join, each}

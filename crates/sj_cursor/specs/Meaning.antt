@@ -2,13 +2,13 @@
 use Rattle.std.specs.Prelude.{ℕ, Bool, true, false, if◌then◌else◌, List, Option, Some, None, option_map, find, ℤ, pos}
 use Rattle.std.specs.Str.{bytes_eq}
 use Rattle.sj_base.specs.declared.state.State.TheVariants.{S22039}
-use Rattle.sj_path_grammar.specs.declared.tree.Mode.{Mode}
-use Rattle.sj_path_grammar.specs.declared.tree.Method.{Method}
-use Rattle.sj_path_grammar.specs.declared.tree.Method.TheVariants as methods
-use Rattle.sj_path_grammar.specs.declared.tree.Literal.{Literal}
-use Rattle.sj_path_grammar.specs.declared.tree.Initial.{Initial}
-use Rattle.sj_path_grammar.specs.declared.tree.Initial.TheVariants as initials
-use Rattle.sj_path_grammar.specs.Tree.{Path, Expr, Root, Var, Context, Last, Lit, Access, Plus, Minus, Binary, Step, Member, AllMembers, AllElements, Elements, Filter, Call, Double, Datetime, DatetimeBy, Sub, One, Range, Subs, Only, More, Pred, Compares, And, Or, Not, IsUnknown, Exists, StartsWith, LikeRegex, LikeRegexBy}
+use Rattle.sj_path_tree.specs.declared.parts.Mode.{Mode}
+use Rattle.sj_path_tree.specs.declared.parts.Method.{Method}
+use Rattle.sj_path_tree.specs.declared.parts.Method.TheVariants as methods
+use Rattle.sj_path_tree.specs.declared.parts.Literal.{Literal}
+use Rattle.sj_path_tree.specs.declared.parts.Initial.{Initial}
+use Rattle.sj_path_tree.specs.declared.parts.Initial.TheVariants as initials
+use Rattle.sj_path_tree.specs.Tree.{Path, Expr, Root, Var, Context, Last, Lit, Access, Plus, Minus, Binary, Step, Member, AllMembers, AllElements, Elements, Filter, Call, Double, Datetime, DatetimeBy, Sub, One, Range, Subs, Only, More, Pred, Compares, And, Or, Not, IsUnknown, Exists, StartsWith, LikeRegex, LikeRegexBy}
 use Rattle.sj_item.specs.Items.{ItemValue, made_number, made_text, made_null}
 use Rattle.sj_item.specs.Pairs.{items_compare, item_starts_with}
 use Rattle.sj_item.specs.declared.truth.Truth.TheVariants.{Unknown}

@@ -1,6 +1,6 @@
 -- What was seen of the pairs of two traces.
 use Rattle.std.specs.Prelude.{◌≡◌, ◌≤◌, ℕ, Bool, false, ◌&&◌}
-use Rattle.sj_base.specs.Outside.{raised}
+use Rattle.sj_base.specs.Count.{raised}
 use Rattle.sj_step.specs.Trace.{Trace}
 use Rattle.sj_cursor.specs.Comparisons.{PairTruth}
 use Rattle.sj_cursor.specs.Verdicts.{has_item}

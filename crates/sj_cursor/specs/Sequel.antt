@@ -1,7 +1,7 @@
 -- What a cursor is seen as: a path with its variables, a root, and the trace that is left.
 use Rattle.std.specs.Prelude.{refl}
 use Rattle.std.specs.Coded.{Coded, code_by, coded×, coded_ℕ, coded_list}
-use Rattle.sj_path_grammar.specs.contracts.tree.Literal as literal
+use Rattle.sj_path_tree.specs.contracts.parts.Literal as literal
 use Rattle.sj_item.specs.Items.{ItemValue}
 use Rattle.sj_item.specs.Coding.{item_code}
 use Rattle.sj_path_tree.specs.declared.tree.Path.{Path}

@@ -1,8 +1,8 @@
 -- The one item of a trace, where a single one is asked for.
 use Rattle.std.specs.Prelude.{ℕ, nat_le, List, [], ◌∷◌, Option, Some, None, if◌then◌else◌}
 use Rattle.sj_base.specs.declared.state.State.{State}
-use Rattle.sj_path_grammar.specs.declared.tree.Mode.{Mode}
-use Rattle.sj_path_grammar.specs.declared.tree.Mode.TheVariants.{Lax, Strict}
+use Rattle.sj_path_tree.specs.declared.parts.Mode.{Mode}
+use Rattle.sj_path_tree.specs.declared.parts.Mode.TheVariants.{Lax, Strict}
 use Rattle.sj_item.specs.Items.{ItemValue}
 use Rattle.sj_step.specs.Trace.{Trace, items, count, visits, visits_before, fault_of}
 

@@ -1,6 +1,6 @@
 -- What a cursor has left, by where it stands, and what holds of its parts.
 use Rattle.std.specs.Prelude.{◌≡◌, Option, IfSome}
-use Rattle.sj_path_grammar.specs.Tree as t
+use Rattle.sj_path_tree.specs.Tree as t
 use Rattle.sj_step.specs.Trace.{Trace}
 use Rattle.sj_cursor.specs.Chains.{IsChainOf}
 use Rattle.sj_cursor.specs.Left.{core}

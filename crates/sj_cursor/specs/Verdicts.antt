@@ -1,7 +1,7 @@
 -- The truth of a predicate, and the visits that finding it may take.
 use Rattle.std.specs.Prelude.{ℕ, ◌+◌, Bool, true, false, nat_lt, is_some, if◌then◌else◌}
-use Rattle.sj_path_grammar.specs.declared.tree.Mode.{Mode}
-use Rattle.sj_path_grammar.specs.declared.tree.Mode.TheVariants.{Lax, Strict}
+use Rattle.sj_path_tree.specs.declared.parts.Mode.{Mode}
+use Rattle.sj_path_tree.specs.declared.parts.Mode.TheVariants.{Lax, Strict}
 use Rattle.sj_item.specs.Items.{ItemValue}
 use Rattle.sj_item.specs.Truths.{conjunction, disjunction, negation, truth_of}
 use Rattle.sj_item.specs.declared.truth.Truth.{Truth}

@@ -1,6 +1,6 @@
 // Whether there is an item, and which one is the only one.
 ghost use Rattle.std.specs.Prelude.{◌≡◌, ◌≤◌};
-ghost use Rattle.sj_base.specs.Outside.{raised};
+ghost use Rattle.sj_base.specs.Count.{raised};
 ghost use Rattle.sj_cursor.specs.Answers.{exists_answer, single_value, answer_in};
 ghost use Rattle.sj_cursor.specs.Looks.{Finds, look_value, single_in};
 ghost use Rattle.sj_cursor.specs.Single.{need, single};

@@ -3,8 +3,8 @@
 // What recurs over a path holds places of cells and no cell, and gives none up: what its frame holds is taken as often as a path
 // is nested. Cells are made, and given up where memory runs out, by functions that do not recur and are kept out of line.
 ghost use Rattle.std.specs.Prelude.{◌≡◌, IfOk};
-ghost use Rattle.sj_path_grammar.specs.Tree as tree;
-ghost use Rattle.sj_path_tree.specs.Tree.{expr_of, step_of, sub_of, subs_of, pred_of};
+ghost use Rattle.sj_path_tree.specs.Tree as tree;
+ghost use Rattle.sj_path_tree.specs.View.{expr_of, step_of, sub_of, subs_of, pred_of};
 ghost use Rattle.sj_cursor.specs.Cells.{source_expr, simple_on};
 ghost use Rattle.sj_cursor.specs.Ends.{ends_core};
 ghost use Rattle.sj_cursor.specs.Left.{core, doing, doing_on, part_core, parts_core, test_core};

@@ -3,9 +3,9 @@
 ghost use Rattle.std.specs.Prelude.{◌≡◌, ◌+◌, [], ◌∷◌, true, IfOk, IfSome, pos};
 ghost use Rattle.sj_json.specs.Tree.{children, numbered};
 ghost use Rattle.sj_doc.specs.Listed.{node_id, node_tree};
-ghost use Rattle.sj_path_grammar.specs.Tree as tree;
-ghost use Rattle.sj_path_grammar.specs.declared.tree.Mode.TheVariants.{Lax};
-ghost use Rattle.sj_path_tree.specs.Tree.{path_of, expr_of, step_of, subs_of};
+ghost use Rattle.sj_path_tree.specs.Tree as tree;
+ghost use Rattle.sj_path_tree.specs.declared.parts.Mode.TheVariants.{Lax};
+ghost use Rattle.sj_path_tree.specs.View.{path_of, expr_of, step_of, subs_of};
 ghost use Rattle.sj_cursor.specs.Cells.{opened};
 ghost use Rattle.sj_cursor.specs.Chains.{IsChainOf, Sought, Reaches, node_value, accessor, accessed, below, under, over, throughout, element, elements_of};
 ghost use Rattle.sj_cursor.specs.Looks.{Finds, look_value};

@@ -1,7 +1,7 @@
 // A path's items, one at a time.
 ghost use Rattle.std.specs.Prelude.{◌≡◌, ◌≤◌, ◌*◌, IfOk};
 ghost use Rattle.sj_item.specs.Items.{item_value};
-ghost use Rattle.sj_path_tree.specs.Tree.{path_of};
+ghost use Rattle.sj_path_tree.specs.View.{path_of};
 ghost use Rattle.sj_step.specs.Answers.{answer_value};
 ghost use Rattle.sj_cursor.specs.Draws.{Draws};
 ghost use Rattle.sj_cursor.specs.Left.{core, left};
@@ -66,7 +66,7 @@ impl<'d> Model for Cursor<'d> {
     ghost coded = { sequel_code };
 
     ghost use Rattle.sj_item.specs.Items.{item_value};
-    ghost use Rattle.sj_path_tree.specs.Tree.{path_of};
+    ghost use Rattle.sj_path_tree.specs.View.{path_of};
     ghost use Rattle.sj_cursor.specs.Left.{left};
     ghost use Rattle.sj_cursor.specs.Meaning.{start_env, path_trace};
     ghost use Rattle.sj_cursor.specs.Standing.{standing_left, IsCursor};
@@ -119,7 +119,7 @@ impl<'d> Cursor<'d> {
     ghost use Rattle.sj_item.specs.Items.{item_value, pull_value};
     ghost use Rattle.sj_path_tree.specs.Nodes.{nodes};
     ghost use Rattle.sj_step.specs.Answers.{answer_value};
-    ghost use Rattle.sj_path_tree.specs.Tree.{path_of};
+    ghost use Rattle.sj_path_tree.specs.View.{path_of};
     ghost use Rattle.sj_cursor.specs.Draws.{Draws};
     ghost use Rattle.sj_cursor.specs.Meaning.{path_trace};
 

@@ -1,6 +1,6 @@
 // Whether the form of a path rules out a fault.
 ghost use Rattle.std.specs.Prelude.{◌≡◌};
-ghost use Rattle.sj_path_tree.specs.Tree.{path_of, expr_of, step_of, sub_of, subs_of};
+ghost use Rattle.sj_path_tree.specs.View.{path_of, expr_of, step_of, sub_of, subs_of};
 ghost use Rattle.sj_cursor.specs.FaultFree.{is_number, is_fixed, sub_fault_free, subs_fault_free, step_fault_free, expr_fault_free, fault_free};
 
 use sj_path_tree::{Expr, Literal, Mode, Path, Step, Sub, Subs};

@@ -1,6 +1,6 @@
 // Operands that are one accessor of a member on `$` or `@`, in lax mode. Their items on a node are found without cells.
 ghost use Rattle.std.specs.Prelude.{◌≡◌, [], ◌∷◌, IfSome};
-ghost use Rattle.sj_path_grammar.specs.Tree as tree;
+ghost use Rattle.sj_path_tree.specs.Tree as tree;
 ghost use Rattle.sj_item.specs.Items.{item_value};
 ghost use Rattle.sj_cursor.specs.Cells.{env_value, source_value, beside_truth};
 ghost use Rattle.sj_cursor.specs.Chains.{node_value, below, IsLaxNode};

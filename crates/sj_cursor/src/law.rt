@@ -1,7 +1,7 @@
 //! A law of the meaning of paths, over its definitions alone.
 
 ghost use Rattle.std.specs.Prelude.{◌≡◌, true, None};
-ghost use Rattle.sj_path_grammar.specs.Tree.{Path};
+ghost use Rattle.sj_path_tree.specs.Tree.{Path};
 ghost use Rattle.sj_item.specs.Items.{ItemValue};
 ghost use Rattle.sj_step.specs.Trace.{fault_of};
 ghost use Rattle.sj_cursor.specs.FaultFree.{fault_free};

@@ -1,7 +1,7 @@
 // The items of a path, one at a time: expressions, and what is done with each item.
 ghost use Rattle.std.specs.Prelude.{◌≡◌, ◌≤◌, false};
-ghost use Rattle.sj_base.specs.Outside.{raised};
-ghost use Rattle.sj_path_grammar.specs.declared.tree.Mode.{Mode as PathMode};
+ghost use Rattle.sj_base.specs.Count.{raised};
+ghost use Rattle.sj_path_tree.specs.declared.parts.Mode.{Mode as PathMode};
 ghost use Rattle.sj_item.specs.Items.{item_value};
 ghost use Rattle.sj_step.specs.Answers.{answer_value};
 ghost use Rattle.sj_step.specs.Reach.{unwrap};

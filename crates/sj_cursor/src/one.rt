@@ -1,6 +1,6 @@
 // One item.
 ghost use Rattle.std.specs.Prelude.{◌≡◌};
-ghost use Rattle.sj_base.specs.Outside.{raised};
+ghost use Rattle.sj_base.specs.Count.{raised};
 ghost use Rattle.sj_item.specs.Items.{item_value};
 ghost use Rattle.sj_step.specs.Answers.{answer_value};
 ghost use Rattle.sj_step.specs.Trace.{first, rest};

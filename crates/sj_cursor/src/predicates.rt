@@ -10,7 +10,7 @@ ghost use Rattle.sj_cursor.specs.Left.{operand_whole, operand_core};
 ghost use Rattle.sj_cursor.specs.Meaning.{verdict};
 ghost use Rattle.sj_cursor.specs.PairingsSeen.{PairingSeen, PairingsSeen};
 ghost use Rattle.sj_cursor.specs.Asked.{Asked};
-ghost use Rattle.sj_path_grammar.specs.Tree.{Exists as exists_of};
+ghost use Rattle.sj_path_tree.specs.Tree.{Exists as exists_of};
 
 use crate::cells::{Both, Cell, Comparison, Opening, Operand, Start, Test};
 use crate::env::Env;

@@ -9,7 +9,7 @@ ghost use Rattle.sj_cursor.specs.Left as left_of;
 ghost use Rattle.sj_cursor.specs.Left.{operand_core, done};
 ghost use Rattle.sj_cursor.specs.Meaning.{Env as Surroundings};
 ghost use Rattle.sj_cursor.specs.Meaning.{part, parts as parts_trace};
-ghost use Rattle.sj_path_grammar.specs.Tree.{One as one_of};
+ghost use Rattle.sj_path_tree.specs.Tree.{One as one_of};
 
 use crate::cells::{
     At, Bounds, Elements, MoreParts, Operand, Part, Parts, Range, Reached, Subscripted,

@@ -1,7 +1,7 @@
 -- One turn of a search for a key among children.
 use Rattle.std.proofs.Common.{◌≡◌, ℕ, ◌+◌, ◌-◌, ◌<◌, ◌≤◌, List, [], ◌∷◌, ◌++◌, length, drop, Bool, true, false, if◌then◌else◌, Option, Some, None, refl, sym, ap, ◌∙◌, subst, arith}
 use Rattle.std.proofs.lemmas.Slice.Eq.{bytes_eq-Decides}
-use Rattle.sj_base.specs.Outside.{raised}
+use Rattle.sj_base.specs.Count.{raised}
 use Rattle.sj_json.specs.Tree.{Tree, Child, numbered, below, subtree, node_count}
 use Rattle.sj_json.specs.Cells.{layout}
 use Rattle.sj_doc.specs.Children.{children_left, IsChildren}

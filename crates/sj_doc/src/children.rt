@@ -1,6 +1,6 @@
 // The children of a node, one after another.
 ghost use Rattle.std.specs.Prelude.{◌≡◌, ◌-◌, [], ◌∷◌, length, true, Some, MatchOption, is_some, option_map, if◌then◌else◌};
-ghost use Rattle.sj_base.specs.Outside.{raised};
+ghost use Rattle.sj_base.specs.Count.{raised};
 ghost use Rattle.sj_doc.specs.Children.{children_left, IsChildren};
 ghost use Rattle.sj_doc.specs.Keyed.{is_key, from_key};
 ghost use Rattle.sj_doc.specs.FoundMembers.{left_behind, Finds};

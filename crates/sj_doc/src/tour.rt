@@ -2,7 +2,7 @@
 ghost use Rattle.std.specs.Prelude.{◌≡◌, ◌<◌, ◌==◌, [], ◌∷◌, true, ◌&&◌, Some, None, option_map, MatchOption, if◌then◌else◌};
 ghost use Rattle.sj_json.specs.Tree.{node_count};
 ghost use Rattle.sj_doc.specs.Stops.{key_in};
-ghost use Rattle.sj_base.specs.Outside.{raised};
+ghost use Rattle.sj_base.specs.Count.{raised};
 ghost use Rattle.sj_doc.specs.Visits.{visited, hands_out_some};
 
 use crate::doc::{Doc, Member};

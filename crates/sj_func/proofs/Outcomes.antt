@@ -1,10 +1,10 @@
 -- What each function gives and may take on an item, and on a bad context.
 use Rattle.std.proofs.Common.{◌≡◌, ◌≤◌, ℕ, ◌+◌, Bool, Result, Err, IfOk, ap, sym, subst, ◌∙◌, refl, arith}
-use Rattle.sj_base.specs.Outside.{raised}
+use Rattle.sj_base.specs.Count.{raised}
 use Rattle.sj_base.specs.declared.memory.Memory.{Memory}
 use Rattle.sj_base.specs.declared.state.State.{State}
 use Rattle.sj_base.specs.declared.state.State.TheVariants.{S22034}
-use Rattle.sj_path_grammar.specs.declared.tree.Mode.{Mode}
+use Rattle.sj_path_tree.specs.declared.parts.Mode.{Mode}
 use Rattle.sj_item.specs.Items.{ItemValue}
 use Rattle.sj_step.specs.Trace.{Trace, items, visits, fault_of}
 use Rattle.sj_cursor.specs.Answers.{exists_answer}

@@ -1,7 +1,7 @@
 -- The text of an array, put together item by item, and closed.
 use Rattle.std.proofs.Common.{◌≡◌, ◌≤◌, ◌<◌, ℕ, zero, suc, ◌+◌, List, [], ◌∷◌, ◌++◌, Bool, true, false, cond, Option, None, Some, ap, sym, ◌∙◌, refl, arith, append_assoc, append-nil, subst, Result, IfOk}
 use Rattle.std.specs.Prelude.{remove}
-use Rattle.sj_base.specs.Outside.{raised}
+use Rattle.sj_base.specs.Count.{raised}
 use Rattle.sj_base.specs.declared.memory.Memory.{Memory}
 use Rattle.sj_base.specs.declared.state.State.{State}
 use Rattle.sj_json.specs.Tree.{Tree, array, item, no_items}

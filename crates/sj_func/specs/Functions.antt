@@ -3,14 +3,14 @@
 use Rattle.std.specs.Prelude.{ℕ, ◌+◌, Bool as Logical, true, false, List, [], ◌∷◌, codes, Option, Some, None, Result, Ok, Err, if◌then◌else◌}
 use Rattle.sj_base.specs.declared.state.State.{State}
 use Rattle.sj_base.specs.declared.state.State.TheVariants.{S22034, S22035}
-use Rattle.sj_path_grammar.specs.declared.tree.Mode.{Mode}
+use Rattle.sj_path_tree.specs.declared.parts.Mode.{Mode}
 use Rattle.sj_json.specs.Tree.{Tree, null, truth, string, number, array, object, Items, no_items, item}
 use Rattle.sj_json.specs.Printing.{printed}
 use Rattle.sj_doc.specs.Kinds.{kind_of}
 use Rattle.sj_doc.specs.declared.node.Kind.{Kind}
 use Rattle.sj_doc.specs.declared.node.Kind.TheVariants as kinds
 use Rattle.sj_item.specs.Items.{ItemValue, item_value, item_tree, nodes_below}
-use Rattle.sj_path_tree.specs.Tree.{path_of}
+use Rattle.sj_path_tree.specs.View.{path_of}
 use Rattle.sj_step.specs.Trace.{Trace, items, visits, fault_of}
 use Rattle.sj_cursor.specs.Answers.{exists_answer}
 use Rattle.sj_cursor.specs.Meaning.{path_trace}

@@ -1,6 +1,6 @@
 // JSON_EXISTS.
 ghost use Rattle.std.specs.Prelude.{◌≡◌, ◌≤◌};
-ghost use Rattle.sj_base.specs.Outside.{raised};
+ghost use Rattle.sj_base.specs.Count.{raised};
 ghost use Rattle.sj_func.specs.Functions.{context_value, trace_on, exists_outcome, exists_cost, exists_given};
 
 use crate::context::{Context, Outcome};

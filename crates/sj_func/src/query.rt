@@ -1,6 +1,6 @@
 // JSON_QUERY.
 ghost use Rattle.std.specs.Prelude.{◌≡◌, ◌≤◌, ◌+◌, ◌∷◌, IfOk};
-ghost use Rattle.sj_base.specs.Outside.{raised};
+ghost use Rattle.sj_base.specs.Count.{raised};
 ghost use Rattle.sj_item.specs.Items.{item_value, item_tree, nodes_below};
 ghost use Rattle.sj_step.specs.Trace.{items, visits, fault_of};
 ghost use Rattle.sj_func.specs.Functions.{context_value, trace_on, single_on, query_error, query_given, query_items as items_of, query_all as query_all_of, query_outcome, query_cost, query_one_cost, query_all_cost, all_below, IsPrinted};

@@ -1,6 +1,6 @@
 // The only item of a path on a context.
 ghost use Rattle.std.specs.Prelude.{◌≡◌, ◌≤◌};
-ghost use Rattle.sj_base.specs.Outside.{raised};
+ghost use Rattle.sj_base.specs.Count.{raised};
 ghost use Rattle.sj_cursor.specs.Answers.{single_value};
 ghost use Rattle.sj_func.specs.Functions.{context_value, trace_on, single_on, value_cost};
 

@@ -1,6 +1,6 @@
 // The texts of items.
 ghost use Rattle.std.specs.Prelude.{◌≡◌, ◌≤◌, ◌<◌, ◌+◌, ◌++◌, ◌∷◌, [], length, option_map, remove, IfOk, OnOk, if◌then◌else◌};
-ghost use Rattle.sj_base.specs.Outside.{raised};
+ghost use Rattle.sj_base.specs.Count.{raised};
 ghost use Rattle.sj_json.specs.Printing.{printed, printed_more_items};
 ghost use Rattle.sj_item.specs.Items.{item_value, item_tree, nodes_below};
 ghost use Rattle.sj_step.specs.Trace.{items, visits, fault_of};

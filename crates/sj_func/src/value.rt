@@ -1,6 +1,6 @@
 // JSON_VALUE.
 ghost use Rattle.std.specs.Prelude.{◌≡◌, ◌≤◌, IfOk};
-ghost use Rattle.sj_base.specs.Outside.{raised};
+ghost use Rattle.sj_base.specs.Count.{raised};
 ghost use Rattle.sj_item.specs.Items.{item_value};
 ghost use Rattle.sj_value.specs.Casts.{cast_of};
 ghost use Rattle.sj_value.specs.Clauses.{GivesPrintable, IsValueSpec};

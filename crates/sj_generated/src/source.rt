@@ -1,12 +1,12 @@
 // The source of generated lines.
 ghost use Rattle.std.specs.Prelude.{◌≡◌, ◌<◌, ◌≤◌, ◌++◌, [], length, take, drop, min, Option, Some, IfOk, Ok};
 ghost use Rattle.std.specs.Io.KnownBytes.{ReadConsumes};
-ghost use Rattle.sj_base.specs.Outside.{HasCause};
+ghost use Rattle.sj_outside.specs.Outside.{HasCause};
 ghost use Rattle.sj_generated.specs.Lines.{most_lines, generated};
 
 use crate::line::{ROOM, line};
 use arrayvec::ArrayString;
-use sj_base::{Failed, Source};
+use sj_outside::{Failed, Source};
 use std::marker::Model;
 
 /// A source of generated lines. It makes a line when its first byte is asked for, holds that line alone, and never

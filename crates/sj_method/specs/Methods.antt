@@ -5,8 +5,8 @@ use Rattle.sj_decimal.specs.Rounding.{floor_of, ceiling_of}
 use Rattle.sj_doc.specs.Kinds.{kind_of}
 use Rattle.sj_doc.specs.declared.node.Kind.{Kind}
 use Rattle.sj_doc.specs.declared.node.Kind.TheVariants as kinds
-use Rattle.sj_path_grammar.specs.declared.tree.Method.{Method}
-use Rattle.sj_path_grammar.specs.declared.tree.Method.TheVariants as methods
+use Rattle.sj_path_tree.specs.declared.parts.Method.{Method}
+use Rattle.sj_path_tree.specs.declared.parts.Method.TheVariants as methods
 use Rattle.sj_item.specs.Items.{ItemValue, made_number, made_text, made_truth, item_value, item_tree, size_of}
 use Rattle.sj_item.specs.Bounds.{integer_low, integer_high, bigint_low, bigint_high}
 use Rattle.sj_item.specs.Scalars.{number_cast, whole_cast, truth_cast, text_cast}

@@ -7,8 +7,8 @@ use Rattle.sj_decimal.specs.declared.arithmetic.NumFault.TheVariants.{Range, Zer
 use Rattle.sj_decimal.specs.Arithmetic.{sum, difference, product, quotient, remainder}
 use Rattle.sj_decimal.specs.Rounding.{whole_of}
 use Rattle.sj_json.specs.Tree.{Tree, null, truth, string, number, array, object, exact, wide}
-use Rattle.sj_path_grammar.specs.declared.tree.Arith.{Arith}
-use Rattle.sj_path_grammar.specs.declared.tree.Arith.TheVariants as ariths
+use Rattle.sj_path_tree.specs.declared.parts.Arith.{Arith}
+use Rattle.sj_path_tree.specs.declared.parts.Arith.TheVariants as ariths
 use Rattle.sj_item.specs.Items.{ItemValue, item_tree}
 
 -- the exact number that a tree is: nothing else is a number, and a wide one is out of range

@@ -11,7 +11,7 @@ use sj_item::{
     BIGINT_HIGH, BIGINT_LOW, Exact, INTEGER_HIGH, INTEGER_LOW, Item, kind, size, to_number,
     to_text, to_truth, to_whole,
 };
-use sj_path_grammar::Method;
+use sj_path_tree::Method;
 use sj_step::whole_number;
 
 /// What a method other than `keyvalue` gives of an item: one item, or a fault (ISO/IEC 9075-2:2023, SQL/JSON path

@@ -7,7 +7,7 @@ use sj_base::State;
 use sj_decimal::{Decimal, NumFault};
 use sj_doc::{Kind, NodeRef, Num};
 use sj_item::Item;
-use sj_path_grammar::Arith;
+use sj_path_tree::Arith;
 
 /// An item as an operand of arithmetic: its number. An item that is no number is 22036, and a number that is not exact
 /// is 22003.

@@ -1,7 +1,7 @@
 -- Printing one thing behind another.
 use Rattle.std.proofs.Common.{◌≡◌, ℕ, ◌+◌, List, [], ◌++◌, Result, Ok, Err, IsOk, refl, sym, ◌∙◌, ap, subst, arith, append_assoc}
 use Rattle.std.proofs.lemmas.List.{append-nil}
-use Rattle.sj_base.specs.Outside.{Rose, raised}
+use Rattle.sj_base.specs.Count.{Rose, raised}
 use Rattle.sj_page.specs.declared.stop.Stop.{Stop}
 use Rattle.sj_page.specs.declared.stop.Stop.TheVariants.{Memory, Output}
 use Rattle.sj_page.specs.Sides.{OutputSide, Grew, Wrote}

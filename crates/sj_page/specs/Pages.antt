@@ -1,6 +1,6 @@
 -- What is printed, and where it stands: on the page, or written.
 use Rattle.std.specs.Prelude.{◌≡◌, ℕ, ◌+◌, List, [], ◌++◌, Option, Result, MatchResult}
-use Rattle.sj_base.specs.Outside.{Rose, raised}
+use Rattle.sj_base.specs.Count.{Rose, raised}
 use Rattle.sj_base.specs.declared.state.State.{State}
 use Rattle.sj_value.specs.declared.value.SqlValue.{SqlValue}
 use Rattle.sj_rows.specs.RowText.{row_bytes, error_bytes}

@@ -5,7 +5,8 @@ ghost use Rattle.sj_page.specs.Pages.{max_page, empty_page, print_state, nothing
 
 use crate::stop::Stop;
 use crate::writes::write_all;
-use sj_base::{Bytes, Sink, State};
+use sj_base::{Bytes, State};
+use sj_outside::Sink;
 use sj_rows::{error_text, row_text};
 use sj_value::SqlValue;
 use std::alloc::Global;

@@ -2,7 +2,7 @@
 ghost use Rattle.std.specs.Prelude.{◌≡◌, ◌≤◌, length, drop, map};
 ghost use Rattle.sj_page.specs.Sides.{output_side, Wrote, joined};
 
-use sj_base::{Failed, Sink};
+use sj_outside::{Failed, Sink};
 
 /// Writes all of a text, or fails with a front of it written.
 pub fn write_all<O: Sink>(out: &mut O, text: &[u8]) -> Result<(), Failed>

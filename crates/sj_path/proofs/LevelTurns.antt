@@ -1,7 +1,7 @@
 -- One more turn of a loop of `Level`, beside a recursion on the turns that are left.
 use Rattle.std.proofs.Common.{◌≡◌, ℕ, suc, ◌+◌, ◌-◌, ◌<◌, Bool, true, Some, sym, ap, ◌∙◌, arith}
-use Rattle.sj_path_grammar.specs.declared.tree.Arith.{Arith}
-use Rattle.sj_path_grammar.specs.Tree.{Expr, Step, Pred, Access, Binary, And, Or}
+use Rattle.sj_path_tree.specs.declared.parts.Arith.{Arith}
+use Rattle.sj_path_tree.specs.Tree.{Expr, Step, Pred, Access, Binary, And, Or}
 use Rattle.sj_path_grammar.specs.Signs.{add_sign, mul_sign}
 use Rattle.sj_path_grammar.specs.Grammar.{Tokens}
 use Rattle.sj_path_grammar.specs.Reading.{Parser, Read, ExprOrPred, begins_step, step_at, access_from, sign_at, unary_at, product_from, term_at, sum_from, and_at, test_at, and_from, or_at, conj_at, or_from}

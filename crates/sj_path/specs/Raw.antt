@@ -1,5 +1,5 @@
 -- A tree as the parser makes it, as a tree of the grammar.
-use Rattle.sj_path_grammar.specs.Tree as t
+use Rattle.sj_path_tree.specs.Tree as t
 use Rattle.sj_path.specs.declared.raw.Expr.{Expr, Root, Var, Context, Last, Lit, Access', Plus', Minus', Binary'}
 use Rattle.sj_path.specs.declared.raw.Step.{Step, Member, AllMembers, AllElements, Elements', Filter', Method, Double, Datetime, DatetimeBy}
 use Rattle.sj_path.specs.declared.raw.Sub.{Sub, One', Range'}

@@ -2,7 +2,7 @@
 
 ghost use Rattle.std.specs.Prelude.{◌≡◌};
 ghost use Rattle.sj_path.specs.Raw as raw;
-ghost use Rattle.sj_path_tree.specs.Tree as tree;
+ghost use Rattle.sj_path_tree.specs.View as tree;
 ghost use Rattle.sj_path_grammar.specs.Finishes.{Finishes};
 ghost use Rattle.sj_path_grammar.specs.Unsupported as unsupported;
 

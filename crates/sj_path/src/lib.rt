@@ -17,7 +17,8 @@ mod single;
 mod step;
 
 pub use parse::parse_path;
+pub use sj_path_grammar::{Name, PathRefusal};
 pub use sj_path_tree::{
-    Arith, Compare, Expr, Initial, Literal, Method, Mode, Name, Path, PathRefusal, Pred, Step, Sub,
-    Subs, Vars, member_path, nodes,
+    Arith, Compare, Expr, Initial, Literal, Method, Mode, Path, Pred, Step, Sub, Subs, Vars,
+    member_path, nodes,
 };

@@ -1,12 +1,12 @@
 //! Nodes of a tree.
 
 ghost use Rattle.std.specs.Prelude.{◌≡◌, IfOk};
-ghost use Rattle.sj_path_grammar.specs.Tree as tree;
+ghost use Rattle.sj_path_tree.specs.Tree as tree;
 ghost use Rattle.sj_path.specs.Raw.{expr_of, step_of, pred_of};
 
 use crate::raw::{Expr, Pred, Step};
 use sj_base::{Memory, boxed};
-use sj_path_grammar::Arith;
+use sj_path_tree::Arith;
 use std::alloc::Global;
 
 pub fn binary(alloc: Global, op: Arith, a: Box<Expr>, b: Box<Expr>) -> Result<Box<Expr>, Memory>

@@ -5,7 +5,7 @@ ghost use Rattle.sj_base.specs.Gives.{Gives};
 ghost use Rattle.sj_path_grammar.specs.Reading as reading;
 ghost use Rattle.sj_path_grammar.specs.Answers.{Allows, Forbids, Accepts, Refuses};
 ghost use Rattle.sj_path.specs.Raw as raw;
-ghost use Rattle.sj_path_tree.specs.Tree.{path_of};
+ghost use Rattle.sj_path_tree.specs.View.{path_of};
 
 use crate::check::misplaced_expr;
 use crate::depth::is_too_deep;
@@ -13,9 +13,9 @@ use crate::finish::finished;
 use crate::level::{Level, expr_or_pred};
 use crate::{raw, single};
 use sj_base::ParseRefusal;
-use sj_path_grammar::{Mode, PathRefusal};
+use sj_path_grammar::PathRefusal;
 use sj_path_token::{Token, tokens_of};
-use sj_path_tree::Path;
+use sj_path_tree::{Mode, Path};
 use std::alloc::Global;
 
 /// A path, behind its mode.

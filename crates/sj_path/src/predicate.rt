@@ -8,8 +8,8 @@ ghost use Rattle.sj_path.specs.Raw.{expr_of, pred_of, expr_or_pred_of};
 use crate::raw::{Expr, ExprOrPred, Pred};
 use crate::single;
 use sj_base::{ParseRefusal, Text, boxed};
-use sj_path_grammar::Initial;
 use sj_path_token::Token;
+use sj_path_tree::Initial;
 use std::alloc::Global;
 
 /// Behind `starts with`.

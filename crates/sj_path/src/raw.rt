@@ -6,7 +6,7 @@
 
 use sj_base::Text;
 use sj_decimal::Compare;
-use sj_path_grammar::{Arith, Initial, Literal, Method, Mode};
+use sj_path_tree::{Arith, Initial, Literal, Method, Mode};
 
 #[derive(Drop)]
 pub struct Path {

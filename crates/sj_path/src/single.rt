@@ -9,8 +9,8 @@ ghost use Rattle.sj_path_grammar.specs.Reading as reading;
 
 use crate::raw::Expr;
 use sj_base::{Memory, ParseRefusal, Text};
-use sj_path_grammar::{Arith, Literal};
 use sj_path_token::{Keyword, Token};
+use sj_path_tree::{Arith, Literal};
 use std::alloc::Global;
 
 pub fn add_sign(tokens: &[Token]) -> Option<(Arith, &[Token])>

@@ -9,8 +9,8 @@ ghost use Rattle.sj_path.specs.Raw.{step_of};
 use crate::raw::Step;
 use crate::single;
 use sj_base::{ParseRefusal, Text};
-use sj_path_grammar::Method;
 use sj_path_token::{Keyword, Token};
+use sj_path_tree::Method;
 use std::alloc::Global;
 
 /// The method without an argument that the word names.

@@ -10,7 +10,7 @@ use Rattle.sj_path_token.proofs.Texts.{lex_sound, lex_full}
 use Rattle.sj_path_grammar.specs.declared.refusal.PathRefusal.{PathRefusal}
 use Rattle.sj_path_grammar.specs.declared.refusal.PathRefusal.TheVariants.{Memory}
 use Rattle.sj_path_grammar.specs.declared.refusal.Name.{Name}
-use Rattle.sj_path_grammar.specs.Tree.{Path}
+use Rattle.sj_path_tree.specs.Tree.{Path}
 use Rattle.sj_path_grammar.specs.Grammar.{Tokens}
 use Rattle.sj_path_grammar.specs.Depth.{is_opening, is_closing, is_counted, max_counted, IsDeepAt, OpensTooMany, IsTooDeep}
 use Rattle.sj_path_grammar.specs.Misplaced.{is_misplaced}

@@ -4,8 +4,8 @@ use Rattle.sj_base.specs.Options.{◌>>=◌}
 use Rattle.sj_path_token.specs.declared.token.Token.{Token}
 use Rattle.sj_path_token.specs.declared.token.Token.TheVariants as k
 use Rattle.sj_path_token.specs.declared.keyword.Keyword.TheVariants as w
-use Rattle.sj_path_grammar.specs.Tree as t
-use Rattle.sj_path_grammar.specs.Tree.{Expr, Step, Sub, Subs, Pred}
+use Rattle.sj_path_tree.specs.Tree as t
+use Rattle.sj_path_tree.specs.Tree.{Expr, Step, Sub, Subs, Pred}
 use Rattle.sj_path_grammar.specs.Signs.{token_expr}
 use Rattle.sj_path_grammar.specs.Grammar as g
 use Rattle.sj_path_grammar.specs.Grammar.{Tokens, NotOpen, IsExpr, IsSum, IsTerm, IsProduct, IsUnary, IsAccess, IsPrimary, IsStep, IsSub, IsSubs, IsPred, IsOr, IsConj, IsAnd, IsNeg, IsDelim, IsPrim}

@@ -6,8 +6,8 @@ use Rattle.sj_path_token.specs.declared.token.Token.TheVariants as k
 use Rattle.sj_path_token.specs.declared.keyword.Keyword.{Keyword}
 use Rattle.sj_path_token.specs.declared.keyword.Keyword.TheVariants as w
 use Rattle.sj_decimal.specs.declared.comparing.Compare.{Compare}
-use Rattle.sj_path_grammar.specs.declared.tree.Arith.{Arith}
-use Rattle.sj_path_grammar.specs.Tree.{Expr, Step, Sub, Subs, Pred}
+use Rattle.sj_path_tree.specs.declared.parts.Arith.{Arith}
+use Rattle.sj_path_tree.specs.Tree.{Expr, Step, Sub, Subs, Pred}
 use Rattle.sj_path_grammar.specs.Signs.{add_sign, mul_sign, token_expr, method_of}
 use Rattle.sj_path_grammar.specs.Grammar as g
 use Rattle.sj_path_grammar.specs.Grammar.{Tokens, NotOpen, IsExpr, IsSum, IsTerm, IsProduct, IsUnary, IsAccess, IsPrimary, IsStep, IsSub, IsSubs, IsPred, IsOr, IsConj, IsAnd, IsNeg, IsDelim, IsPrim}

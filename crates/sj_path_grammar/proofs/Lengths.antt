@@ -1,6 +1,6 @@
 -- Each spelling takes at least one token.
 use Rattle.std.proofs.Common.{◌<◌, ◌≤◌, length, arith}
-use Rattle.sj_path_grammar.specs.Tree.{Expr, Step, Sub, Subs, Pred}
+use Rattle.sj_path_tree.specs.Tree.{Expr, Step, Sub, Subs, Pred}
 use Rattle.sj_path_grammar.specs.Grammar as g
 use Rattle.sj_path_grammar.specs.Grammar.{Tokens, IsExpr, IsSum, IsTerm, IsProduct, IsUnary, IsAccess, IsPrimary, IsStep, IsSub, IsSubs, IsPred, IsOr, IsConj, IsAnd, IsNeg, IsDelim, IsPrim}
 

@@ -4,9 +4,9 @@ use Rattle.sj_base.specs.Options.{◌>>=◌}
 use Rattle.sj_path_token.specs.declared.token.Token.{Token}
 use Rattle.sj_path_token.specs.declared.token.Token.TheVariants as k
 use Rattle.sj_path_token.specs.declared.keyword.Keyword.TheVariants as w
-use Rattle.sj_path_grammar.specs.declared.tree.Mode.{Mode}
-use Rattle.sj_path_grammar.specs.declared.tree.Mode.TheVariants as mode
-use Rattle.sj_path_grammar.specs.Tree.{Expr, Path}
+use Rattle.sj_path_tree.specs.declared.parts.Mode.{Mode}
+use Rattle.sj_path_tree.specs.declared.parts.Mode.TheVariants as mode
+use Rattle.sj_path_tree.specs.Tree.{Expr, Path}
 use Rattle.sj_path_grammar.specs.Signs.{token_expr}
 use Rattle.sj_path_grammar.specs.Grammar as g
 use Rattle.sj_path_grammar.specs.Grammar.{Tokens, IsExpr, IsPath}

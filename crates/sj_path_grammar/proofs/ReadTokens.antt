@@ -4,7 +4,7 @@ use Rattle.sj_base.specs.Options.{◌>>=◌}
 use Rattle.sj_path_token.specs.declared.token.Token.{Token}
 use Rattle.sj_path_token.specs.declared.token.Token.TheVariants as k
 use Rattle.sj_path_token.specs.declared.keyword.Keyword.TheVariants as w
-use Rattle.sj_path_grammar.specs.declared.tree.Arith.{Arith}
+use Rattle.sj_path_tree.specs.declared.parts.Arith.{Arith}
 use Rattle.sj_path_grammar.specs.Grammar.{Tokens, NotOpen}
 use Rattle.sj_path_grammar.specs.Reading.{Read, on_some, sign_at, to_at, is_at, unknown_at, with_at, flag_at, lax_at, strict_at, open_at, close_at, bracket_at, comma_at, and_at, or_at, quoted_at, star_at}
 

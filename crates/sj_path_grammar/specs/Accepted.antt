@@ -4,7 +4,7 @@ use Rattle.sj_base.specs.Options.{◌>>=◌}
 use Rattle.sj_base.specs.Nesting.{max_open}
 use Rattle.sj_path_token.specs.Reading.{lex}
 use Rattle.sj_path_grammar.specs.declared.refusal.Name.{Name}
-use Rattle.sj_path_grammar.specs.Tree.{Path}
+use Rattle.sj_path_tree.specs.Tree.{Path}
 use Rattle.sj_path_grammar.specs.Grammar.{Tokens}
 use Rattle.sj_path_grammar.specs.Depth.{is_opening, is_closing, is_counted, max_counted}
 use Rattle.sj_path_grammar.specs.Misplaced.{is_misplaced}

@@ -3,7 +3,7 @@ use Rattle.std.specs.Prelude.{◌≡◌, ℕ, true, false, List, Some, None}
 use Rattle.sj_path_token.specs.Tokens.{HasTokens}
 use Rattle.sj_path_grammar.specs.declared.refusal.PathRefusal.{PathRefusal}
 use Rattle.sj_path_grammar.specs.declared.refusal.PathRefusal.TheVariants as r
-use Rattle.sj_path_grammar.specs.Tree.{Path}
+use Rattle.sj_path_tree.specs.Tree.{Path}
 use Rattle.sj_path_grammar.specs.Grammar.{Tokens, IsPath}
 use Rattle.sj_path_grammar.specs.Depth.{IsTooDeep}
 use Rattle.sj_path_grammar.specs.Misplaced.{is_misplaced}

@@ -1,4 +1,3 @@
-pub mod Tree
 pub mod Signs
 pub mod Grammar
 pub mod Depth

@@ -1,7 +1,7 @@
 -- Whether an `@` stands in no filter, or a `last` in no list of subscripts. `filtered` says whether a filter is
 -- around, and `listed` whether a list of subscripts is.
 use Rattle.std.specs.Prelude.{Bool, true, false, not, ◌||◌}
-use Rattle.sj_path_grammar.specs.Tree.{Path, Expr, Root, Var, Context, Last, Lit, Plus, Minus, Binary, Access, Step, Member, AllMembers, AllElements, Elements, Filter, Call, Double, Datetime, DatetimeBy, Sub, One, Range, Subs, Only, More, Pred, Compares, And, Or, Not, IsUnknown, Exists, StartsWith, LikeRegex, LikeRegexBy}
+use Rattle.sj_path_tree.specs.Tree.{Path, Expr, Root, Var, Context, Last, Lit, Plus, Minus, Binary, Access, Step, Member, AllMembers, AllElements, Elements, Filter, Call, Double, Datetime, DatetimeBy, Sub, One, Range, Subs, Only, More, Pred, Compares, And, Or, Not, IsUnknown, Exists, StartsWith, LikeRegex, LikeRegexBy}
 
 abbrev mutual
   pub misplaced_expr : Expr → Bool → Bool → Bool

@@ -5,11 +5,11 @@ use Rattle.sj_path_token.specs.declared.token.Token.{Token}
 use Rattle.sj_path_token.specs.declared.token.Token.TheVariants as k
 use Rattle.sj_path_token.specs.declared.keyword.Keyword.{Keyword}
 use Rattle.sj_path_token.specs.declared.keyword.Keyword.TheVariants as w
-use Rattle.sj_path_grammar.specs.declared.tree.Arith.{Arith}
-use Rattle.sj_path_grammar.specs.declared.tree.Initial.TheVariants as initial
-use Rattle.sj_path_grammar.specs.declared.tree.Mode.{Mode}
-use Rattle.sj_path_grammar.specs.declared.tree.Mode.TheVariants as mode
-use Rattle.sj_path_grammar.specs.Tree.{Path, Expr, Plus, Minus, Binary, Access, Step, Member, AllMembers, AllElements, Elements, Filter, Datetime, DatetimeBy, Sub, One, Range, Subs, Only, More, Pred, Compares, And, Or, Not, IsUnknown, Exists, StartsWith, LikeRegex, LikeRegexBy}
+use Rattle.sj_path_tree.specs.declared.parts.Arith.{Arith}
+use Rattle.sj_path_tree.specs.declared.parts.Initial.TheVariants as initial
+use Rattle.sj_path_tree.specs.declared.parts.Mode.{Mode}
+use Rattle.sj_path_tree.specs.declared.parts.Mode.TheVariants as mode
+use Rattle.sj_path_tree.specs.Tree.{Path, Expr, Plus, Minus, Binary, Access, Step, Member, AllMembers, AllElements, Elements, Filter, Datetime, DatetimeBy, Sub, One, Range, Subs, Only, More, Pred, Compares, And, Or, Not, IsUnknown, Exists, StartsWith, LikeRegex, LikeRegexBy}
 use Rattle.sj_path_grammar.specs.Signs.{add_sign, mul_sign, token_expr, method_of}
 use Rattle.sj_path_grammar.specs.Grammar.{Tokens}
 

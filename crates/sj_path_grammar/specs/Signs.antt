@@ -4,11 +4,11 @@ use Rattle.sj_path_token.specs.declared.token.Token.{Token}
 use Rattle.sj_path_token.specs.declared.token.Token.TheVariants as k
 use Rattle.sj_path_token.specs.declared.keyword.Keyword.{Keyword}
 use Rattle.sj_path_token.specs.declared.keyword.Keyword.TheVariants as w
-use Rattle.sj_path_grammar.specs.declared.tree.Arith.{Arith}
-use Rattle.sj_path_grammar.specs.declared.tree.Arith.TheVariants.{Add, Sub, Mul, Div, Rem}
-use Rattle.sj_path_grammar.specs.declared.tree.Method.TheVariants as m
-use Rattle.sj_path_grammar.specs.declared.tree.Literal.TheVariants as l
-use Rattle.sj_path_grammar.specs.Tree.{Expr, Root, Var, Context, Last, Lit, Step, Call, Double}
+use Rattle.sj_path_tree.specs.declared.parts.Arith.{Arith}
+use Rattle.sj_path_tree.specs.declared.parts.Arith.TheVariants.{Add, Sub, Mul, Div, Rem}
+use Rattle.sj_path_tree.specs.declared.parts.Method.TheVariants as m
+use Rattle.sj_path_tree.specs.declared.parts.Literal.TheVariants as l
+use Rattle.sj_path_tree.specs.Tree.{Expr, Root, Var, Context, Last, Lit, Step, Call, Double}
 
 -- "+" | "-"
 abbrev pub add_sign : Token → Option Arith

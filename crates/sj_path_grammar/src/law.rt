@@ -3,7 +3,7 @@
 ghost use Rattle.std.specs.Prelude.{◌≡◌, ◌↔◌, ℕ, List, Some};
 ghost use Rattle.sj_path_token.specs.Tokens.{HasTokens};
 ghost use Rattle.sj_path_token.specs.declared.token.Token.{Token};
-ghost use Rattle.sj_path_grammar.specs.Tree.{Path};
+ghost use Rattle.sj_path_tree.specs.Tree.{Path};
 ghost use Rattle.sj_path_grammar.specs.Answers.{HasTree, Accepts, Refuses};
 ghost use Rattle.sj_path_grammar.specs.Accepted.{accepted_path};
 ghost use Rattle.sj_path_grammar.specs.declared.refusal.PathRefusal.{PathRefusal};

@@ -9,7 +9,7 @@ use sj_decimal::Decimal;
 use sj_doc::{Doc, NodeRef};
 use sj_item::{Item, Pull};
 use sj_path::{Path, Vars, nodes, parse_path};
-use sj_path_grammar::Literal;
+use sj_path_tree::Literal;
 use sj_read::read;
 use sj_text::item_text;
 use std::alloc::{AllocError, Global};

@@ -4,7 +4,7 @@
 use super::cases::expect_count;
 use sj_base::Text;
 use sj_path::{Path, Vars, member_path, nodes, parse_path};
-use sj_path_grammar::Literal;
+use sj_path_tree::Literal;
 use std::alloc::Global;
 use std::process::Abort;
 use std::test::Fail;

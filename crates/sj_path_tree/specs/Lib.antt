@@ -1,4 +1,5 @@
 pub mod Tree
+pub mod View
 pub mod Nodes
 pub mod Vars
 pub mod Member

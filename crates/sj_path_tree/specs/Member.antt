@@ -1,7 +1,7 @@
 -- The path of one member.
 use Rattle.std.specs.Prelude.{ℕ, List}
-use Rattle.sj_path_grammar.specs.declared.tree.Mode.TheVariants as mode
-use Rattle.sj_path_grammar.specs.Tree.{Path, Root, Access, Member}
+use Rattle.sj_path_tree.specs.declared.parts.Mode.TheVariants as mode
+use Rattle.sj_path_tree.specs.Tree.{Path, Root, Access, Member}
 
 -- lax $.key
 abbrev pub member_path : List ℕ → Path

@@ -1,48 +1,55 @@
--- A parsed path as a tree of the grammar, without where its parts lie in memory.
-use Rattle.sj_path_grammar.specs.Tree as t
-use Rattle.sj_path_tree.specs.declared.tree.Path.{Path}
-use Rattle.sj_path_tree.specs.declared.tree.Expr.{Expr, Root, Var, Context, Last, Lit, Access', Plus', Minus', Binary'}
-use Rattle.sj_path_tree.specs.declared.tree.Step.{Step, Member, AllMembers, AllElements, Elements', Filter', Method}
-use Rattle.sj_path_tree.specs.declared.tree.Sub.{Sub, One, Range}
-use Rattle.sj_path_tree.specs.declared.tree.Subs.{Subs, Only, More'}
-use Rattle.sj_path_tree.specs.declared.tree.Pred.{Pred, Compare, And', Or', Not', IsUnknown', Exists, StartsWith}
+-- The trees of paths, without where their parts lie in memory. `Double`, `Datetime`, `DatetimeBy`, `LikeRegex`
+-- and `LikeRegexBy` are parts of the grammar that the type of parsed paths lacks.
+use Rattle.std.specs.Prelude.{ℕ, List}
+use Rattle.sj_decimal.specs.declared.comparing.Compare.{Compare}
+use Rattle.sj_path_tree.specs.declared.parts.Mode.{Mode}
+use Rattle.sj_path_tree.specs.declared.parts.Arith.{Arith}
+use Rattle.sj_path_tree.specs.declared.parts.Method.{Method}
+use Rattle.sj_path_tree.specs.declared.parts.Literal.{Literal}
+use Rattle.sj_path_tree.specs.declared.parts.Initial.{Initial}
 
-abbrev mutual
-  pub expr_of : Expr → t.Expr
-  expr_of Root = t.Root
-  expr_of (Var name) = t.Var name
-  expr_of Context = t.Context
-  expr_of Last = t.Last
-  expr_of (Lit literal) = t.Lit literal
-  expr_of (Access' p e s) = t.Access (expr_of e) (step_of s)
-  expr_of (Plus' p e) = t.Plus (expr_of e)
-  expr_of (Minus' p e) = t.Minus (expr_of e)
-  expr_of (Binary' op p a q b) = t.Binary op (expr_of a) (expr_of b)
+mutual
+  pub data Expr : Type 0 where
+    Root : Expr
+    Var : (name : List ℕ) → Expr
+    Context : Expr
+    Last : Expr
+    Lit : (literal : Literal) → Expr
+    Access : (e : Expr) (s : Step) → Expr
+    Plus : (e : Expr) → Expr
+    Minus : (e : Expr) → Expr
+    Binary : (op : Arith) (a b : Expr) → Expr
 
-  pub step_of : Step → t.Step
-  step_of (Member key) = t.Member key
-  step_of AllMembers = t.AllMembers
-  step_of AllElements = t.AllElements
-  step_of (Elements' p subs) = t.Elements (subs_of subs)
-  step_of (Filter' p x) = t.Filter (pred_of x)
-  step_of (Method m) = t.Call m
+  pub data Step : Type 0 where
+    Member : (key : List ℕ) → Step
+    AllMembers : Step
+    AllElements : Step
+    Elements : (subs : Subs) → Step
+    Filter : (p : Pred) → Step
+    Call : (method : Method) → Step
+    Double : Step
+    Datetime : Step
+    DatetimeBy : (template : List ℕ) → Step
 
-  pub sub_of : Sub → t.Sub
-  sub_of (One e) = t.One (expr_of e)
-  sub_of (Range from to) = t.Range (expr_of from) (expr_of to)
+  pub data Sub : Type 0 where
+    One : (e : Expr) → Sub
+    Range : (from to : Expr) → Sub
 
-  pub subs_of : Subs → t.Subs
-  subs_of (Only s) = t.Only (sub_of s)
-  subs_of (More' s p others) = t.More (sub_of s) (subs_of others)
+  pub data Subs : Type 0 where
+    Only : (s : Sub) → Subs
+    More : (s : Sub) (others : Subs) → Subs
 
-  pub pred_of : Pred → t.Pred
-  pred_of (Compare op a b) = t.Compares op (expr_of a) (expr_of b)
-  pred_of (And' p x q y) = t.And (pred_of x) (pred_of y)
-  pred_of (Or' p x q y) = t.Or (pred_of x) (pred_of y)
-  pred_of (Not' p x) = t.Not (pred_of x)
-  pred_of (IsUnknown' p x) = t.IsUnknown (pred_of x)
-  pred_of (Exists e) = t.Exists (expr_of e)
-  pred_of (StartsWith e initial) = t.StartsWith (expr_of e) initial
+  pub data Pred : Type 0 where
+    Compares : (op : Compare) (a b : Expr) → Pred
+    And : (p q : Pred) → Pred
+    Or : (p q : Pred) → Pred
+    Not : (p : Pred) → Pred
+    IsUnknown : (p : Pred) → Pred
+    Exists : (e : Expr) → Pred
+    StartsWith : (e : Expr) (initial : Initial) → Pred
+    LikeRegex : (e : Expr) (pattern : List ℕ) → Pred
+    LikeRegexBy : (e : Expr) (pattern flags : List ℕ) → Pred
 
-abbrev pub path_of : Path → t.Path
-path_of p = record { mode = p.mode; expr = expr_of p.expr }
+pub record Path : Type 0 where
+  pub mode : Mode
+  pub expr : Expr

@@ -2,10 +2,10 @@
 use Rattle.std.specs.Prelude.{ℕ, Bool, List, [], ◌∷◌, ◌++◌, Option, option_map, find}
 use Rattle.std.specs.Str.{bytes_eq}
 use Rattle.std.specs.List.{list_all, list_any}
-use Rattle.sj_path_grammar.specs.declared.tree.Literal.{Literal}
-use Rattle.sj_path_grammar.specs.declared.tree.Initial.{Initial}
-use Rattle.sj_path_grammar.specs.declared.tree.Initial.TheVariants as initial
-use Rattle.sj_path_grammar.specs.Tree.{Path, Expr, Root, Var, Context, Last, Lit, Plus, Minus, Binary, Access, Step, Member, AllMembers, AllElements, Elements, Filter, Call, Double, Datetime, DatetimeBy, Sub, One, Range, Subs, Only, More, Pred, Compares, And, Or, Not, IsUnknown, Exists, StartsWith, LikeRegex, LikeRegexBy}
+use Rattle.sj_path_tree.specs.declared.parts.Literal.{Literal}
+use Rattle.sj_path_tree.specs.declared.parts.Initial.{Initial}
+use Rattle.sj_path_tree.specs.declared.parts.Initial.TheVariants as initial
+use Rattle.sj_path_tree.specs.Tree.{Path, Expr, Root, Var, Context, Last, Lit, Plus, Minus, Binary, Access, Step, Member, AllMembers, AllElements, Elements, Filter, Call, Double, Datetime, DatetimeBy, Sub, One, Range, Subs, Only, More, Pred, Compares, And, Or, Not, IsUnknown, Exists, StartsWith, LikeRegex, LikeRegexBy}
 
 -- names with their values
 abbrev pub Variables : Type 0

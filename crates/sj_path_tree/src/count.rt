@@ -3,7 +3,7 @@
 ghost use Rattle.std.specs.Prelude.{◌≡◌, ◌+◌};
 ghost use Rattle.std.specs.Io.Iter.{u64_saturate};
 ghost use Rattle.sj_path_tree.specs.Nodes as spec;
-ghost use Rattle.sj_path_tree.specs.Tree.{path_of, expr_of, step_of, sub_of, subs_of, pred_of};
+ghost use Rattle.sj_path_tree.specs.View.{path_of, expr_of, step_of, sub_of, subs_of, pred_of};
 
 use crate::tree::{Expr, Path, Pred, Step, Sub, Subs};
 

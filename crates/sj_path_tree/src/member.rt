@@ -1,12 +1,12 @@
 //! The path of one member.
 
 ghost use Rattle.std.specs.Prelude.{◌≡◌, IfOk};
-ghost use Rattle.sj_path_tree.specs.Tree.{path_of};
+ghost use Rattle.sj_path_tree.specs.View.{path_of};
 ghost use Rattle.sj_path_tree.specs.Member.{member_path};
 
+use crate::parts::Mode;
 use crate::tree::{Expr, Path, Step};
 use sj_base::{Memory, Text};
-use sj_path_grammar::Mode;
 use std::alloc::Global;
 
 /// The path `lax $.key`, whatever characters the key has.

@@ -1,8 +1,8 @@
 //! Paths as trees.
 
+use crate::parts::{Arith, Initial, Literal, Method, Mode};
 use sj_base::Text;
 use sj_decimal::Compare;
-use sj_path_grammar::{Arith, Initial, Literal, Method, Mode};
 
 /// A path of the SQL/JSON path language (ISO/IEC 9075-2, 9.46).
 ///

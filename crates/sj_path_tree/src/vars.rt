@@ -3,12 +3,12 @@
 ghost use Rattle.std.specs.Prelude.{◌≡◌, ◌++◌, [], ◌∷◌, false, OnOk, OnErr};
 ghost use Rattle.std.specs.List.{list_all};
 ghost use Rattle.std.specs.Option.{option_copied};
-ghost use Rattle.sj_path_tree.specs.Tree.{path_of, expr_of, step_of, sub_of, subs_of, pred_of};
+ghost use Rattle.sj_path_tree.specs.View.{path_of, expr_of, step_of, sub_of, subs_of, pred_of};
 ghost use Rattle.sj_path_tree.specs.Vars as spec;
 
+use crate::parts::{Initial, Literal};
 use crate::tree::{Expr, Path, Pred, Step, Sub, Subs};
 use sj_base::{Memory, Text};
-use sj_path_grammar::{Initial, Literal};
 use std::alloc::Global;
 use std::marker::Model;
 
@@ -20,7 +20,7 @@ pub struct Vars {
 
 impl Model for Vars {
     ghost use Rattle.std.specs.Prelude.{ℕ, List};
-    ghost use Rattle.sj_path_grammar.specs.declared.tree.Literal.{Literal};
+    ghost use Rattle.sj_path_tree.specs.declared.parts.Literal.{Literal};
 
     ghost Value = { List (List ℕ × Literal) };
 

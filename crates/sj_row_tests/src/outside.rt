@@ -1,8 +1,9 @@
 // Each call with ample memory, its answer compared; the objects in memory by tables of failing calls and cuts; the
 // adapters over fakes and a file.
-use sj_base::{
-    Bytes, CountSink, Failed, FileShelf, Ledger, MemShelf, MemSink, MemSource, Memory, QuietShelf,
-    QuietSource, Shelf, Sink, Source, StderrSink, StdinSource, StdoutSink, Steps, Tally, Text,
+use sj_base::{Bytes, Ledger, Memory, Steps, Tally, Text};
+use sj_outside::{
+    CountSink, Failed, FileShelf, MemShelf, MemSink, MemSource, QuietShelf, QuietSource, Shelf,
+    Sink, Source, StderrSink, StdinSource, StdoutSink,
 };
 use std::fs;
 use std::io::{self, ErrorKind, Read, Write};

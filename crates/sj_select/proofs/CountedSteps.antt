@@ -1,6 +1,6 @@
 -- Steps that are taken one after another.
 use Rattle.std.proofs.Common.{◌≤◌, ℕ, ◌+◌, arith}
-use Rattle.sj_base.specs.Outside.{raised}
+use Rattle.sj_base.specs.Count.{raised}
 use Rattle.sj_table.specs.Takes.{Spends}
 
 pub spent_none : (m a : ℕ) → m ≤ raised m a

@@ -3,7 +3,7 @@ use Rattle.std.proofs.Common.{◌≡◌, ◌≤◌, ◌<◌, ℕ, ◌+◌, List,
 use Rattle.std.specs.List.{All}
 use Rattle.std.proofs.lemmas.List.Elements.{All-nil, All-append, All-cons}
 use Rattle.std.proofs.lemmas.List.{append-nil, drop-map, drop-drop, drop-set-lt, drop_all, drop_more, get_or-drop, get_or-map, length-map}
-use Rattle.sj_base.specs.Outside.{raised}
+use Rattle.sj_base.specs.Count.{raised}
 use Rattle.sj_base.specs.declared.state.State.{State}
 use Rattle.sj_value.specs.Values.{IsPrintable}
 use Rattle.sj_value.specs.declared.value.SqlValue.{SqlValue}

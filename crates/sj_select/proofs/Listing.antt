@@ -1,7 +1,7 @@
 -- The rows of a table, each with its columns and the values beside them.
 use Rattle.std.specs.Result.{IsErr}
 use Rattle.std.proofs.Common.{◌≡◌, ◌≤◌, ℕ, ◌+◌, ◌-◌, false, true, List, Result, Ok, Err, refl, sym, ap, subst, ◌∙◌, arith}
-use Rattle.sj_base.specs.Outside.{raised}
+use Rattle.sj_base.specs.Count.{raised}
 use Rattle.sj_base.specs.declared.memory.Memory.{Memory}
 use Rattle.sj_base.specs.declared.state.State.{State}
 use Rattle.sj_value.specs.declared.value.SqlValue.{SqlValue}

@@ -1,7 +1,7 @@
 -- The outcome of JSON_EXISTS can be printed.
 use Rattle.std.proofs.Common.{Bool, Result, Ok, Err}
 use Rattle.sj_base.specs.declared.state.State.{State}
-use Rattle.sj_path_grammar.specs.declared.tree.Mode.{Mode}
+use Rattle.sj_path_tree.specs.declared.parts.Mode.{Mode}
 use Rattle.sj_item.specs.Items.{ItemValue}
 use Rattle.sj_step.specs.Trace.{Trace}
 use Rattle.sj_cursor.specs.Answers.{exists_answer}

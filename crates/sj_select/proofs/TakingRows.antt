@@ -4,7 +4,7 @@ use Rattle.std.specs.List.{All as Each}
 use Rattle.sj_base.specs.declared.memory.Memory.{Memory}
 use Rattle.sj_base.specs.declared.state.State.{State}
 use Rattle.sj_value.specs.declared.value.SqlValue.{SqlValue}
-use Rattle.sj_base.specs.Outside.{raised}
+use Rattle.sj_base.specs.Count.{raised}
 use Rattle.sj_func.specs.declared.context.Outcome.{Outcome}
 use Rattle.sj_func.specs.declared.context.Outcome.TheVariants.{Value}
 use Rattle.sj_table.specs.Rows.{Row, PlanRows}

@@ -1,8 +1,8 @@
 -- WHAT A VALUE OF A SELECT LIST IS for a line, and the steps that finding it may take (ISO/IEC 9075-2, SQL/JSON functions).
 use Rattle.std.specs.Prelude.{ℕ, ◌+◌, Bool as Logical, false, not, ◌&&◌, ◌||◌, List, [], ◌∷◌, get_or, Option, Some, None, Result, Ok, Err, if◌then◌else◌}
 use Rattle.sj_base.specs.declared.state.State.{State}
-use Rattle.sj_path_grammar.specs.declared.tree.Literal.{Literal}
-use Rattle.sj_path_grammar.specs.declared.tree.Literal.TheVariants as literal
+use Rattle.sj_path_tree.specs.declared.parts.Literal.{Literal}
+use Rattle.sj_path_tree.specs.declared.parts.Literal.TheVariants as literal
 use Rattle.sj_json.specs.Tree.{Tree}
 use Rattle.sj_doc.specs.Kinds.{kind_of}
 use Rattle.sj_item.specs.Items.{ItemValue}

@@ -1,6 +1,6 @@
 // The aggregates of a SELECT list, while they take one row after another.
 ghost use Rattle.std.specs.Prelude.{◌≡◌, ◌≤◌, ◌++◌, ◌∷◌, [], List, All, IfOk, map};
-ghost use Rattle.sj_base.specs.Outside.{raised};
+ghost use Rattle.sj_base.specs.Count.{raised};
 ghost use Rattle.sj_value.specs.Values.{IsPrintable};
 ghost use Rattle.sj_value.specs.declared.value.SqlValue.{SqlValue as Value};
 ghost use Rattle.sj_func.specs.declared.context.Outcome.TheVariants as outcome;

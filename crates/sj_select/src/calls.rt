@@ -1,6 +1,6 @@
 // The functions that have a path, on a context item.
 ghost use Rattle.std.specs.Prelude.{◌≡◌, ◌≤◌, All, IfOk};
-ghost use Rattle.sj_base.specs.Outside.{raised};
+ghost use Rattle.sj_base.specs.Count.{raised};
 ghost use Rattle.sj_func.specs.Functions.{context_value, exists_outcome, exists_cost, value_outcome, value_cost, query_outcome, query_cost, IsPrinted};
 ghost use Rattle.sj_value.specs.Clauses.{IsValueSpec};
 ghost use Rattle.sj_value.specs.Values.{IsPrintable};

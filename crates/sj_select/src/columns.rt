@@ -1,6 +1,6 @@
 // The columns of a table in one row of its plan.
 ghost use Rattle.std.specs.Prelude.{◌≡◌, ◌≤◌, All, IfOk, map, option_map};
-ghost use Rattle.sj_base.specs.Outside.{raised};
+ghost use Rattle.sj_base.specs.Count.{raised};
 ghost use Rattle.sj_value.specs.Values.{IsPrintable};
 ghost use Rattle.sj_func.specs.Functions.{IsPrinted};
 ghost use Rattle.sj_table.specs.Rows.{entry_value};

@@ -1,6 +1,6 @@
 // Finding values by operations.
 ghost use Rattle.std.specs.Prelude.{◌≡◌, ◌≤◌, All, get_or, IfOk, Ok, option_map};
-ghost use Rattle.sj_base.specs.Outside.{raised};
+ghost use Rattle.sj_base.specs.Count.{raised};
 ghost use Rattle.sj_value.specs.Values.{IsPrintable};
 ghost use Rattle.sj_func.specs.Functions.{IsPrinted};
 ghost use Rattle.sj_select.specs.Line.{line_of, tree_of};

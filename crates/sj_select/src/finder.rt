@@ -1,6 +1,6 @@
 // How one value is found.
 ghost use Rattle.std.specs.Prelude.{◌≡◌, ◌≤◌, All, IfOk, IfSome, MatchResult};
-ghost use Rattle.sj_base.specs.Outside.{raised};
+ghost use Rattle.sj_base.specs.Count.{raised};
 ghost use Rattle.sj_value.specs.Values.{IsPrintable};
 ghost use Rattle.sj_func.specs.Functions.{IsPrinted};
 ghost use Rattle.sj_func.specs.declared.context.Outcome.TheVariants as outcome;

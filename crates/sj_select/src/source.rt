@@ -1,6 +1,6 @@
 // What the rows of a statement are made of, and how the next one is found.
 ghost use Rattle.std.specs.Prelude.{◌≡◌, ◌≤◌, ℕ, ◌+◌, [], List, All, IfOk, map};
-ghost use Rattle.sj_base.specs.Outside.{raised};
+ghost use Rattle.sj_base.specs.Count.{raised};
 ghost use Rattle.sj_value.specs.Values.{IsPrintable};
 ghost use Rattle.sj_value.specs.declared.value.SqlValue.{SqlValue as Value};
 ghost use Rattle.sj_table.specs.Takes.{Spends};

@@ -1,6 +1,6 @@
 // The rows of a table: those of its plan, each with the values of its columns.
 ghost use Rattle.std.specs.Prelude.{◌≡◌, ◌≤◌, All, IfOk};
-ghost use Rattle.sj_base.specs.Outside.{raised};
+ghost use Rattle.sj_base.specs.Count.{raised};
 ghost use Rattle.sj_value.specs.Values.{IsPrintable};
 ghost use Rattle.sj_func.specs.Functions.{context_value};
 ghost use Rattle.sj_table.specs.Takes.{Takes};

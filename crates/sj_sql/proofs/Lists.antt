@@ -4,7 +4,7 @@ use Rattle.sj_base.specs.declared.refusal.ParseRefusal.{ParseRefusal}
 use Rattle.sj_base.specs.declared.refusal.ParseRefusal.TheVariants as refusal
 use Rattle.sj_base.specs.Gives.{Fails}
 use Rattle.sj_base.specs.Options.{◌>>=◌}
-use Rattle.sj_path_grammar.specs.Tree.{Path}
+use Rattle.sj_path_tree.specs.Tree.{Path}
 use Rattle.sj_sql_grammar.specs.declared.clauses.Passed.{Passed}
 use Rattle.sj_sql_grammar.specs.Tree.{Value, MoreValues, NoValues, MoreMembers, NoMembers, Columns, More, Last}
 use Rattle.sj_sql_grammar.specs.Faults.{Faults, parsing}

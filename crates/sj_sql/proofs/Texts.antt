@@ -2,8 +2,8 @@
 use Rattle.std.proofs.Common.{◌≡◌, ℕ, List, Option, Some, None, refl, sym, ap, ◌∙◌}
 use Rattle.sj_path_grammar.specs.declared.refusal.PathRefusal.{PathRefusal}
 use Rattle.sj_path_grammar.specs.declared.refusal.PathRefusal.TheVariants as r
-use Rattle.sj_path_grammar.specs.declared.tree.Mode.TheVariants as mode
-use Rattle.sj_path_grammar.specs.Tree.{Path, Root}
+use Rattle.sj_path_tree.specs.declared.parts.Mode.TheVariants as mode
+use Rattle.sj_path_tree.specs.Tree.{Path, Root}
 use Rattle.sj_path_grammar.specs.Answers.{Accepts, Refuses}
 use Rattle.sj_path_grammar.specs.Accepted.{accepted_path}
 use Rattle.sj_path_grammar.proofs.Acceptance.{path_accepted, accepted_is}

@@ -1,7 +1,7 @@
 -- Lists of values before the linked cells that follow them.
 use Rattle.std.specs.Prelude.{List, [], ◌∷◌, Option, Some, None, Box}
 use Rattle.std.specs.declared.alloc.Global.{Global}
-use Rattle.sj_path_grammar.specs.Tree.{Path}
+use Rattle.sj_path_tree.specs.Tree.{Path}
 use Rattle.sj_sql_grammar.specs.Tree as t
 use Rattle.sj_sql.specs.declared.member.Member.{Member}
 use Rattle.sj_sql_tree.specs.declared.tree.Column.{Column}

@@ -7,7 +7,7 @@ use Rattle.sj_base.specs.Gives.{Gives}
 use Rattle.sj_sql_grammar.specs.Faults.{parsing}
 use Rattle.sj_sql_grammar.specs.Grammar.{Source}
 use Rattle.sj_sql_grammar.specs.Phrases.{Tokens}
-use Rattle.sj_path_grammar.specs.Tree.{Path}
+use Rattle.sj_path_tree.specs.Tree.{Path}
 use Rattle.sj_sql_grammar.specs.Tree.{Value}
 use Rattle.sj_sql_grammar.specs.Reading.{value_at, columns_at, plan_expr_at}
 use Rattle.sj_sql.specs.declared.faults.Faults.{Faults}

@@ -1,8 +1,8 @@
 -- What the parser has noted, as the definitions of statements have it.
 use Rattle.std.specs.Prelude.{◌≡◌, Option, Some, Result, Ok, Err}
-use Rattle.sj_path_grammar.specs.Tree as g
+use Rattle.sj_path_tree.specs.Tree as g
 use Rattle.sj_path_tree.specs.declared.tree.Path.{Path}
-use Rattle.sj_path_tree.specs.Tree.{path_of}
+use Rattle.sj_path_tree.specs.View.{path_of}
 use Rattle.std.specs.Borrow.{Bor}
 use Rattle.sj_base.specs.declared.refusal.ParseRefusal.{ParseRefusal}
 use Rattle.sj_base.specs.Gives.{Fails}

@@ -2,7 +2,7 @@
 //! noted.
 
 ghost use Rattle.std.specs.Prelude.{◌≡◌, IfOk, option_map};
-ghost use Rattle.sj_path_tree.specs.Tree.{path_of};
+ghost use Rattle.sj_path_tree.specs.View.{path_of};
 ghost use Rattle.sj_sql_grammar.specs.Answers as answers;
 ghost use Rattle.sj_sql_grammar.specs.Faults.{parsing};
 ghost use Rattle.sj_sql_grammar.specs.Phrases as phrase;

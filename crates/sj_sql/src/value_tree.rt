@@ -2,7 +2,7 @@
 
 ghost use Rattle.std.specs.Prelude.{◌≡◌};
 ghost use Rattle.sj_base.specs.Gives.{Gives};
-ghost use Rattle.sj_path_grammar.specs.Tree as g;
+ghost use Rattle.sj_path_tree.specs.Tree as g;
 ghost use Rattle.sj_sql_grammar.specs.Faults.{parsing};
 ghost use Rattle.sj_sql_grammar.specs.Grammar.{Source};
 ghost use Rattle.sj_sql_grammar.specs.Reading as reading;

@@ -5,7 +5,7 @@ use Rattle.std.proofs.lemmas.List.{take_all}
 use Rattle.std.proofs.Math.Seq.{take-length}
 use Rattle.sj_base.specs.Nesting.{max_open}
 use Rattle.sj_path_grammar.specs.declared.refusal.Name.{Name}
-use Rattle.sj_path_grammar.specs.Tree.{Path}
+use Rattle.sj_path_tree.specs.Tree.{Path}
 use Rattle.sj_sql_grammar.specs.declared.refusal.FileKind.{FileKind}
 use Rattle.sj_sql_grammar.specs.declared.refusal.FileKind.TheVariants as kind
 use Rattle.sj_sql_grammar.specs.Tree.{Statement}

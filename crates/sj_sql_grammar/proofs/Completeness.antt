@@ -1,7 +1,7 @@
 -- What is in the grammar is read, whatever follows it, if that does not go on with it.
 use Rattle.std.proofs.Common.{◌≡◌, ℕ, zero, suc, ◌<◌, ◌≤◌, Bool, true, false, cond, List, ◌∷◌, length, Option, Some, None, refl, ap, arith}
 use Rattle.sj_base.specs.Options.{◌>>=◌}
-use Rattle.sj_path_grammar.specs.declared.tree.Literal.{Literal}
+use Rattle.sj_path_tree.specs.declared.parts.Literal.{Literal}
 use Rattle.sj_value.specs.declared.clauses.QueryAction.TheVariants as on_query
 use Rattle.sj_value.specs.declared.clauses.JsonKind.{JsonKind}
 use Rattle.sj_value.specs.declared.clauses.JsonKind.TheVariants as json

@@ -1,7 +1,7 @@
 -- The grammar on examples: what the tokens of statements are read as; above each stands its text. Reading finds exactly the trees of the grammar.
 use Rattle.std.proofs.Common.{◌≡◌, ℕ, Bool, true, false, List, [], ◌∷◌, Option, Some, None, pos, negsuc, codes, refl}
 use Rattle.sj_base.specs.Options.{◌>>=◌}
-use Rattle.sj_path_grammar.specs.declared.tree.Literal.TheVariants as l
+use Rattle.sj_path_tree.specs.declared.parts.Literal.TheVariants as l
 use Rattle.sj_value.specs.declared.types.SqlType.TheVariants as sql
 use Rattle.sj_value.specs.declared.clauses.Wrapper.TheVariants as wrapper
 use Rattle.sj_value.specs.declared.clauses.QueryAction.TheVariants as on_query

@@ -1,7 +1,7 @@
 -- The tokens with which a phrase begins, and what may follow what.
 use Rattle.std.proofs.Common.{◌≡◌, ℕ, Bool, true, false, cond, List, [], ◌∷◌, Option, Some, None, is_some, not, refl, sym, ap, subst, ◌∙◌}
 use Rattle.sj_base.specs.Options.{◌>>=◌}
-use Rattle.sj_path_grammar.specs.declared.tree.Literal.{Literal}
+use Rattle.sj_path_tree.specs.declared.parts.Literal.{Literal}
 use Rattle.sj_sql_token.specs.declared.token.Token.TheVariants as k
 use Rattle.sj_sql_token.specs.declared.keyword.Keyword.{Keyword}
 use Rattle.sj_sql_token.specs.declared.keyword.Keyword.TheVariants as w

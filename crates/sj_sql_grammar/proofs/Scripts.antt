@@ -1,6 +1,6 @@
 -- A file has at most one answer.
 use Rattle.std.proofs.Common.{◌≡◌, ℕ, List, ◌∷◌, Option, Some, Result, Ok, Err, refl, ap, ap₂}
-use Rattle.sj_path_grammar.specs.Tree.{Path}
+use Rattle.sj_path_tree.specs.Tree.{Path}
 use Rattle.sj_sql_token.specs.Tokens.{Lexed}
 use Rattle.sj_sql_grammar.specs.declared.refusal.FileKind.{FileKind}
 use Rattle.sj_sql_grammar.specs.Tree.{Statement}

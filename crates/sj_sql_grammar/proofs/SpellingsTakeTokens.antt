@@ -7,7 +7,7 @@ use Rattle.sj_sql_token.specs.declared.keyword.Keyword.TheVariants as w
 use Rattle.sj_sql_token.specs.Keywords.{is_reserved}
 use Rattle.sj_sql_token.specs.Same.{same}
 use Rattle.sj_sql_token.proofs.Keywords.{same_is}
-use Rattle.sj_path_grammar.specs.declared.tree.Literal.TheVariants as l
+use Rattle.sj_path_tree.specs.declared.parts.Literal.TheVariants as l
 use Rattle.sj_sql_grammar.specs.declared.clauses.TypeName.{TypeName}
 use Rattle.sj_sql_grammar.specs.Phrases.{Tokens, Phrase, if_some, word, open_at, close_at, comma_at, colon_at, string_at, count_at, number_at, name_at, doc_at, meant, passing, constant_of, literal_at, sized, varchar_at, fixed_at, numeric_at, type_from, type_at, encoding_of, encoding_at, format_at, passed_at, on_at, exists_action_of, exists_clause_at, returning_at, value_action_of, value_action_at, value_clause_at, query_action_of, emptied_of, query_action_at, query_clause_at, condition_of, wrapped, wrapper_at, quotes_of, quotes_at, not_at, unique_of, unique_at, nulls_of, nulls_at, alias_at, table_alias_at, path_name_at, path_at, nested_path_at, formatted_at, existence_at, table_action_of, table_clause_at, in_out_of, siblings_of, default_at}
 use Rattle.sj_sql_grammar.specs.Reading.{has_from}

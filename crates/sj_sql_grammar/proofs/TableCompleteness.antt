@@ -1,7 +1,7 @@
 -- The same of tables and of whole statements.
 use Rattle.std.proofs.Common.{◌≡◌, ℕ, zero, suc, ◌≤◌, Bool, true, false, cond, le-leb, List, [], ◌∷◌, length, Option, Some, None, refl, sym, ap, ◌∙◌, arith}
 use Rattle.sj_base.specs.Options.{◌>>=◌}
-use Rattle.sj_path_grammar.specs.declared.tree.Literal.{Literal}
+use Rattle.sj_path_tree.specs.declared.parts.Literal.{Literal}
 use Rattle.sj_value.specs.declared.clauses.Wrapper.TheVariants as wrapper
 use Rattle.sj_value.specs.declared.clauses.QueryAction.TheVariants as on_query
 use Rattle.sj_value.specs.declared.clauses.ExistsAction.TheVariants as on_exists

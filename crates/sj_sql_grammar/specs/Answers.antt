@@ -3,8 +3,8 @@ use Rattle.std.specs.Prelude.{◌≡◌, ℕ, suc, List, [], ◌∷◌, ◌++◌
 use Rattle.sj_path_grammar.specs.declared.refusal.Name.{Name}
 use Rattle.sj_path_grammar.specs.declared.refusal.PathRefusal.{PathRefusal}
 use Rattle.sj_path_grammar.specs.declared.refusal.PathRefusal.TheVariants as r
-use Rattle.sj_path_grammar.specs.declared.tree.Mode.TheVariants as mode
-use Rattle.sj_path_grammar.specs.Tree.{Path, Root, Access, Member}
+use Rattle.sj_path_tree.specs.declared.parts.Mode.TheVariants as mode
+use Rattle.sj_path_tree.specs.Tree.{Path, Root, Access, Member}
 use Rattle.sj_path_grammar.specs.Answers.{Refuses}
 use Rattle.sj_path_grammar.specs.Accepted.{accepted_path}
 use Rattle.sj_sql_token.specs.declared.token.Token.{Token}

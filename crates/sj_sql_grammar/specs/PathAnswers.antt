@@ -5,7 +5,7 @@ use Rattle.sj_path_token.specs.Reading.{lex}
 use Rattle.sj_path_grammar.specs.declared.refusal.Name.{Name}
 use Rattle.sj_path_grammar.specs.declared.refusal.PathRefusal.{PathRefusal}
 use Rattle.sj_path_grammar.specs.declared.refusal.PathRefusal.TheVariants as r
-use Rattle.sj_path_grammar.specs.Tree.{Path}
+use Rattle.sj_path_tree.specs.Tree.{Path}
 use Rattle.sj_path_grammar.specs.Grammar.{Tokens}
 use Rattle.sj_path_grammar.specs.Accepted.{is_too_deep}
 use Rattle.sj_path_grammar.specs.Misplaced.{is_misplaced}

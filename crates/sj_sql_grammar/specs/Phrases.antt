@@ -4,8 +4,8 @@ use Rattle.std.specs.Prelude.{ℕ, Bool, true, false, ◌&&◌, nat_le, List, []
 use Rattle.std.specs.Str.{bytes_eq}
 use Rattle.sj_base.specs.Options.{◌>>=◌}
 use Rattle.sj_decimal.specs.Limits.{max_digits}
-use Rattle.sj_path_grammar.specs.declared.tree.Literal.{Literal}
-use Rattle.sj_path_grammar.specs.declared.tree.Literal.TheVariants as l
+use Rattle.sj_path_tree.specs.declared.parts.Literal.{Literal}
+use Rattle.sj_path_tree.specs.declared.parts.Literal.TheVariants as l
 use Rattle.sj_value.specs.declared.types.SqlType.TheVariants as sql
 use Rattle.sj_value.specs.declared.clauses.Wrapper.{Wrapper}
 use Rattle.sj_value.specs.declared.clauses.Wrapper.TheVariants as wrapper

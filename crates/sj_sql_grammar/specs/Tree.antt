@@ -1,7 +1,7 @@
 -- The trees of statements, without where their parts lie in memory. P is what stands for a path: as it is written, or the
 -- path itself.
 use Rattle.std.specs.Prelude.{ℕ, Bool, List, Option}
-use Rattle.sj_path_grammar.specs.declared.tree.Literal.{Literal}
+use Rattle.sj_path_tree.specs.declared.parts.Literal.{Literal}
 use Rattle.sj_value.specs.declared.clauses.Wrapper.{Wrapper}
 use Rattle.sj_value.specs.declared.clauses.QueryAction.{QueryAction}
 use Rattle.sj_value.specs.declared.clauses.ExistsAction.{ExistsAction}

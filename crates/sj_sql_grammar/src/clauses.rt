@@ -1,7 +1,7 @@
 //! The parts of a statement's tree that hold no path.
 
 use sj_base::Text;
-use sj_path_grammar::Literal;
+use sj_path_tree::Literal;
 use sj_value::{JsonKind, SqlType};
 
 /// The encoding of a document, as FORMAT JSON names it. A line is UTF-8.

@@ -1,7 +1,7 @@
 //! The laws of the grammar, over its definitions alone.
 
 ghost use Rattle.std.specs.Prelude.{◌≡◌, ◌↔◌, ℕ, List, Option, Some, None, Result, Ok, Err, option_map};
-ghost use Rattle.sj_path_grammar.specs.Tree.{Path};
+ghost use Rattle.sj_path_tree.specs.Tree.{Path};
 ghost use Rattle.sj_path_grammar.specs.Answers.{Accepts, Refuses};
 ghost use Rattle.sj_path_grammar.specs.declared.refusal.Name.{Name};
 ghost use Rattle.sj_path_grammar.specs.declared.refusal.PathRefusal.{PathRefusal};

@@ -1,7 +1,7 @@
 -- A statement as a tree of the grammar, without where its parts lie in memory.
 use Rattle.std.specs.Prelude.{List, [], ◌∷◌}
-use Rattle.sj_path_grammar.specs.Tree.{Path}
-use Rattle.sj_path_tree.specs.Tree.{path_of}
+use Rattle.sj_path_tree.specs.Tree.{Path}
+use Rattle.sj_path_tree.specs.View.{path_of}
 use Rattle.sj_sql_grammar.specs.Tree as t
 use Rattle.sj_sql_tree.specs.declared.tree.Common.{Common}
 use Rattle.sj_sql_tree.specs.declared.tree.ExistsCall.{ExistsCall}

@@ -3,7 +3,7 @@ use Rattle.std.proofs.Common.{◌≡◌, ℕ, Some, pos, negsuc, codes, refl}
 use Rattle.sj_base.specs.declared.state.State.TheVariants.{S22033, S22039, S2203A, S2203C}
 use Rattle.sj_json.specs.Tree.{Tree, number, exact, array, object, no_items, item, no_members, member}
 use Rattle.sj_item.specs.Items.{ItemValue, node, made_number, made_text, made_pair}
-use Rattle.sj_path_grammar.specs.declared.tree.Mode.TheVariants.{Lax, Strict}
+use Rattle.sj_path_tree.specs.declared.parts.Mode.TheVariants.{Lax, Strict}
 use Rattle.sj_step.specs.Trace.{stop, fail, visit, give, only}
 use Rattle.sj_step.specs.Reach.{reach, by_key, all_members, by_range, unwrapped, last}
 

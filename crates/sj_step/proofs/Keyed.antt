@@ -2,10 +2,10 @@
 use Rattle.std.proofs.Common.{◌≡◌, ℕ, suc, ◌-◌, ◌<◌, List, [], ◌∷◌, map, length, Bool, true, false, if◌then◌else◌, Option, refl, sym, ap, ◌∙◌, arith}
 use Rattle.sj_json.specs.Tree.{Tree, NumberedChild}
 use Rattle.sj_doc.specs.Keyed.{is_key, from_key}
-use Rattle.sj_path_grammar.specs.declared.tree.Mode.{Mode}
+use Rattle.sj_path_tree.specs.declared.parts.Mode.{Mode}
 use Rattle.sj_step.specs.Reach.{child_item, under_key, members_end}
-use Rattle.sj_path_grammar.specs.declared.tree.Mode.TheVariants.{Lax, Strict}
-use Rattle.sj_base.specs.Outside.{raised}
+use Rattle.sj_path_tree.specs.declared.parts.Mode.TheVariants.{Lax, Strict}
+use Rattle.sj_base.specs.Count.{raised}
 use Rattle.sj_item.specs.Items.{gives}
 use Rattle.sj_step.specs.Takes.{Takes}
 use Rattle.sj_step.specs.Trace.{Trace, visit, give, after_visits, first, rest, visits_to_first}

@@ -4,7 +4,7 @@ use Rattle.std.proofs.lemmas.List.{length-map}
 use Rattle.sj_json.specs.Tree.{Tree, null, truth, string, number, array, object, Child, children, numbered, below}
 use Rattle.sj_doc.specs.Kinds.{kind_of}
 use Rattle.sj_doc.specs.declared.node.Kind.TheVariants.{Array}
-use Rattle.sj_path_grammar.specs.declared.tree.Mode.{Mode}
+use Rattle.sj_path_tree.specs.declared.parts.Mode.{Mode}
 use Rattle.sj_item.specs.Items.{ItemValue, node, made_number, made_text, made_truth, made_null, made_pair, item_tree, size_of}
 use Rattle.sj_step.specs.Reach.{children_of, last, last_on}
 

@@ -4,7 +4,7 @@ use Rattle.sj_doc.specs.Kinds.{kind_of}
 use Rattle.sj_doc.specs.declared.node.Kind.{Kind}
 use Rattle.sj_doc.specs.declared.node.Kind.TheVariants as kinds
 use Rattle.sj_item.specs.Items.{ItemValue, item_tree}
-use Rattle.sj_path_grammar.specs.declared.tree.Mode.TheVariants.{Strict}
+use Rattle.sj_path_tree.specs.declared.parts.Mode.TheVariants.{Strict}
 use Rattle.sj_step.specs.Trace.{Trace, only}
 use Rattle.sj_step.specs.Reach.{reach, on_kind, unwrapped, unwrap, spread}
 use Rattle.sj_step.proofs.Traces.{each-only, each_cong}

@@ -1,6 +1,6 @@
 -- One turn of a walk: a child that is handed out is one visit and one step.
 use Rattle.std.proofs.Common.{◌≡◌, ℕ, suc, ap, sym, ◌∙◌, arith}
-use Rattle.sj_base.specs.Outside.{raised}
+use Rattle.sj_base.specs.Count.{raised}
 use Rattle.sj_item.specs.Items.{ItemValue, gives}
 use Rattle.sj_step.specs.Trace.{Trace, visit, give, first, rest, visits_to_first}
 use Rattle.sj_step.specs.Takes.{Takes, Onward}

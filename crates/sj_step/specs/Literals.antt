@@ -1,6 +1,6 @@
 -- The item that a literal of a path or of a statement is.
-use Rattle.sj_path_grammar.specs.declared.tree.Literal.{Literal}
-use Rattle.sj_path_grammar.specs.declared.tree.Literal.TheVariants as literals
+use Rattle.sj_path_tree.specs.declared.parts.Literal.{Literal}
+use Rattle.sj_path_tree.specs.declared.parts.Literal.TheVariants as literals
 use Rattle.sj_item.specs.Items.{ItemValue, made_number, made_text, made_truth, made_null}
 
 abbrev pub literal_item : Literal → ItemValue

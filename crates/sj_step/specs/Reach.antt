@@ -9,8 +9,8 @@ use Rattle.sj_doc.specs.Kinds.{kind_of}
 use Rattle.sj_doc.specs.declared.node.Kind.{Kind}
 use Rattle.sj_doc.specs.declared.node.Kind.TheVariants as kinds
 use Rattle.sj_item.specs.Items.{ItemValue, node, made_number, made_text, made_truth, made_null, made_pair, item_tree}
-use Rattle.sj_path_grammar.specs.declared.tree.Mode.{Mode}
-use Rattle.sj_path_grammar.specs.declared.tree.Mode.TheVariants.{Lax, Strict}
+use Rattle.sj_path_tree.specs.declared.parts.Mode.{Mode}
+use Rattle.sj_path_tree.specs.declared.parts.Mode.TheVariants.{Lax, Strict}
 use Rattle.sj_step.specs.declared.reach.Reach.{Reach}
 use Rattle.sj_step.specs.declared.reach.Reach.TheVariants as reaches
 use Rattle.sj_step.specs.Trace.{Trace, stop, fail, give, only, after_visits, each}

@@ -1,6 +1,6 @@
 -- One call that takes a trace's first item or its end.
 use Rattle.std.specs.Prelude.{◌≡◌, ℕ}
-use Rattle.sj_base.specs.Outside.{raised}
+use Rattle.sj_base.specs.Count.{raised}
 use Rattle.sj_item.specs.Items.{PullValue}
 use Rattle.sj_step.specs.Trace.{Trace, first, rest, visits_to_first}
 

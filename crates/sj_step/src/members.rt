@@ -7,7 +7,7 @@ use crate::answer::Answer;
 use sj_base::{Ledger, State, Steps};
 use sj_doc::Children;
 use sj_item::Item;
-use sj_path_grammar::Mode;
+use sj_path_tree::Mode;
 
 /// A walk over the members of an object that gives those under a key.
 #[derive(Drop)]

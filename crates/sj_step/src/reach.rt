@@ -5,7 +5,7 @@ ghost use Rattle.sj_step.specs.Reach.{last};
 
 use sj_doc::Kind;
 use sj_item::{Item, kind, size};
-use sj_path_grammar::Mode;
+use sj_path_tree::Mode;
 
 /// What is reached of one item (ISO/IEC 9075-2, SQL/JSON path language, accessors).
 #[derive(Clone, Copy)]

@@ -16,7 +16,7 @@ use crate::walk::{Left, Walk};
 use sj_base::State;
 use sj_doc::{Kind, NodeRef};
 use sj_item::{Item, Pair};
-use sj_path_grammar::Mode;
+use sj_path_tree::Mode;
 
 impl<'d> Walk<'d> {
     /// The walk over what is reached of an item. In strict mode a fault is left where the item does not fit: 2203C

@@ -1,6 +1,6 @@
 -- The entries of a path, taken from its trace.
 use Rattle.std.proofs.Common.{◌≡◌, ◌≤◌, ◌<◌, ℕ, zero, suc, ◌+◌, ◌*◌, None, Some, ap, sym, subst, ◌∙◌, refl, arith}
-use Rattle.sj_base.specs.Outside.{raised}
+use Rattle.sj_base.specs.Count.{raised}
 use Rattle.sj_base.specs.declared.state.State.{State}
 use Rattle.sj_item.specs.Items.{ItemValue, gives, ends, faults}
 use Rattle.sj_step.specs.Trace.{Trace, stop, fail, visit, give, after_visits, items, count, visits, fault_of, visits_to_first}

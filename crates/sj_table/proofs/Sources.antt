@@ -1,7 +1,7 @@
 -- The source of a path, by its number among paths as they lie in memory.
 use Rattle.std.proofs.Common.{◌≡◌, ℕ, List, map, Some, option_map, slice_get, ap, sym, ◌∙◌}
 use Rattle.std.proofs.lemmas.Option.{slice_get-map}
-use Rattle.sj_path_tree.specs.Tree.{path_of}
+use Rattle.sj_path_tree.specs.View.{path_of}
 use Rattle.sj_path_tree.specs.declared.tree.Path.{Path}
 use Rattle.sj_path_tree.specs.Vars.{Variables}
 use Rattle.sj_table.specs.Rows.{source, source_of}

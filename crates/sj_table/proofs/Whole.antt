@@ -1,7 +1,7 @@
 -- The rows of a plan over numbered paths, where a cell stands at its beginning.
 use Rattle.std.proofs.Common.{◌≡◌, ℕ, List, ap, ◌∙◌}
 use Rattle.sj_item.specs.Items.{ItemValue}
-use Rattle.sj_path_grammar.specs.Tree.{Path}
+use Rattle.sj_path_tree.specs.Tree.{Path}
 use Rattle.sj_path_tree.specs.Vars.{Variables}
 use Rattle.sj_value.specs.Plans.{PlanTree}
 use Rattle.sj_value.specs.declared.clauses.TableAction.{TableAction}

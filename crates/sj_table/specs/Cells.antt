@@ -1,7 +1,7 @@
 -- The plan that each cell is of, which never changes, the rows that it has left, and the row at hand.
 use Rattle.std.specs.Prelude.{ℕ, ◌+◌, ◌*◌, [], ◌∷◌, ◌++◌, Option, Some, None}
 use Rattle.sj_item.specs.Items.{ItemValue, item_value}
-use Rattle.sj_path_tree.specs.Tree.{path_of}
+use Rattle.sj_path_tree.specs.View.{path_of}
 use Rattle.sj_step.specs.Trace.{Trace, stop, fail, visit, give, visits}
 use Rattle.sj_cursor.specs.Meaning.{path_trace}
 use Rattle.sj_value.specs.declared.clauses.TableAction.{TableAction}

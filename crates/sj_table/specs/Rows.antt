@@ -5,7 +5,7 @@ use Rattle.std.specs.Io.Iter.{u64_saturate}
 use Rattle.sj_base.specs.declared.state.State.{State}
 use Rattle.sj_item.specs.Items.{ItemValue, item_value}
 use Rattle.sj_item.specs.declared.item.Item.{Item}
-use Rattle.sj_path_grammar.specs.Tree as g
+use Rattle.sj_path_tree.specs.Tree as g
 use Rattle.sj_step.specs.Trace.{Trace, stop, items, visits, fault_of}
 use Rattle.sj_path_tree.specs.Vars.{Variables}
 use Rattle.sj_cursor.specs.Meaning.{path_trace}

@@ -1,6 +1,6 @@
 -- One call that takes the first element of a series or its end, and what it may take.
 use Rattle.std.specs.Prelude.{◌≡◌, ◌≤◌, ◌-◌, ℕ}
-use Rattle.sj_base.specs.Outside.{raised}
+use Rattle.sj_base.specs.Count.{raised}
 use Rattle.sj_table.specs.Series.{Series, done, raises, more, first, rest}
 use Rattle.sj_table.specs.Rows.{Row, PlanRows}
 use Rattle.sj_table.specs.declared.pull.RowPull.{RowPull}

@@ -1,6 +1,6 @@
 // The cells of a plan, made whole. Memory is taken here, and where a path gets its cursor.
 ghost use Rattle.std.specs.Prelude.{◌≡◌, ◌≤◌, ◌<◌, ℕ, length, map, IfOk};
-ghost use Rattle.sj_path_tree.specs.Tree.{path_of};
+ghost use Rattle.sj_path_tree.specs.View.{path_of};
 ghost use Rattle.sj_value.specs.Plans.{plan_tree, times};
 ghost use Rattle.sj_table.specs.Cells.{core, path_source};
 ghost use Rattle.sj_table.specs.Rows.{single as single_of, nested as nested_of, union as union_of, cross as cross_of, source, sourced};

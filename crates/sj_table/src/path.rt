@@ -1,6 +1,6 @@
 // The entries of a path under a parent item, one at a time.
 ghost use Rattle.std.specs.Prelude.{◌≡◌, ◌≤◌, ◌+◌};
-ghost use Rattle.sj_base.specs.Outside.{raised};
+ghost use Rattle.sj_base.specs.Count.{raised};
 ghost use Rattle.sj_item.specs.Items.{item_value};
 ghost use Rattle.sj_step.specs.Trace.{visits, fault_of};
 ghost use Rattle.sj_table.specs.Cells.{path_source, entry_at, entries_left, entries_due, entries_to_end};

@@ -1,8 +1,8 @@
 // A path that is run under one item after another.
 ghost use Rattle.std.specs.Prelude.{◌≡◌, ◌≤◌, true, IfOk};
-ghost use Rattle.sj_base.specs.Outside.{raised};
+ghost use Rattle.sj_base.specs.Count.{raised};
 ghost use Rattle.sj_item.specs.Items.{item_value, pull_value};
-ghost use Rattle.sj_path_tree.specs.Tree.{path_of};
+ghost use Rattle.sj_path_tree.specs.View.{path_of};
 ghost use Rattle.sj_step.specs.Trace.{visits, fault_of};
 ghost use Rattle.sj_cursor.specs.Draws.{Draws};
 ghost use Rattle.sj_cursor.specs.FaultFree.{fault_free};

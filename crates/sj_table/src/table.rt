@@ -52,7 +52,7 @@ impl<'d> Model for TableCursor<'d> {
     ghost coded = { table_code };
 
     ghost use Rattle.sj_item.specs.Items.{item_value};
-    ghost use Rattle.sj_path_tree.specs.Tree.{path_of};
+    ghost use Rattle.sj_path_tree.specs.View.{path_of};
     ghost use Rattle.sj_value.specs.Plans.{plan_tree};
     ghost use Rattle.sj_table.specs.Cells.{core, rows_left, rows_due, row_of, answered_left, answered_row, answered_due};
     ghost use Rattle.sj_table.specs.Rows.{sourced};
@@ -64,7 +64,7 @@ impl<'d> Model for TableCursor<'d> {
 
 impl<'d> TableCursor<'d> {
     ghost use Rattle.sj_item.specs.Items.{item_value};
-    ghost use Rattle.sj_path_tree.specs.Tree.{path_of};
+    ghost use Rattle.sj_path_tree.specs.View.{path_of};
     ghost use Rattle.sj_value.specs.Plans.{plan_tree, IsPlanOver};
     ghost use Rattle.sj_table.specs.Rows.{entry, entry_value, plan_rows, plan_cost};
     ghost use Rattle.sj_table.specs.Takes.{Advances};

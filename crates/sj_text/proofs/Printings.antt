@@ -1,6 +1,6 @@
 -- A node is printed visit by visit.
 use Rattle.std.proofs.Common.{◌≡◌, ℕ, ◌+◌, ◌≤◌, Bool, true, false, ◌&&◌, if◌then◌else◌, List, ◌∷◌, ◌++◌, Result, OnErr, None, refl, sym, ap, ◌∙◌, subst, zero-add, arith}
-use Rattle.sj_base.specs.Outside.{raised}
+use Rattle.sj_base.specs.Count.{raised}
 use Rattle.sj_json.specs.Tree.{Tree, below}
 use Rattle.sj_json.specs.Printing.{printed}
 use Rattle.sj_doc.specs.Tours.{Visited, enter, leave, leaf, hands_out, Touring, tour}

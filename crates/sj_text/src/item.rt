@@ -1,6 +1,6 @@
 // The text of an item.
 ghost use Rattle.std.specs.Prelude.{◌≡◌, ◌++◌, ◌≤◌, OnOk, OnErr, codes};
-ghost use Rattle.sj_base.specs.Outside.{raised};
+ghost use Rattle.sj_base.specs.Count.{raised};
 ghost use Rattle.sj_json.specs.Printing.{printed, printed_string};
 ghost use Rattle.sj_decimal.specs.Text.{decimal_text as decimal_printed};
 ghost use Rattle.sj_item.specs.Items.{item_value, pair_value, item_tree, nodes_below};

@@ -1,6 +1,6 @@
 // The text of a node, by its tour.
 ghost use Rattle.std.specs.Prelude.{◌≡◌, ◌++◌, ◌≤◌, OnOk, OnErr, option_map};
-ghost use Rattle.sj_base.specs.Outside.{raised};
+ghost use Rattle.sj_base.specs.Count.{raised};
 ghost use Rattle.sj_json.specs.Tree.{below};
 ghost use Rattle.sj_json.specs.Printing.{printed};
 ghost use Rattle.sj_doc.specs.Listed.{node_tree};

@@ -6,7 +6,7 @@ use Rattle.std.specs.Bool.{one_answer}
 use Rattle.std.specs.List.{list_all}
 use Rattle.sj_rows.specs.Lines.{is_blank_byte}
 use Rattle.sj_rows.specs.HeldLines.{HeldLines, gives, drained}
-use Rattle.sj_base.specs.Outside.{raised}
+use Rattle.sj_base.specs.Count.{raised}
 use Rattle.sj_json.specs.Tree.{Tree}
 use Rattle.sj_json.specs.Document.{document}
 use Rattle.sj_json.specs.Keys.{HasUniqueKeys}

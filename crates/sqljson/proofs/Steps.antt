@@ -1,7 +1,7 @@
 -- Steps that are counted one after the other. These lemmas are on numbers alone, so that no tactic looks into what is counted.
 use Rattle.std.proofs.Common.{◌≡◌, ℕ, ◌+◌, ◌≤◌, arith}
 use Rattle.std.specs.Io.Iter.{u64_saturate}
-use Rattle.sj_base.specs.Outside.{raised}
+use Rattle.sj_base.specs.Count.{raised}
 
 pub raised_none : (a n : ℕ) → a ≤ raised a n
 raised_none a n = omega arith

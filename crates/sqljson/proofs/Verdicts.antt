@@ -1,7 +1,7 @@
 -- Taking the statements of a file, one after the other.
 use Rattle.std.proofs.Common.{◌≡◌, ℕ, suc, ◌+◌, List, [], ◌∷◌, ◌++◌, length, Bor, Option, None, Some, Result, Ok, Err, refl, sym, ◌∙◌, ap, subst, arith, add-one, append_assoc, length-append}
 use Rattle.std.proofs.lemmas.List.{append-nil}
-use Rattle.sj_path_grammar.specs.Tree.{Path}
+use Rattle.sj_path_tree.specs.Tree.{Path}
 use Rattle.sj_bound.specs.Bound.{Bound}
 use Rattle.sj_sql_token.specs.Tokens.{lexed}
 use Rattle.sj_sql_grammar.specs.declared.refusal.BindKind.{BindKind}

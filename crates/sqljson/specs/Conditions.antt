@@ -1,6 +1,6 @@
 -- The conditions under which the contract of `run` speaks.
 use Rattle.std.specs.Prelude.{◌≡◌, ◌⊎◌, ℕ, List, Option, IfSome}
-use Rattle.sj_base.specs.Outside.{Files}
+use Rattle.sj_outside.specs.Outside.{Files}
 use Rattle.sj_bound.specs.Bound.{Bound}
 use Rattle.sqljson.specs.declared.job.Keys.{Keys}
 use Rattle.sqljson.specs.declared.status.Status.{Status}

@@ -1,6 +1,6 @@
 -- The input of a run, as it is seen at one moment.
 use Rattle.std.specs.Prelude.{ℕ, List, Option}
-use Rattle.sj_base.specs.declared.outside.Source.{Ghosts}
+use Rattle.sj_outside.specs.declared.outside.Source.{Ghosts}
 
 -- with the steps that were counted so far
 pub record InputSide : Type 0 where

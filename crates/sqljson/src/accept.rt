@@ -9,8 +9,8 @@ use crate::file::load;
 use crate::job::FileRefusal;
 use crate::status::Status;
 use crate::verdict::{count_of, statements_of};
-use sj_base::Shelf;
 use sj_bind::Bound;
+use sj_outside::Shelf;
 use std::alloc::Global;
 
 /// Reads a file whole, and binds its statements; or says how the command ends that names it.

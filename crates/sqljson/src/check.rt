@@ -8,7 +8,7 @@ ghost use Rattle.sqljson.specs.Ran.{IsBefore, Ran, moment, out_at};
 use crate::accept::accept_count;
 use crate::status::Status;
 use itoa::Buffer;
-use sj_base::{Failed, Shelf, Sink};
+use sj_outside::{Failed, Shelf, Sink};
 use sj_page::write_parts;
 use std::alloc::Global;
 

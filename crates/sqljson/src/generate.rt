@@ -11,8 +11,9 @@ use crate::job::{Job, Keys};
 use crate::status::Status;
 use crate::stream::stream;
 use itoa::Buffer;
-use sj_base::{CountSink, Failed, Ledger, Shelf, Sink, Steps};
+use sj_base::{Ledger, Steps};
 use sj_generated::GeneratedSource;
+use sj_outside::{CountSink, Failed, Shelf, Sink};
 use sj_page::{Counts, Page, write_parts};
 use std::alloc::Global;
 

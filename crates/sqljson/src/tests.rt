@@ -5,7 +5,8 @@ mod steps;
 
 use crate::run::run;
 use crate::status::Status;
-use sj_base::{MemShelf, MemSink, MemSource, Steps, Tally, Text};
+use sj_base::{Steps, Tally, Text};
+use sj_outside::{MemShelf, MemSink, MemSource};
 use std::alloc::Global;
 use std::process::Abort;
 use std::test::Fail;

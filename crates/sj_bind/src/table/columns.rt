@@ -1,7 +1,7 @@
 //! The paths and columns of a table, taken from its tree.
 
 ghost use Rattle.std.specs.Prelude.{◌≡◌, ◌+◌, ◌<◌, ◌≤◌, ◌++◌, ◌∷◌, [], length, OnOk, IfOk};
-ghost use Rattle.sj_path_tree.specs.Tree.{path_of};
+ghost use Rattle.sj_path_tree.specs.View.{path_of};
 ghost use Rattle.sj_sql_tree.specs.View.{columns_of, column_of, regular_of, formatted_of};
 ghost use Rattle.sj_bind.specs.Tables.{names_in, names_below};
 ghost use Rattle.sj_bind.specs.Taken.{CanTake, CanTakeIn, taken_paths, taken_paths_in, taken_columns, taken_columns_in};

@@ -2,7 +2,7 @@
 
 ghost use Rattle.std.specs.Prelude.{◌≡◌, ◌<◌, ◌≤◌, ◌∷◌, false, length, IfOk};
 ghost use Rattle.std.specs.List.{list_any};
-ghost use Rattle.sj_path_tree.specs.Tree.{path_of};
+ghost use Rattle.sj_path_tree.specs.View.{path_of};
 ghost use Rattle.sj_sql_tree.specs.View.{table_of, columns_of};
 ghost use Rattle.sj_bind.specs.Tables as spec;
 ghost use Rattle.sj_bind.specs.Tables.{names_below, columns_below};

@@ -3,8 +3,8 @@ ghost use Rattle.std.specs.Prelude.{◌<◌, ◌≤◌};
 ghost use Rattle.sj_generated.specs.Lines.{most_lines};
 
 use super::{ROOT, Setup, expect, plain, run_on};
-use sj_base::Source;
 use sj_generated::GeneratedSource;
+use sj_outside::Source;
 use std::alloc::Global;
 use std::test::Fail;
 

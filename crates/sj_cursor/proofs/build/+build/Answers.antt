@@ -1,6 +1,6 @@
 use Rattle.std.proofs.Common.{ap, arith}
 use Rattle.sj_path_tree.specs.Nodes.{subs_nodes}
-use Rattle.sj_path_tree.specs.Tree.{sub_of, subs_of}
+use Rattle.sj_path_tree.specs.View.{sub_of, subs_of}
 use Rattle.sj_cursor.proofs.Operators.{sub_some}
 use Rattle.sj_cursor.proofs.build.+build.Goals as goal
 

@@ -1,7 +1,7 @@
 -- what is left to make falls; of two parts, both are counted
 use Rattle.std.proofs.Common.{◌+◌, ◌*◌}
 use Rattle.sj_path_tree.specs.Nodes.{expr_nodes, step_nodes, sub_nodes, subs_nodes, pred_nodes}
-use Rattle.sj_path_tree.specs.Tree.{expr_of, step_of, sub_of, subs_of, pred_of}
+use Rattle.sj_path_tree.specs.View.{expr_of, step_of, sub_of, subs_of, pred_of}
 use Rattle.sj_cursor.proofs.build.+build.Given as goal
 
 abbrev pub decreases-expr_cell : goal.decreases-expr_cell

@@ -110,7 +110,7 @@ Operand::see_pairing-returns-in-Fault-clause-seen g t c = pairing_fault _ _ _ _ 
 
 pub Comparison::see_pairings-pairings-init : goal.Comparison::see_pairings-pairings-init
 Comparison::see_pairings-pairings-init g t c = record {
-  same = ap (λ k. Rattle.sj_path_grammar.specs.Tree.Compares c.args.self.now.op k (operand_core c.args.self.now.right)) c.rewind.ensures.same;
+  same = ap (λ k. Rattle.sj_path_tree.specs.Tree.Compares c.args.self.now.op k (operand_core c.args.self.now.right)) c.rewind.ensures.same;
   op = refl;
   pairings = pairings_from _ _ _ _ _ _ (c.rewind.ensures.whole Unwrapped _);
 }
@@ -122,8 +122,8 @@ pub Comparison::see_pairings-pairings-preserved : goal.Comparison::see_pairings-
 Comparison::see_pairings-pairings-preserved g t c =
     let right : operand_core c.pairings.self.right ≡ operand_core c.args.self.now.right = cc c.pairings.invariant.same in
     record {
-      same = ap (λ k. Rattle.sj_path_grammar.specs.Tree.Compares c.pairings.self.op k (operand_core c.see_pairing.new.self)) c.in-Item.ensures.same
-          ∙ ap (λ k. Rattle.sj_path_grammar.specs.Tree.Compares c.pairings.self.op (operand_core c.pairings.self.left) k) c.see_pairing.ensures.same
+      same = ap (λ k. Rattle.sj_path_tree.specs.Tree.Compares c.pairings.self.op k (operand_core c.see_pairing.new.self)) c.in-Item.ensures.same
+          ∙ ap (λ k. Rattle.sj_path_tree.specs.Tree.Compares c.pairings.self.op (operand_core c.pairings.self.left) k) c.see_pairing.ensures.same
           ∙ c.pairings.invariant.same;
       op = c.pairings.invariant.op;
       pairings = rw c.saw-pairings.ensures.some (pairings_item _ _ _ _ _ _ _ _ _ _ _ _ _ _ _ _ _ _ c.pairings.invariant.pairings c.in-Item.ensures.answers
@@ -160,7 +160,7 @@ Comparison::holds-returns-clause-decides g t c =
 pub Comparison::holds-returns-then-put_one : goal.Comparison::holds-returns-then-put_one
 Comparison::holds-returns-then-put_one g t c = record {
   decides = right_decides _ _ _ _ _ _ _ _ _ _ _ (c.put_one.ensures c.if-put_one.true) c.is_early-early.ensures c.truth.ensures c.see_pairing.ensures.seen;
-  same = ap (λ k. Rattle.sj_path_grammar.specs.Tree.Compares c.args.self.now.op k (operand_core c.args.self.now.right)) c.see_pairing.ensures.same;
+  same = ap (λ k. Rattle.sj_path_tree.specs.Tree.Compares c.args.self.now.op k (operand_core c.args.self.now.right)) c.see_pairing.ensures.same;
 }
 
 pub Start::holds-returns-clause-decides : goal.Start::holds-returns-clause-decides
@@ -175,8 +175,8 @@ Both::and-returns-in-False-clause-decides g t c = and_false _ _ _ _ (rw c.deref_
 pub Both::and-returns-in_default : goal.Both::and-returns-in_default
 Both::and-returns-in_default g t c = record {
   decides = rw c.and.ensures (and_other _ _ _ _ _ _ _ c.in_default.not-False (rw c.deref_mut.ensures.value at c.holds-left.ensures.decides) (rw c.deref_mut-in_default.ensures.value at c.holds.ensures.decides));
-  same = ap (λ k. Rattle.sj_path_grammar.specs.Tree.And k (Rattle.sj_cursor.specs.Left.test_core c.holds.new.self)) (c.holds-left.ensures.same ∙ ap Rattle.sj_cursor.specs.Left.test_core c.deref_mut.ensures.value)
-      ∙ ap (λ k. Rattle.sj_path_grammar.specs.Tree.And (Rattle.sj_cursor.specs.Left.test_core c.args.self.now.left.value) k) (c.holds.ensures.same ∙ ap Rattle.sj_cursor.specs.Left.test_core c.deref_mut-in_default.ensures.value);
+  same = ap (λ k. Rattle.sj_path_tree.specs.Tree.And k (Rattle.sj_cursor.specs.Left.test_core c.holds.new.self)) (c.holds-left.ensures.same ∙ ap Rattle.sj_cursor.specs.Left.test_core c.deref_mut.ensures.value)
+      ∙ ap (λ k. Rattle.sj_path_tree.specs.Tree.And (Rattle.sj_cursor.specs.Left.test_core c.args.self.now.left.value) k) (c.holds.ensures.same ∙ ap Rattle.sj_cursor.specs.Left.test_core c.deref_mut-in_default.ensures.value);
 }
 
 pub Both::or-returns-in-True-clause-decides : goal.Both::or-returns-in-True-clause-decides
@@ -185,8 +185,8 @@ Both::or-returns-in-True-clause-decides g t c = or_true _ _ _ _ (rw c.deref_mut.
 pub Both::or-returns-in_default : goal.Both::or-returns-in_default
 Both::or-returns-in_default g t c = record {
   decides = rw c.or.ensures (or_other _ _ _ _ _ _ _ c.in_default.not-True (rw c.deref_mut.ensures.value at c.holds-left.ensures.decides) (rw c.deref_mut-in_default.ensures.value at c.holds.ensures.decides));
-  same = ap (λ k. Rattle.sj_path_grammar.specs.Tree.Or k (Rattle.sj_cursor.specs.Left.test_core c.holds.new.self)) (c.holds-left.ensures.same ∙ ap Rattle.sj_cursor.specs.Left.test_core c.deref_mut.ensures.value)
-      ∙ ap (λ k. Rattle.sj_path_grammar.specs.Tree.Or (Rattle.sj_cursor.specs.Left.test_core c.args.self.now.left.value) k) (c.holds.ensures.same ∙ ap Rattle.sj_cursor.specs.Left.test_core c.deref_mut-in_default.ensures.value);
+  same = ap (λ k. Rattle.sj_path_tree.specs.Tree.Or k (Rattle.sj_cursor.specs.Left.test_core c.holds.new.self)) (c.holds-left.ensures.same ∙ ap Rattle.sj_cursor.specs.Left.test_core c.deref_mut.ensures.value)
+      ∙ ap (λ k. Rattle.sj_path_tree.specs.Tree.Or (Rattle.sj_cursor.specs.Left.test_core c.args.self.now.left.value) k) (c.holds.ensures.same ∙ ap Rattle.sj_cursor.specs.Left.test_core c.deref_mut-in_default.ensures.value);
 }
 
 pub Test::holds-returns-in-Not-clause-decides : goal.Test::holds-returns-in-Not-clause-decides
@@ -238,7 +238,7 @@ MoreParts::next-returns-in-End-clause-answers g t c = join_over _ _ _ _ _ _ _ _ 
 pub MoreParts::next-returns-in_default : goal.MoreParts::next-returns-in_default
 MoreParts::next-returns-in_default g t c = record {
   answers = join_answer _ _ _ _ _ _ (no_end _ _ c.in_default.not-End) c.next.ensures.answers;
-  same = ap (λ k. Rattle.sj_path_grammar.specs.Tree.More k (parts_core c.args.self.now.others.value)) c.next.ensures.same;
+  same = ap (λ k. Rattle.sj_path_tree.specs.Tree.More k (parts_core c.args.self.now.others.value)) c.next.ensures.same;
 }
 
 pub Part::next-returns-in-Unasked-clause-answers : goal.Part::next-returns-in-Unasked-clause-answers

@@ -1,6 +1,6 @@
 use Rattle.std.proofs.Common.{ap, sym, ◌∙◌}
-use Rattle.sj_path_grammar.specs.Tree as t
-use Rattle.sj_path_tree.specs.Tree.{expr_of}
+use Rattle.sj_path_tree.specs.Tree as t
+use Rattle.sj_path_tree.specs.View.{expr_of}
 use Rattle.sj_cursor.specs.Chains.{accessed, accessor}
 use Rattle.sj_cursor.proofs.Chains.{link_behind}
 use Rattle.sj_cursor.proofs.chain.+collect.Goals as goal

@@ -1,6 +1,6 @@
 use Rattle.std.proofs.Common.{◌≡◌, false, eqb, ap, sym, ◌∙◌, arith}
 use Rattle.std.proofs.lemmas.Bool.Decides.{nat_tests}
-use Rattle.sj_path_grammar.specs.declared.tree.Mode.TheVariants.{Lax}
+use Rattle.sj_path_tree.specs.declared.parts.Mode.TheVariants.{Lax}
 use Rattle.sj_step.proofs.Keyed.{fewer}
 use Rattle.sj_cursor.specs.Chains.{over, throughout}
 use Rattle.sj_cursor.proofs.Chains.{first_rest, sought_first, member_array, member_other, elements_array, elements_other, sought_element, index_short, index_first, index_none, keyed, under_none, under_object, seeking_over, seeking_enough, sought_none, sought_same, element_next, elements_over, member_next, members_over}

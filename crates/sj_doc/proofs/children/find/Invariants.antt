@@ -1,5 +1,5 @@
 use Rattle.std.proofs.Common.{◌≡◌, ◌-◌, ◌≤◌}
-use Rattle.sj_base.specs.Outside.{raised}
+use Rattle.sj_base.specs.Count.{raised}
 use Rattle.sj_doc.specs.Children.{children_left, IsChildren}
 use Rattle.sj_doc.specs.Keyed.{from_key}
 use Rattle.sj_doc.proofs.children.find.Given as goal

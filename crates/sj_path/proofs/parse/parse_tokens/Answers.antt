@@ -4,7 +4,7 @@ use Rattle.sj_path_grammar.specs.Misplaced.{misplaced_expr}
 use Rattle.sj_path_grammar.specs.Reading.{path_at}
 use Rattle.sj_path_grammar.proofs.Paths.{unread, spelled, finishes}
 use Rattle.sj_path.specs.Raw as raw
-use Rattle.sj_path_tree.specs.Tree.{path_of}
+use Rattle.sj_path_tree.specs.View.{path_of}
 use Rattle.sj_path.proofs.parse.parse_tokens.Goals as goal
 
 pub returns-in-Err-Syntax : goal.returns-in-Err-Syntax

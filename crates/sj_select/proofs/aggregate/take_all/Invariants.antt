@@ -1,6 +1,6 @@
 use Rattle.std.proofs.Common.{◌≡◌, ◌≤◌, ◌++◌, ◌∷◌, [], List, Err, map, drop}
 use Rattle.std.specs.List.{All, AllWithin}
-use Rattle.sj_base.specs.Outside.{raised}
+use Rattle.sj_base.specs.Count.{raised}
 use Rattle.sj_base.specs.declared.state.State.{State}
 use Rattle.sj_value.specs.Values.{IsPrintable}
 use Rattle.sj_value.specs.declared.value.SqlValue.{SqlValue}

@@ -1,6 +1,6 @@
 use Rattle.std.proofs.Common.{◌≡◌, ◌≤◌, map, drop}
 use Rattle.std.specs.List.{All}
-use Rattle.sj_base.specs.Outside.{raised}
+use Rattle.sj_base.specs.Count.{raised}
 use Rattle.sj_value.specs.Values.{IsPrintable}
 use Rattle.sj_select.specs.Columns.{columns_given, columns_cost}
 use Rattle.sj_select.specs.Filling.{column_of}

@@ -1,6 +1,6 @@
 use Rattle.std.proofs.Common.{◌≡◌, ◌≤◌, drop}
 use Rattle.std.specs.List.{All}
-use Rattle.sj_base.specs.Outside.{raised}
+use Rattle.sj_base.specs.Count.{raised}
 use Rattle.sj_value.specs.Values.{IsPrintable}
 use Rattle.sj_select.specs.Line.{line_of}
 use Rattle.sj_select.specs.Operations.{steps_of}

@@ -1,5 +1,5 @@
 use Rattle.std.proofs.Common.{◌≡◌, ◌≤◌, ℕ, ◌+◌, ◌∙◌, Ok, Bor, sym, ap, subst}
-use Rattle.sj_base.specs.Outside.{raised}
+use Rattle.sj_base.specs.Count.{raised}
 use Rattle.sj_table.specs.Series.{more}
 use Rattle.sj_table.specs.Takes.{Spends}
 use Rattle.sj_bound.specs.View.{table_of}

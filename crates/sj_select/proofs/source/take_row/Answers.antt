@@ -1,5 +1,5 @@
 use Rattle.std.proofs.Common.{◌≡◌, ◌≤◌, ◌+◌, ◌++◌, ◌∷◌, [], ◌∙◌, Ok, map, sym, ap, arith}
-use Rattle.sj_base.specs.Outside.{raised}
+use Rattle.sj_base.specs.Count.{raised}
 use Rattle.sj_bound.specs.View.{table_of}
 use Rattle.sj_select.specs.Aggregates.{inputs_cost}
 use Rattle.sj_select.specs.Columns.{columns_of, columns_given, columns_cost}

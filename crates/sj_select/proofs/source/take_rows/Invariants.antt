@@ -1,6 +1,6 @@
 use Rattle.std.proofs.Common.{◌≡◌, ◌+◌, [], map}
 use Rattle.std.specs.List.{All}
-use Rattle.sj_base.specs.Outside.{raised}
+use Rattle.sj_base.specs.Count.{raised}
 use Rattle.sj_value.specs.Values.{IsPrintable}
 use Rattle.sj_table.specs.Series.{size}
 use Rattle.sj_bound.specs.View.{table_of}

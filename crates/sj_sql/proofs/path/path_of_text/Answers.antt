@@ -1,4 +1,4 @@
-use Rattle.sj_path_tree.specs.Tree.{path_of}
+use Rattle.sj_path_tree.specs.View.{path_of}
 use Rattle.sj_sql.specs.Noted.{faults_of}
 use Rattle.sj_sql.proofs.Texts.{accepted_text, refused_text}
 use Rattle.sj_sql.proofs.path.path_of_text.Goals as goal

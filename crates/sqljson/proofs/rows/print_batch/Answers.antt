@@ -1,5 +1,5 @@
 use Rattle.std.proofs.Common.{rules, ◌≡◌, ◌+◌, ◌<◌, ◌≤◌, ◌∙◌, ap, subst, arith, List, length}
-use Rattle.sj_base.specs.Outside.{raised}
+use Rattle.sj_base.specs.Count.{raised}
 use Rattle.sj_bound.specs.Bound.{Bound}
 use Rattle.sj_page.specs.Pages.{print_state, Printed, Stopped}
 use Rattle.sj_page.proofs.Printing.{printing_starts, printing_more, printing_stops}

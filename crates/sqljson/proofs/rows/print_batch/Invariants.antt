@@ -1,5 +1,5 @@
 use Rattle.std.proofs.Common.{◌≡◌, ◌≤◌, drop}
-use Rattle.sj_base.specs.Outside.{raised}
+use Rattle.sj_base.specs.Count.{raised}
 use Rattle.sj_page.specs.Pages.{print_state}
 use Rattle.sj_page.proofs.Printing.{Printing}
 use Rattle.sqljson.specs.Output.{prints, cost}

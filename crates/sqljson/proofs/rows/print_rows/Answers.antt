@@ -1,5 +1,5 @@
 use Rattle.std.proofs.Common.{rules, ◌≡◌, ◌+◌, ◌<◌, ◌≤◌, ◌∙◌, ap, arith, length, get_or, refl}
-use Rattle.sj_base.specs.Outside.{raised}
+use Rattle.sj_base.specs.Count.{raised}
 use Rattle.sj_bound.specs.View.{bound_of}
 use Rattle.sj_select.specs.Line.{line_of}
 use Rattle.sj_page.specs.Pages.{print_state, Printed, Stopped}

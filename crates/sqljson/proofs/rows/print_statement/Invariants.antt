@@ -1,5 +1,5 @@
 use Rattle.std.proofs.Common.{◌≡◌, ◌≤◌}
-use Rattle.sj_base.specs.Outside.{raised}
+use Rattle.sj_base.specs.Count.{raised}
 use Rattle.sj_bound.specs.View.{bound_of}
 use Rattle.sj_select.specs.Line.{line_of}
 use Rattle.sj_page.specs.Pages.{print_state}

@@ -1,5 +1,5 @@
 use Rattle.sj_item.specs.Items.{item_value}
-use Rattle.sj_path_tree.specs.Tree.{path_of}
+use Rattle.sj_path_tree.specs.View.{path_of}
 use Rattle.sj_cursor.specs.Meaning.{start_env}
 use Rattle.sj_cursor.proofs.CellsAtTheBeginning.{begins}
 use Rattle.sj_cursor.proofs.cursor.Cursor.put_next.Goals as goal

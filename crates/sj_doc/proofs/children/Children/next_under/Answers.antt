@@ -1,5 +1,5 @@
 use Rattle.std.proofs.Common.{◌≡◌, ◌-◌, ℕ, length, sym, ap, ap₂, ◌∙◌}
-use Rattle.sj_base.specs.Outside.{raised}
+use Rattle.sj_base.specs.Count.{raised}
 use Rattle.sj_doc.proofs.Searching.{length-left}
 use Rattle.sj_doc.proofs.children.Children.next_under.Goals as goal
 

@@ -1,7 +1,7 @@
 use Rattle.std.proofs.Common.{ℕ, List, Bool, Some, Option, ap, ap₂, subst}
 use Rattle.sj_item.specs.Items.{PullValue}
 use Rattle.sj_doc.specs.Listed.{node_id, node_tree}
-use Rattle.sj_path_grammar.specs.declared.tree.Mode.{Mode}
+use Rattle.sj_path_tree.specs.declared.parts.Mode.{Mode}
 use Rattle.sj_step.specs.Reach.{members_end}
 use Rattle.sj_step.specs.Takes.{Takes}
 use Rattle.sj_step.specs.Trace.{first}

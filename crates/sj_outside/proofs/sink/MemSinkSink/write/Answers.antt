@@ -1,6 +1,6 @@
 use Rattle.std.proofs.Common.{◌≡◌, true, inl, refl, rules}
-use Rattle.sj_base.specs.InMemory.{is_listed}
-use Rattle.sj_base.proofs.sink.MemSinkSink.write.Goals as goal
+use Rattle.sj_outside.specs.InMemory.{is_listed}
+use Rattle.sj_outside.proofs.sink.MemSinkSink.write.Goals as goal
 
 pub returns-then-contains-clause-fails : goal.returns-then-contains-clause-fails
 returns-then-contains-clause-fails c =

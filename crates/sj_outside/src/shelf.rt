@@ -2,11 +2,13 @@
 ghost use Rattle.std.specs.Prelude.{◌≡◌, ◌≢◌, ◌<◌, ◌≤◌, ◌⊎◌, ◌↔◌, IsTrue, true, false, [], length, min, drop, Option, Some, IfOk, OnOk, OnErr, IsOk, IsErr, MatchResult, Ok};
 ghost use Rattle.std.specs.Io.KnownBytes.{ReadConsumes};
 ghost use Rattle.std.proofs.Common.{rules};
-ghost use Rattle.sj_base.specs.Outside.{HasCause, HasFile, Opens, one_file, raised};
-ghost use Rattle.sj_base.specs.InMemory.{is_listed, shelf_of, shelf_left, shelf_failed, quiet_shelf_of};
+ghost use Rattle.sj_base.specs.Count.{raised};
+ghost use Rattle.sj_outside.specs.Outside.{HasCause, HasFile, Opens, one_file};
+ghost use Rattle.sj_outside.specs.InMemory.{is_listed, shelf_of, shelf_left, shelf_failed, quiet_shelf_of};
 
 use crate::copies::{copy_from, fault};
-use crate::{Failed, Shelf, Text};
+use crate::{Failed, Shelf};
+use sj_base::Text;
 use std::marker::Model;
 
 /// A shelf of one file in memory. It fails at the calls that a list names and at names that are not its file's, and at
@@ -24,7 +26,7 @@ pub struct MemShelf {
 
 impl Model for MemShelf {
     ghost use Rattle.std.specs.Prelude.{◌≤◌, drop, vec_len};
-    ghost use Rattle.sj_base.specs.InMemory.{ShelfState};
+    ghost use Rattle.sj_outside.specs.InMemory.{ShelfState};
 
     ghost Value = { ShelfState };
 
@@ -116,7 +118,7 @@ pub struct QuietShelf {
 
 impl Model for QuietShelf {
     ghost use Rattle.std.specs.Prelude.{◌≤◌, drop, vec_len};
-    ghost use Rattle.sj_base.specs.InMemory.{QuietShelfState};
+    ghost use Rattle.sj_outside.specs.InMemory.{QuietShelfState};
 
     ghost Value = { QuietShelfState };
 

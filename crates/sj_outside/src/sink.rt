@@ -2,11 +2,13 @@
 ghost use Rattle.std.specs.Prelude.{◌≡◌, ◌<◌, ◌≤◌, ◌-◌, ◌++◌, ◌⊎◌, ◌↔◌, IsTrue, length, take, min, Option, Some, None, IfOk, IsErr, MatchResult, Ok};
 ghost use Rattle.std.specs.Option.{option_map};
 ghost use Rattle.std.proofs.Common.{ap};
-ghost use Rattle.sj_base.specs.Outside.{HasCause, Writes, raised};
-ghost use Rattle.sj_base.specs.InMemory.{is_listed, sink_of, sink_took, sink_failed};
+ghost use Rattle.sj_base.specs.Count.{raised};
+ghost use Rattle.sj_outside.specs.Outside.{HasCause, Writes};
+ghost use Rattle.sj_outside.specs.InMemory.{is_listed, sink_of, sink_took, sink_failed};
 
 use crate::copies::fault;
-use crate::{Failed, Memory, Sink};
+use crate::{Failed, Sink};
+use sj_base::Memory;
 use std::alloc::Global;
 use std::marker::Model;
 
@@ -23,7 +25,7 @@ pub struct MemSink {
 
 impl Model for MemSink {
     ghost use Rattle.std.specs.Prelude.{◌≤◌, vec_len, vec_capacity};
-    ghost use Rattle.sj_base.specs.InMemory.{SinkState};
+    ghost use Rattle.sj_outside.specs.InMemory.{SinkState};
 
     ghost Value = { SinkState };
 

@@ -1,7 +1,7 @@
 -- What the objects in memory show, and what each call makes of it.
 use Rattle.std.specs.Prelude.{ℕ, List, [], Bool, ◌==◌, min, drop, Option, None, Some, slice_get, if◌then◌else◌}
 use Rattle.std.specs.List.{list_any}
-use Rattle.sj_base.specs.Outside.{raised}
+use Rattle.sj_base.specs.Count.{raised}
 
 -- the call of this number, counted from 0, is one of those that fail
 abbrev pub is_listed : List ℕ → ℕ → Bool

@@ -1,8 +1,8 @@
 // Sources over bytes in memory.
 ghost use Rattle.std.specs.Prelude.{◌≡◌, ◌<◌, ◌≤◌, ◌↔◌, ℕ, List, IsTrue, length, min, drop, Option, Some, IfOk, IsErr, MatchResult, Ok};
 ghost use Rattle.std.specs.Io.KnownBytes.{ReadConsumes};
-ghost use Rattle.sj_base.specs.Outside.{HasCause};
-ghost use Rattle.sj_base.specs.InMemory.{is_listed, most_given, source_over, source_gave, source_failed};
+ghost use Rattle.sj_outside.specs.Outside.{HasCause};
+ghost use Rattle.sj_outside.specs.InMemory.{is_listed, most_given, source_over, source_gave, source_failed};
 
 use crate::copies::{copy_from, cut_to, fault};
 use crate::{Failed, Source};
@@ -22,7 +22,7 @@ pub struct MemSource {
 
 impl Model for MemSource {
     ghost use Rattle.std.specs.Prelude.{◌≤◌, drop, vec_len};
-    ghost use Rattle.sj_base.specs.InMemory.{SourceState};
+    ghost use Rattle.sj_outside.specs.InMemory.{SourceState};
 
     ghost Value = { SourceState };
 
