@@ -100,8 +100,9 @@ class Schedule:
         self.left.remove(crate)
         longest = max(self.behind[it] for it in [crate, *self.left, *(proof.crate for proof in self.running)])
         beside = len(self.running) + len(self.ready())
-        jobs = max(min(3, processors()), processors() - beside) if self.behind[crate] == longest else 1
-        can_wait = MINUTES.get(crate, MINUTES_OF_OTHERS) < LONG and longest - self.behind[crate] > SLACK
+        is_long = MINUTES.get(crate, MINUTES_OF_OTHERS) >= LONG
+        jobs = max(min(2, processors()), processors() - beside) if is_long and self.behind[crate] == longest else 1
+        can_wait = not is_long and longest - self.behind[crate] > SLACK
         proof = start(crate, jobs, PATIENCE if can_wait else 0)
         if proof:
             self.running.append(proof)
