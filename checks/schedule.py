@@ -11,8 +11,8 @@ from checks.times import clock
 
 EACH_TAKES = 3_000_000_000  # bytes of memory for a crate that is being proved: about 1.5 GB for each of its jobs, and most have one
 MINUTES = {  # of processor time, as measured
-    "sj_cursor": 9, "sj_sql": 8.5, "sj_select": 8, "sj_bind": 6.5, "sqljson": 5, "sj_path": 4, "sj_table": 4,
-    "sj_read": 2.3, "sj_path_token": 2.2, "sj_build": 2, "sj_sql_token": 1.6, "sj_doc": 1.5, "sj_item": 1.2, "sj_json": 0.2,
+    "sj_cursor": 9, "sj_sql": 8.5, "sj_select": 8, "sj_bind": 6.5, "sqljson": 5, "sj_path": 4, "sj_table": 4, "sj_doc": 2.3, "sj_path_token": 2.3,
+    "sj_read": 2.3, "sj_build": 2, "sj_sql_token": 1.7, "sj_decimal": 1.7, "sj_path_tree": 1.5, "sj_base": 0.8, "sj_path_grammar": 0.5, "sj_json": 0.2,
 }
 MINUTES_OF_OTHERS = 1.3
 LONG = 3  # minutes from which a proof never waits
@@ -100,9 +100,8 @@ class Schedule:
         self.left.remove(crate)
         longest = max(self.behind[it] for it in [crate, *self.left, *(proof.crate for proof in self.running)])
         beside = len(self.running) + len(self.ready())
-        is_long = MINUTES.get(crate, MINUTES_OF_OTHERS) >= LONG
-        jobs = max(min(2, processors()), processors() - beside) if is_long and self.behind[crate] == longest else 1
-        can_wait = not is_long and longest - self.behind[crate] > SLACK
+        jobs = max(min(3, processors()), processors() - beside) if self.behind[crate] == longest else 1
+        can_wait = MINUTES.get(crate, MINUTES_OF_OTHERS) < LONG and longest - self.behind[crate] > SLACK
         proof = start(crate, jobs, PATIENCE if can_wait else 0)
         if proof:
             self.running.append(proof)
