@@ -29,6 +29,14 @@ AS_IT_WAS, LONGER, BY_CLAUSES = "as it was", "as it was, and a front of the text
 LEFT_ANYWHERE = {
     ("json_value", "cursor"): "it is rewound before its next use",
     ("json_query", "cursor"): "it is rewound before its next use",
+    ("find_list", "operations"): "their cursors are rewound before their next use",
+    ("find_list", "stack"): "it is cleared before its next use",
+    ("take_all", "all"): "they begin anew before their next use",
+    ("take_all", "stack"): "it is cleared before its next use",
+    ("finish_all", "all"): "they begin anew before their next use",
+    ("finish_all", "values"): "they are cleared before their next use",
+    ("ValueCall::outcome", "self"): "its cursor is rewound before its next use",
+    ("QueryCall::outcome", "self"): "its cursor is rewound before its next use",
     ("RowsOf::next", "self"): "the rows are rewound before their next use",
 }
 INTRODUCTION = """# What a refused call leaves

@@ -10,11 +10,11 @@ use Rattle.sj_table.specs.Series.{done, raises, more, chain, first, rest}
 use Rattle.sj_table.specs.Takes.{Advances, Takes, Answers, Spends, answer_of}
 use Rattle.sj_table.specs.declared.pull.RowPull.{RowPull}
 use Rattle.sj_bound.specs.Bound as b
+use Rattle.sj_select_list.specs.Line.{Line}
+use Rattle.sj_select_list.specs.Values.{given_list, list_cost}
 use Rattle.sj_select.specs.Columns.{columns_of, columns_given, columns_cost}
-use Rattle.sj_select.specs.Line.{Line}
 use Rattle.sj_select.specs.Rows.{StatementRows, then_values, then_cost, one_row, row_of, row_cost, listed, listed_cost}
 use Rattle.sj_select.specs.Sources.{due_behind as found_due_behind}
-use Rattle.sj_select.specs.Values.{given_list, list_cost}
 use Rattle.sj_select.specs.declared.source.Found.{Found}
 use Rattle.sj_select.proofs.CountedSteps.{spent_then, spent_less, falls_by}
 

@@ -2,11 +2,11 @@
 use Rattle.std.proofs.Common.{◌≡◌, List, [], ◌∷◌, length, map, nat_eq, false, true, refl, subst}
 use Rattle.sj_table.specs.Rows.{PlanRows}
 use Rattle.sj_bound.specs.Bound as b
-use Rattle.sj_select.specs.Aggregates.{Aggregate}
-use Rattle.sj_select.specs.Line.{Line}
+use Rattle.sj_select_list.specs.Aggregates.{Aggregate}
+use Rattle.sj_select_list.specs.Line.{Line}
+use Rattle.sj_select_list.specs.Taking.{aggregate_of}
+use Rattle.sj_select_list.specs.declared.aggregate.Aggregate.{Aggregate as AggregateHeld}
 use Rattle.sj_select.specs.Rows.{aggregated, aggregated_cost, over_rows, over_cost}
-use Rattle.sj_select.specs.Taking.{aggregate_of}
-use Rattle.sj_select.specs.declared.aggregate.Aggregate.{Aggregate as AggregateHeld}
 
 module _ (line : Line) (table : b.Table) (list : List b.Value) (left : PlanRows) where
   -- where there is an aggregate, aggregates are all that is given

@@ -1,25 +1,22 @@
 -- The aggregates over the rows of a table, of which one is taken after another.
-use Rattle.std.proofs.Common.{◌≡◌, ◌≤◌, ℕ, suc, ◌+◌, List, [], ◌∷◌, ◌++◌, map, IfOk, Option, None, Some, Result, Ok, Err, refl, sym, ap, subst, ◌∙◌, arith}
+use Rattle.std.proofs.Common.{◌≡◌, ◌≤◌, ℕ, ◌+◌, List, [], ◌∷◌, ◌++◌, map, IfOk, Option, None, Some, Result, Ok, Err, sym, ap, subst, ◌∙◌, arith}
 use Rattle.std.specs.List.{All as Each}
 use Rattle.sj_base.specs.declared.memory.Memory.{Memory}
 use Rattle.sj_base.specs.declared.state.State.{State}
 use Rattle.sj_value.specs.declared.value.SqlValue.{SqlValue}
 use Rattle.sj_base.specs.Count.{raised}
-use Rattle.sj_func.specs.declared.context.Outcome.{Outcome}
-use Rattle.sj_func.specs.declared.context.Outcome.TheVariants.{Value}
 use Rattle.sj_table.specs.Rows.{Row, PlanRows}
 use Rattle.sj_table.specs.Takes.{Spends}
 use Rattle.sj_table.specs.Series.{done, raises, more}
 use Rattle.sj_bound.specs.Bound as b
-use Rattle.sj_select.specs.Aggregates.{Aggregate, aggregates, inputs_cost}
+use Rattle.sj_select_list.specs.Aggregates.{Aggregate, aggregates, inputs_cost}
+use Rattle.sj_select_list.specs.Line.{Line}
+use Rattle.sj_select_list.specs.Taking.{HasTaken, AllTake, IsReady, aggregate_of}
+use Rattle.sj_select_list.proofs.Aggregating.{all_taken}
+use Rattle.sj_select_list.specs.declared.aggregate.Aggregate.{Aggregate as AggregateHeld}
 use Rattle.sj_select.specs.Columns.{columns_of, columns_given, columns_cost}
-use Rattle.sj_select.specs.Line.{Line}
 use Rattle.sj_select.specs.Rows.{StatementRows, then_values, then_rows, then_cost, one_row, aggregated, aggregated_cost}
 use Rattle.sj_select.specs.Sources.{taken_end, taken_cost, TakesRow, HasTakenRow, HasTakenRows}
-use Rattle.sj_select.specs.Taking.{HasTaken, AllTake, IsReady, aggregate_of}
-use Rattle.sj_select.specs.Values.{value_before}
-use Rattle.sj_select.proofs.Aggregating.{taken_value}
-use Rattle.sj_select.specs.declared.aggregate.Aggregate.{Aggregate as AggregateHeld}
 
 stop_by : (r : Result (List SqlValue) State) (f : List SqlValue → Result (List SqlValue) State) (g : List SqlValue → StatementRows) (s : State) → then_values r f ≡ Err s
     → then_rows r (λ c. then_rows (f c) (λ _. g c)) ≡ raises s
@@ -86,15 +83,6 @@ module _ (line : Line) (table : b.Table) (list : List Aggregate) where
       let later = ap (λ (r : Result (List SqlValue) State). then_cost r (λ _. aggregated_cost line table list (before ++ cs ∷ []) others)) g in
       let first = ap (λ (r : Result (List SqlValue) State). then_cost r (λ c. inputs_cost line list (before ++ c ∷ []) c)) f in
       omega (arith, whole, inner, later, first)
-
--- ---- aggregates that have taken rows have values over them
-
-pub all_taken : (line : Line) (rows : List (List SqlValue)) (held : List AggregateHeld) → Each IsReady held → Each (HasTaken line rows) held → (vs : List SqlValue) × (aggregates line (map aggregate_of held) rows ≡ Ok vs)
-all_taken line rows [] ready h = ([], refl)
-all_taken line rows (x ∷ xs) ready h =
-    let v = taken_value line rows x (ready 0 x (omega arith)) (h 0 x (omega arith)) in
-    let others = all_taken line rows xs (λ k d less. ready (suc k) d (omega (arith, less))) (λ k d less. h (suc k) d (omega (arith, less))) in
-    (v.0 ∷ others.0, ap (λ (o : Outcome). value_before o (aggregates line (map aggregate_of xs) rows)) v.1 ∙ ap (value_before (Value v.0)) others.1)
 
 -- ---- how far taking has come
 

@@ -6,7 +6,7 @@ use Rattle.sj_json.specs.Coding.{tree_code}
 use Rattle.sj_value.specs.declared.value.SqlValue.{SqlValue}
 use Rattle.sj_value.specs.contracts.value.SqlValue as value
 use Rattle.sj_table.specs.Coding.{series_code}
-use Rattle.sj_select.specs.Line.{Line, not_json, repeated, json}
+use Rattle.sj_select_list.specs.Line.{Line, not_json, repeated, json}
 use Rattle.sj_select.specs.Rows.{StatementRows}
 
 -- no tree, or one and whether keys are repeated

@@ -14,7 +14,7 @@ use Rattle.sj_func.specs.declared.context.Outcome.TheVariants.{Value}
 use Rattle.sj_table.specs.Rows.{Row, entry}
 use Rattle.sj_bound.specs.Bound as b
 use Rattle.sj_bound.specs.Bound.{PathWith}
-use Rattle.sj_select.specs.Values.{trace_of, each_value, each_cost}
+use Rattle.sj_select_list.specs.Values.{trace_of, each_value, each_cost}
 
 -- a column of the path of this number, with the variables that are passed to the table
 pub data Column : Type 0 where

@@ -1,10 +1,7 @@
--- How the columns of a table are held, and how their values are gathered. Private clauses alone cite this.
-use Rattle.std.specs.Prelude.{◌≡◌, List, Option, Some, None, Result, Ok, Err}
-use Rattle.sj_base.specs.declared.state.State.{State}
+-- How the columns of a table are held. Private clauses alone cite this.
 use Rattle.sj_value.specs.Clauses.{IsValueSpec}
-use Rattle.sj_value.specs.declared.value.SqlValue.{SqlValue}
+use Rattle.sj_select_list.specs.Operations.{path_with}
 use Rattle.sj_select.specs.Columns.{Column, ordinality, regular, formatted, existence}
-use Rattle.sj_select.specs.Operations.{path_with}
 use Rattle.sj_select.specs.declared.columns.Column.{Column as ColumnHeld}
 use Rattle.sj_select.specs.declared.columns.Column.TheVariants as held
 use Rattle.sj_select.specs.declared.columns.ExistsColumn.{ExistsColumn}
@@ -33,8 +30,3 @@ CanFill (ordinality n) = Unit {0}
 CanFill (regular n x clauses) = IsValueSpec clauses
 CanFill (formatted n x clauses) = Unit {0}
 CanFill (existence n x _) = Unit {0}
-
--- no state was raised and these are the values, or this state was raised
-abbrev pub Gathers : Result (List SqlValue) State → Option State → List SqlValue → Type 0
-Gathers end None values = end ≡ Ok values
-Gathers end (Some s) values = end ≡ Err s

@@ -1,14 +1,8 @@
-pub mod Line
-pub mod Values
 pub mod Columns
-pub mod Aggregates
 pub mod Rows
 pub mod Coding
-pub mod Operations
-pub mod Performing
 pub mod Filling
 pub mod Tables
-pub mod Taking
 pub mod Sources
 pub mod Stages
 pub mod Seen

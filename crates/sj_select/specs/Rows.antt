@@ -8,21 +8,14 @@ use Rattle.sj_func.specs.Functions.{ContextValue, on_item, on_bad}
 use Rattle.sj_table.specs.Rows.{Row, PlanRows, plan_rows, plan_cost}
 use Rattle.sj_table.specs.Series.{Series, done, raises, more, each}
 use Rattle.sj_bound.specs.Bound as b
-use Rattle.sj_select.specs.Aggregates.{Aggregate, aggregates_in, aggregates, inputs_cost}
+use Rattle.sj_select_list.specs.Aggregates.{Aggregate, aggregates_in, aggregates, inputs_cost}
+use Rattle.sj_select_list.specs.Line.{Line, context}
+use Rattle.sj_select_list.specs.Values.{values_in, given_list, list_cost}
 use Rattle.sj_select.specs.Columns.{columns_of, columns_given, columns_cost}
-use Rattle.sj_select.specs.Line.{Line, context}
-use Rattle.sj_select.specs.Values.{given_list, list_cost}
 
 -- rows in their order, and at their end the state that is raised, if there is one
 abbrev pub StatementRows : Type 0
 StatementRows = Series (List SqlValue)
-
--- the values of a SELECT list
-abbrev pub values_in : List b.Item → List b.Value
-values_in [] = []
-values_in (b.Single x ∷ items) = x ∷ values_in items
-values_in (b.ArrayAgg x _ ∷ items) = values_in items
-values_in (b.ObjectAgg key x _ unique ∷ items) = values_in items
 
 -- ---- what follows, unless a state is raised
 

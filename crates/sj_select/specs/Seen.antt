@@ -5,8 +5,8 @@ use Rattle.sj_value.specs.declared.value.SqlValue.{SqlValue}
 use Rattle.sj_table.specs.Series.{done, raises, more, first, rest}
 use Rattle.sj_bound.specs.declared.bound.Bound.{Bound}
 use Rattle.sj_bound.specs.contracts.bound.Bound as bound
+use Rattle.sj_select_list.specs.Line.{Line}
 use Rattle.sj_select.specs.Coding.{line_code, row_code, rows_code}
-use Rattle.sj_select.specs.Line.{Line}
 use Rattle.sj_select.specs.Rows.{StatementRows}
 use Rattle.sj_select.specs.declared.rows.Turn.{Turn}
 use Rattle.sj_select.specs.declared.rows.Turn.TheVariants as turn

@@ -9,16 +9,16 @@ use Rattle.sj_table.specs.Rows.{Row}
 use Rattle.sj_table.specs.Series.{done, raises, more}
 use Rattle.sj_bound.specs.Bound as b
 use Rattle.sj_bound.specs.View.{table_of}
-use Rattle.sj_select.specs.Aggregates.{Aggregate, aggregates_in, aggregates, inputs_cost}
+use Rattle.sj_select_list.specs.Aggregates.{Aggregate, aggregates_in, aggregates, inputs_cost}
+use Rattle.sj_select_list.specs.Line.{Line}
+use Rattle.sj_select_list.specs.Operations.{steps_of, steps_to_all}
+use Rattle.sj_select_list.specs.Performing.{CanBeGiven}
+use Rattle.sj_select_list.specs.Taking.{IsReady, HasTaken, aggregate_of}
+use Rattle.sj_select_list.specs.Values.{values_in, given_list, list_cost}
+use Rattle.sj_select_list.specs.declared.aggregate.Aggregate.{Aggregate as AggregateHeld}
 use Rattle.sj_select.specs.Columns.{columns_of, columns_given, columns_cost}
-use Rattle.sj_select.specs.Line.{Line}
-use Rattle.sj_select.specs.Operations.{steps_of, steps_to_all}
-use Rattle.sj_select.specs.Performing.{CanBeGiven}
-use Rattle.sj_select.specs.Rows.{StatementRows, values_in, then_values, then_cost, one_row, listed_cost, over_rows, over_cost}
+use Rattle.sj_select.specs.Rows.{StatementRows, then_values, then_cost, one_row, listed_cost, over_rows, over_cost}
 use Rattle.sj_select.specs.Tables.{IsPlaced, plan_left, plan_due}
-use Rattle.sj_select.specs.Taking.{IsReady, HasTaken, aggregate_of}
-use Rattle.sj_select.specs.Values.{given_list, list_cost}
-use Rattle.sj_select.specs.declared.aggregate.Aggregate.{Aggregate as AggregateHeld}
 use Rattle.sj_select.specs.declared.source.Found.{Found}
 use Rattle.sj_select.specs.declared.source.Found.TheVariants as found
 use Rattle.sj_select.specs.declared.source.RowSource.{RowSource}

@@ -6,17 +6,16 @@ ghost use Rattle.sj_table.specs.Takes.{Spends};
 ghost use Rattle.sj_bound.specs.Bound as b;
 ghost use Rattle.sj_bound.specs.Sound.{IsSound};
 ghost use Rattle.sj_bound.specs.View.{bound_of};
-ghost use Rattle.sj_select.specs.Line.{line_of};
+ghost use Rattle.sj_select_list.specs.Line.{line_of};
 ghost use Rattle.sj_select.specs.Rows.{statement_rows, statement_cost};
 ghost use Rattle.sj_select.specs.Seen.{Gives};
 ghost use Rattle.sj_select.specs.Sources.{IsFor, IsReadySource, Finds, source_left, source_due, due_behind};
 ghost use Rattle.sj_select.specs.Stages.{left_at, due_at, turn_for, stage_behind, row_kept};
 
-use crate::line::LineDoc;
 use crate::source::{Found, RowSource};
-use crate::stack::Stack;
 use sj_base::{Ledger, Memory, State, Steps};
 use sj_bound::Bound;
+use sj_select_list::{LineDoc, Stack};
 use sj_value::SqlValue;
 use std::alloc::Global;
 use std::marker::Model;
@@ -144,7 +143,7 @@ impl<'d> Model for RowsOf<'d> {
     ghost coded = { seen_code };
 
     ghost use Rattle.sj_bound.specs.View.{bound_of};
-    ghost use Rattle.sj_select.specs.Line.{line_of};
+    ghost use Rattle.sj_select_list.specs.Line.{line_of};
     ghost use Rattle.sj_select.specs.Sources.{IsFor, IsReadySource, source_left, source_due};
     ghost use Rattle.sj_select.specs.Stages.{left_at, due_at};
 

@@ -7,27 +7,23 @@ ghost use Rattle.sj_table.specs.Takes.{Spends};
 ghost use Rattle.sj_bound.specs.Bound as b;
 ghost use Rattle.sj_bound.specs.Sound.{IsSound};
 ghost use Rattle.sj_bound.specs.View.{bound_of, table_of};
-ghost use Rattle.sj_select.specs.Filling.{Gathers};
-ghost use Rattle.sj_select.specs.Line.{line_of};
-ghost use Rattle.sj_select.specs.Operations.{steps_of, steps_to_all};
-ghost use Rattle.sj_select.specs.Performing.{CanBeGiven};
+ghost use Rattle.sj_select_list.specs.Line.{line_of};
+ghost use Rattle.sj_select_list.specs.Operations.{steps_of, steps_to_all};
+ghost use Rattle.sj_select_list.specs.Performing.{CanBeGiven};
+ghost use Rattle.sj_select_list.specs.Taking.{IsReady, HasTaken, aggregate_of};
+ghost use Rattle.sj_select_list.specs.Values.{given_list, list_cost};
 ghost use Rattle.sj_select.specs.Rows.{StatementRows, one_row, listed, aggregated, aggregated_cost, statement_rows, statement_cost};
 ghost use Rattle.sj_select.specs.Sources.{IsFor, IsReadySource, source_left, source_due, listed_due, due_behind, Finds, TakesRow, TakesRows, taken_cost};
 ghost use Rattle.sj_select.specs.Tables.{IsPlaced, plan_left, plan_due};
-ghost use Rattle.sj_select.specs.Taking.{IsReady, HasTaken, aggregate_of};
-ghost use Rattle.sj_select.specs.Values.{given_list, list_cost};
 
-use crate::aggregate::{Aggregate, aggregates_of, begin_all, finish_all, take_all};
-use crate::build::operations_of;
-use crate::find::find;
-use crate::line::LineDoc;
-use crate::operation::Operation;
-use crate::stack::Stack;
 use crate::table::TableRows;
 use sj_base::{Ledger, Memory, State, Steps};
 use sj_bound::Bound;
+use sj_select_list::{
+    Aggregate, LineDoc, Operation, Stack, aggregates_of, begin_all, find_list, finish_all,
+    operations_of, take_all,
+};
 use sj_table::RowPull;
-use sj_value::SqlValue;
 use std::alloc::Global;
 
 /// What was found in the place of the next row.
@@ -123,30 +119,6 @@ impl<'d> RowSource<'d> {
             find_aggregated(alloc, table, aggregates, line, &mut self.stack, steps)
         }
     }
-}
-
-// The values of a SELECT list beside columns with these values, in the place of those that were found before, or the state that the first
-// of them raises.
-#[inline(always)]
-fn find_list<'d, L: Ledger>(
-    alloc: Global,
-    operations: &mut [Operation<'d>],
-    line: LineDoc<'d>,
-    columns: &[SqlValue],
-    stack: &mut Stack,
-    steps: &mut Steps<L>,
-) -> Result<Option<State>, Memory>
-    requires columns { All IsPrintable columns.now }
-    requires given { All CanBeGiven (steps_of operations.old) }
-    ensures finds { (list : List b.Value) → steps_of operations.old ≡ steps_to_all list →
-        IfOk result (λ raised. Gathers (given_list (line_of line.entry) columns.now list) raised stack.new.values.items) }
-    ensures costs { (list : List b.Value) → steps_of operations.old ≡ steps_to_all list →
-        steps.new ≤ raised steps.old (list_cost (line_of line.entry) columns.now list) }
-    ensures steps { steps_of operations.new ≡ steps_of operations.old }
-    ensures printable { All IsPrintable stack.new.values.items }
-{
-    stack.clear();
-    find(alloc, operations, line, columns, stack, steps)
 }
 
 // The row of a statement without a table.

@@ -6,9 +6,9 @@ ghost use Rattle.sj_func.specs.Functions.{context_value};
 ghost use Rattle.sj_table.specs.Takes.{Takes};
 ghost use Rattle.sj_bound.specs.Sound.{IsSoundTable};
 ghost use Rattle.sj_bound.specs.View.{table_of};
+ghost use Rattle.sj_select_list.specs.Gathers.{Gathers};
 ghost use Rattle.sj_select.specs.Columns as meaning;
 ghost use Rattle.sj_select.specs.Columns.{columns_given, columns_cost};
-ghost use Rattle.sj_select.specs.Filling.{Gathers};
 ghost use Rattle.sj_select.specs.Rows.{rows_on, rows_cost_on};
 ghost use Rattle.sj_select.specs.Tables.{IsPlaced, plan_left, plan_due};
 

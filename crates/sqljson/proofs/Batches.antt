@@ -15,7 +15,7 @@ use Rattle.sj_bound.specs.View.{bound_of}
 use Rattle.sj_bound.specs.declared.bound.Bound.{Bound as BoundHeld}
 use Rattle.sj_json.specs.UniqueKeys.{has_unique_keys}
 use Rattle.sj_json.proofs.Distinct.{unique_from, unique_to}
-use Rattle.sj_select.specs.Line.{Line}
+use Rattle.sj_select_list.specs.Line.{Line}
 use Rattle.sj_select.specs.Seen.{Seen}
 use Rattle.sj_page.specs.Pages.{nothing, followed_by}
 use Rattle.sqljson.specs.declared.batch.ReadLine.{ReadLine}

@@ -7,7 +7,7 @@ use Rattle.sj_value.specs.declared.value.SqlValue.{SqlValue}
 use Rattle.sj_table.specs.Series.{Series, done, raises, more, first, rest}
 use Rattle.sj_table.specs.Takes.{Spends}
 use Rattle.sj_bound.specs.Bound.{Bound}
-use Rattle.sj_select.specs.Line.{Line}
+use Rattle.sj_select_list.specs.Line.{Line}
 use Rattle.sj_select.specs.Rows.{statement_rows, statement_cost}
 use Rattle.sj_select.specs.Seen.{Seen, turn_of, Gives}
 use Rattle.sj_select.specs.declared.rows.Turn.{Turn}

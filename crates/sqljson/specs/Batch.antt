@@ -8,7 +8,7 @@ use Rattle.sj_json.specs.Document.{document}
 use Rattle.sj_bound.specs.Bound.{Bound}
 use Rattle.sj_bound.specs.View.{bound_of}
 use Rattle.sj_json.specs.UniqueKeys.{has_unique_keys}
-use Rattle.sj_select.specs.Line.{Line, not_json, repeated, json}
+use Rattle.sj_select_list.specs.Line.{Line, not_json, repeated, json}
 use Rattle.sj_select.specs.Seen.{Seen}
 use Rattle.sqljson.specs.declared.batch.ReadLine.{ReadLine}
 use Rattle.sqljson.specs.declared.batch.Reading.{Reading}

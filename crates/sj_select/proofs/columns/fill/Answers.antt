@@ -1,9 +1,9 @@
 use Rattle.std.proofs.Common.{◌<◌, ◌∙◌, length, map, drop, get_or, sym, ap, ◌+◌, arith}
 use Rattle.std.proofs.Math.Seq.{map-set_same}
+use Rattle.sj_select_list.specs.Values.{each_value}
+use Rattle.sj_select_list.proofs.GatheredOutcomes.{behind, place, held_at, gather_step, gather_stop, cost_step, cost_stop, one_more}
 use Rattle.sj_select.specs.Columns.{column_outcome, column_cost}
 use Rattle.sj_select.specs.Filling.{column_of, CanFill}
-use Rattle.sj_select.specs.Values.{each_value}
-use Rattle.sj_select.proofs.GatheredOutcomes.{behind, place, held_at, gather_step, gather_stop, cost_step, cost_stop, one_more}
 use Rattle.sj_select.proofs.columns.fill.Goals as goal
 
 pub outcome-requires : goal.outcome-requires

@@ -2,9 +2,9 @@ use Rattle.std.proofs.Common.{◌≡◌, ◌≤◌, map, drop}
 use Rattle.std.specs.List.{All}
 use Rattle.sj_base.specs.Count.{raised}
 use Rattle.sj_value.specs.Values.{IsPrintable}
+use Rattle.sj_select_list.proofs.GatheredOutcomes.{behind}
 use Rattle.sj_select.specs.Columns.{columns_given, columns_cost}
 use Rattle.sj_select.specs.Filling.{column_of}
-use Rattle.sj_select.proofs.GatheredOutcomes.{behind}
 use Rattle.sj_select.proofs.columns.fill.Given as goal
 
 -- the values so far and those of the columns that are left are all, and so with the steps

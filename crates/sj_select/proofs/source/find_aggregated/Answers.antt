@@ -1,10 +1,10 @@
 use Rattle.std.proofs.Common.{[], map, sym, ap, ◌∙◌}
 use Rattle.sj_bound.specs.View.{table_of}
-use Rattle.sj_select.specs.Line.{line_of}
+use Rattle.sj_select_list.specs.Line.{line_of}
+use Rattle.sj_select_list.specs.Taking.{aggregate_of}
 use Rattle.sj_select.specs.Rows.{one_row, aggregated}
 use Rattle.sj_select.specs.Sources.{HasTakenRows}
 use Rattle.sj_select.specs.Tables.{plan_left}
-use Rattle.sj_select.specs.Taking.{aggregate_of}
 use Rattle.sj_select.proofs.source.find_aggregated.Goals as goal
 
 pub returns-clause-finds : goal.returns-clause-finds

@@ -4,8 +4,8 @@ use Rattle.sj_table.specs.Series.{more}
 use Rattle.sj_table.specs.Takes.{Spends}
 use Rattle.sj_bound.specs.View.{table_of}
 use Rattle.sj_bound.specs.declared.bound.BoundTable.{BoundTable}
+use Rattle.sj_select_list.specs.Line.{line_of}
 use Rattle.sj_select.specs.Columns.{columns_of, columns_given, columns_cost}
-use Rattle.sj_select.specs.Line.{line_of}
 use Rattle.sj_select.specs.Rows.{listed_cost}
 use Rattle.sj_select.specs.Sources.{listed_due}
 use Rattle.sj_select.specs.Tables.{plan_left, plan_due}

@@ -1,10 +1,10 @@
 use Rattle.std.proofs.Common.{◌≡◌, ◌≤◌, ◌+◌, ◌++◌, ◌∷◌, [], ◌∙◌, Ok, map, sym, ap, arith}
 use Rattle.sj_base.specs.Count.{raised}
 use Rattle.sj_bound.specs.View.{table_of}
-use Rattle.sj_select.specs.Aggregates.{inputs_cost}
+use Rattle.sj_select_list.specs.Aggregates.{inputs_cost}
+use Rattle.sj_select_list.specs.Line.{line_of}
+use Rattle.sj_select_list.specs.Taking.{aggregate_of}
 use Rattle.sj_select.specs.Columns.{columns_of, columns_given, columns_cost}
-use Rattle.sj_select.specs.Line.{line_of}
-use Rattle.sj_select.specs.Taking.{aggregate_of}
 use Rattle.sj_select.proofs.CountedSteps.{spent_then}
 use Rattle.sj_select.proofs.TakingRows.{takes_row, taken_cost_is}
 use Rattle.sj_select.proofs.source.take_row.Goals as goal

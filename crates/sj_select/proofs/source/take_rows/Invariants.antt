@@ -4,10 +4,10 @@ use Rattle.sj_base.specs.Count.{raised}
 use Rattle.sj_value.specs.Values.{IsPrintable}
 use Rattle.sj_table.specs.Series.{size}
 use Rattle.sj_bound.specs.View.{table_of}
-use Rattle.sj_select.specs.Line.{line_of}
+use Rattle.sj_select_list.specs.Line.{line_of}
+use Rattle.sj_select_list.specs.Taking.{IsReady, aggregate_of}
 use Rattle.sj_select.specs.Rows.{aggregated, aggregated_cost}
 use Rattle.sj_select.specs.Tables.{IsPlaced, plan_left, plan_due}
-use Rattle.sj_select.specs.Taking.{IsReady, aggregate_of}
 use Rattle.sj_select.proofs.TakingRows.{HasCome}
 use Rattle.sj_select.proofs.source.take_rows.Given as goal
 

@@ -1,7 +1,7 @@
 use Rattle.std.proofs.Common.{rules, ◌≡◌, ◌+◌, ◌<◌, ◌≤◌, ◌∙◌, ap, arith, length, get_or, refl}
 use Rattle.sj_base.specs.Count.{raised}
 use Rattle.sj_bound.specs.View.{bound_of}
-use Rattle.sj_select.specs.Line.{line_of}
+use Rattle.sj_select_list.specs.Line.{line_of}
 use Rattle.sj_page.specs.Pages.{print_state, Printed, Stopped}
 use Rattle.sj_page.proofs.Printing.{printing_starts, printing_more, printing_stops}
 use Rattle.sqljson.specs.Batch.{bounds_in, line_read}

@@ -1,6 +1,6 @@
 use Rattle.std.proofs.Common.{rules, ap, arith, sym, ◌∙◌}
 use Rattle.sj_bound.specs.View.{bound_of}
-use Rattle.sj_select.specs.Line.{line_of}
+use Rattle.sj_select_list.specs.Line.{line_of}
 use Rattle.sj_page.proofs.Printing.{printing_more, printing_done, printing_ends, printing_stops, printing_memory}
 use Rattle.sj_page.specs.Pages.{followed_by, row_print}
 use Rattle.sqljson.specs.Output.{rows_print}

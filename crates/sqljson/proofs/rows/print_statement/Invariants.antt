@@ -1,7 +1,7 @@
 use Rattle.std.proofs.Common.{◌≡◌, ◌≤◌}
 use Rattle.sj_base.specs.Count.{raised}
 use Rattle.sj_bound.specs.View.{bound_of}
-use Rattle.sj_select.specs.Line.{line_of}
+use Rattle.sj_select_list.specs.Line.{line_of}
 use Rattle.sj_page.specs.Pages.{print_state}
 use Rattle.sj_page.proofs.Printing.{Printing}
 use Rattle.sqljson.specs.Output.{rows_given, rows_print, row_count, cost_given}

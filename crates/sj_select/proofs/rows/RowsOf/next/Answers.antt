@@ -2,7 +2,7 @@ use Rattle.std.proofs.Common.{◌≡◌, ℕ, ◌∙◌, sym, ap, subst}
 use Rattle.sj_table.specs.Series.{first, rest}
 use Rattle.sj_table.specs.Takes.{Spends}
 use Rattle.sj_bound.specs.View.{bound_of}
-use Rattle.sj_select.specs.Line.{line_of}
+use Rattle.sj_select_list.specs.Line.{line_of}
 use Rattle.sj_select.specs.Seen.{Seen, turn_of, due_behind}
 use Rattle.sj_select.specs.Sources.{source_left, source_due, found_due}
 use Rattle.sj_select.specs.Stages.{left_at, due_at, stage_behind}

@@ -1,6 +1,6 @@
 use Rattle.std.proofs.Common.{◌∙◌, ap}
 use Rattle.sj_bound.specs.View.{bound_of}
-use Rattle.sj_select.specs.Line.{line_of}
+use Rattle.sj_select_list.specs.Line.{line_of}
 use Rattle.sj_select.specs.Rows.{statement_rows, statement_cost}
 use Rattle.sj_select.specs.Seen.{Seen}
 use Rattle.sj_select.proofs.rows.RowsOf.rewind.Goals as goal

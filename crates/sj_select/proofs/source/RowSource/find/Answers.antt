@@ -1,13 +1,14 @@
 use Rattle.std.proofs.Common.{◌≡◌, ℕ, ◌+◌, ◌∙◌, [], IfOk, Option, nat_eq, map, sym, ap, subst}
 use Rattle.sj_table.specs.Takes.{Spends}
 use Rattle.sj_bound.specs.View.{table_of}
-use Rattle.sj_select.specs.Aggregates.{aggregates_in}
-use Rattle.sj_select.specs.Line.{line_of}
-use Rattle.sj_select.specs.Operations.{steps_of}
-use Rattle.sj_select.specs.Rows.{StatementRows, values_in, aggregated, aggregated_cost, over_rows, over_cost}
+use Rattle.sj_select_list.specs.Aggregates.{aggregates_in}
+use Rattle.sj_select_list.specs.Line.{line_of}
+use Rattle.sj_select_list.specs.Operations.{steps_of}
+use Rattle.sj_select_list.specs.Taking.{aggregate_of}
+use Rattle.sj_select_list.specs.Values.{values_in}
+use Rattle.sj_select.specs.Rows.{StatementRows, aggregated, aggregated_cost, over_rows, over_cost}
 use Rattle.sj_select.specs.Sources.{Finds, left_beside, due_beside, due_behind}
 use Rattle.sj_select.specs.Tables.{plan_left, plan_due}
-use Rattle.sj_select.specs.Taking.{aggregate_of}
 use Rattle.sj_select.specs.declared.table.TableRows.{TableRows}
 use Rattle.sj_select.proofs.Sourced.{over_aggregates, over_aggregates_cost}
 use Rattle.sj_select.proofs.source.RowSource.find.Goals as goal

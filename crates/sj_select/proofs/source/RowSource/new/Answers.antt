@@ -4,11 +4,11 @@ use Rattle.std.proofs.lemmas.List.Elements.{All-nil}
 use Rattle.sj_value.specs.Values.{IsPrintable}
 use Rattle.sj_bound.specs.View.{bound_of, items_of}
 use Rattle.sj_bound.specs.declared.bound.BoundItem.{BoundItem}
-use Rattle.sj_select.specs.Performing.{CanBeGiven}
+use Rattle.sj_select_list.specs.Performing.{CanBeGiven}
+use Rattle.sj_select_list.specs.Taking.{CanTake}
+use Rattle.sj_select_list.proofs.SoundOperations.{sound_steps, sound_items}
 use Rattle.sj_select.specs.Sources.{IsPlacedIfAny}
-use Rattle.sj_select.specs.Taking.{CanTake}
 use Rattle.sj_select.specs.declared.table.TableRows.{TableRows}
-use Rattle.sj_select.proofs.SoundOperations.{sound_steps, sound_items}
 use Rattle.sj_select.proofs.source.RowSource.new.Goals.{in-Some+in_ok-new-in-Some, in-None}
 use Rattle.sj_select.proofs.source.RowSource.new.Goals as goal
 

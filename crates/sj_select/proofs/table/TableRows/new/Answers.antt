@@ -3,7 +3,7 @@ use Rattle.std.specs.List.{All}
 use Rattle.std.proofs.lemmas.List.Elements.{All-nil}
 use Rattle.sj_value.specs.Values.{IsPrintable}
 use Rattle.sj_bound.specs.View.{table_of}
-use Rattle.sj_select.proofs.SoundOperations.{sound_columns}
+use Rattle.sj_select.proofs.SoundColumns.{sound_columns}
 use Rattle.sj_select.proofs.table.TableRows.new.Goals as goal
 
 pub returns-clause-placed : goal.returns-clause-placed

@@ -1,0 +1,7 @@
+pub mod Line
+pub mod Values
+pub mod Aggregates
+pub mod Operations
+pub mod Performing
+pub mod Gathers
+pub mod Taking

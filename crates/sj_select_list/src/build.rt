@@ -1,0 +1,177 @@
+// The operations of a statement.
+ghost use Rattle.std.specs.Prelude.{◌≡◌, ◌≤◌, ◌<◌, ◌+◌, ◌++◌, ◌∷◌, [], length, IfOk, OnOk};
+ghost use Rattle.sj_bound.specs.View.{bound_of, items_of, value_of, values_of, members_of, path_with_of};
+ghost use Rattle.sj_select_list.specs.Operations.{steps_of, steps_to, steps_to_values, steps_to_members, steps_to_all, value_count, member_count, path_with};
+ghost use Rattle.sj_select_list.specs.Values.{values_in};
+
+use crate::operation::{ExistsCall, Operation, QueryCall, ValueCall};
+use sj_base::Memory;
+use sj_bound::{Bound, BoundItem, BoundMembers, BoundPath, BoundValue, BoundValues};
+use sj_cursor::Cursor;
+use sj_item::Item;
+use sj_path_tree::{Path, Vars};
+use std::alloc::Global;
+
+/// The operations that find the values of a statement's SELECT list. The cursors of its paths take their memory here.
+///
+/// # Errors
+/// [`Memory`] where memory runs out.
+pub fn operations_of<'d>(
+    alloc: Global,
+    bound: &'d Bound,
+) -> Result<Vec<Operation<'d>>, Memory>
+    ensures { IfOk result (λ operations. steps_of operations.items ≡ steps_to_all (values_in (bound_of bound.now).items)) }
+{
+    operations_in(alloc, bound.items.as_slice())
+}
+
+/// The operations that find one value.
+///
+/// # Errors
+/// [`Memory`] where memory runs out.
+pub(crate) fn operations_to<'d>(
+    alloc: Global,
+    value: &'d BoundValue,
+) -> Result<Vec<Operation<'d>>, Memory>
+    ensures { IfOk result (λ operations. steps_of operations.items ≡ steps_to (value_of value.now)) }
+{
+    let mut operations = Vec::with_capacity(alloc, 1)?;
+    push_value(alloc, value, &mut operations)?;
+    Ok(operations)
+}
+
+// Those of the items of a list. An aggregate has none.
+fn operations_in<'d>(alloc: Global, items: &'d [BoundItem]) -> Result<Vec<Operation<'d>>, Memory>
+    ensures { IfOk result (λ operations. steps_of operations.items ≡ steps_to_all (values_in (items_of items.now))) }
+{
+    let mut operations = Vec::with_capacity(alloc, items.len())?;
+    for item in items {
+        match item {
+            BoundItem::Value(value) => push_value(alloc, value, &mut operations)?,
+            BoundItem::ArrayAgg(_, _) | BoundItem::ObjectAgg(_, _, _, _) => {}
+        }
+    }
+    Ok(operations)
+}
+
+// A cursor of the path, which is to be moved to a line.
+fn cursor_of<'d>(alloc: Global, path: &'d BoundPath) -> Result<Box<Cursor<'d>>, Memory>
+    ensures { IfOk result (λ cursor. path_with cursor.value ≡ path_with_of path.now) }
+{
+    boxed_cursor(alloc, &path.path, &path.vars)
+}
+
+/// A cursor of a path with its variables, on no item yet.
+///
+/// # Errors
+/// [`Memory`] where memory runs out.
+#[inline(never)]
+pub fn boxed_cursor<'d>(
+    alloc: Global,
+    path: &'d Path,
+    vars: &'d Vars,
+) -> Result<Box<Cursor<'d>>, Memory>
+    ensures path { IfOk result (λ cursor. cursor.value.path ≡ path.now) }
+    ensures vars { IfOk result (λ cursor. cursor.value.vars ≡ vars.now) }
+{
+    let cursor = Cursor::new(alloc, path, vars, Item::Null)?;
+    Ok(Box::new(alloc, cursor)?)
+}
+
+// Appends an operation. With a `?` at each place where this is called, the calls that recur would have as many ways out
+// more.
+fn push<'d>(operation: Operation<'d>, operations: &mut Vec<Operation<'d>>) -> Result<(), Memory>
+    ensures { OnOk result (operations.new.items ≡ operations.old.items ++ operation.entry ∷ []) }
+{
+    operations.push(operation)?;
+    Ok(())
+}
+
+// Appends the operations that find a value: what it is made of first. They are one at least.
+#[cycle(push_value)]
+fn push_value<'d>(
+    alloc: Global,
+    value: &'d BoundValue,
+    operations: &mut Vec<Operation<'d>>,
+) -> Result<(), Memory>
+    ensures steps { OnOk result (steps_of operations.new.items ≡ steps_of operations.old.items ++ steps_to (value_of value.now)) }
+    ensures grows { OnOk result (length operations.old.items < length operations.new.items) }
+{
+    match value {
+        BoundValue::Lit(literal) => push(Operation::Literal(literal), operations),
+        BoundValue::Column(number) => push(Operation::Column(*number), operations),
+        BoundValue::Exists(path, on_error) => {
+            let cursor = cursor_of(alloc, path)?;
+            let call = ExistsCall {
+                cursor,
+                on_error: *on_error,
+            };
+            push(Operation::Exists(call), operations)
+        }
+        BoundValue::Value(path, clauses) => {
+            let cursor = cursor_of(alloc, path)?;
+            push(Operation::Value(ValueCall { cursor, clauses }), operations)
+        }
+        BoundValue::Query(path, clauses) => {
+            let cursor = cursor_of(alloc, path)?;
+            let call = QueryCall {
+                cursor,
+                clauses: *clauses,
+            };
+            push(Operation::Query(call), operations)
+        }
+        BoundValue::IsJson(call) => push(Operation::IsJson(*call), operations),
+        BoundValue::Object(members, nulls, unique) => {
+            let count = push_members(alloc, members, operations)?;
+            push(Operation::Object(count, *nulls, *unique), operations)
+        }
+        BoundValue::Array(values, nulls) => {
+            let count = push_values(alloc, values, operations)?;
+            push(Operation::Array(count, *nulls), operations)
+        }
+    }
+}
+
+// The same for the values of an array, and how many they are.
+#[cycle(push_value)]
+fn push_values<'d>(
+    alloc: Global,
+    values: &'d BoundValues,
+    operations: &mut Vec<Operation<'d>>,
+) -> Result<usize, Memory>
+    ensures steps { OnOk result (steps_of operations.new.items ≡ steps_of operations.old.items ++ steps_to_values (values_of values.now)) }
+    ensures count { IfOk result (λ count. count ≡ value_count (values_of values.now)) }
+    ensures grows { OnOk result (length operations.old.items ≤ length operations.new.items) }
+{
+    let mut rest = values;
+    let mut count: usize = 0;
+    while let BoundValues::More(value, others) = rest {
+        push_value(alloc, value, operations)?;
+        count += 1;
+        rest = others;
+    }
+    Ok(count)
+}
+
+// The same for the members of an object: the key and the value of each, which then become a member.
+#[cycle(push_value)]
+fn push_members<'d>(
+    alloc: Global,
+    members: &'d BoundMembers,
+    operations: &mut Vec<Operation<'d>>,
+) -> Result<usize, Memory>
+    ensures steps { OnOk result (steps_of operations.new.items ≡ steps_of operations.old.items ++ steps_to_members (members_of members.now)) }
+    ensures count { IfOk result (λ count. count ≡ member_count (members_of members.now)) }
+    ensures grows { OnOk result (length operations.old.items ≤ length operations.new.items) }
+{
+    let mut rest = members;
+    let mut count: usize = 0;
+    while let BoundMembers::More(key, value, others) = rest {
+        push_value(alloc, key, operations)?;
+        push_value(alloc, value, operations)?;
+        push(Operation::Member, operations)?;
+        count += 1;
+        rest = others;
+    }
+    Ok(count)
+}

@@ -1,0 +1,132 @@
+// The functions that have a path, on a context item.
+ghost use Rattle.std.specs.Prelude.{◌≡◌, ◌≤◌, All, IfOk};
+ghost use Rattle.sj_base.specs.Count.{raised};
+ghost use Rattle.sj_func.specs.Functions.{context_value, exists_outcome, exists_cost, value_outcome, value_cost, query_outcome, query_cost, IsPrinted};
+ghost use Rattle.sj_value.specs.Clauses.{IsValueSpec};
+ghost use Rattle.sj_value.specs.Values.{IsPrintable};
+ghost use Rattle.sj_select_list.specs.Line.{line_of, context};
+ghost use Rattle.sj_select_list.specs.Operations.{exists_step, value_step, query_step, path_with};
+ghost use Rattle.sj_select_list.specs.Performing.{EndsIn, held, put as put_on};
+ghost use Rattle.sj_select_list.specs.Values.{trace_of};
+
+use crate::line::LineDoc;
+use crate::operation::{ExistsCall, QueryCall, ValueCall};
+use crate::stack::Stack;
+use sj_base::{Ledger, Memory, State, Steps};
+use sj_func::{Context, Outcome, json_exists, json_query, json_value};
+use std::alloc::Global;
+
+impl<'d> ExistsCall<'d> {
+    /// The outcome on a context item, or on the error in its place. The counter rises by no more than what it may take. It takes no memory.
+    pub fn outcome<L: Ledger>(
+        &mut self,
+        context: Context<'d>,
+        steps: &mut Steps<L>,
+    ) -> Outcome
+        ensures outcome { let x = path_with self.old.cursor.value in result ≡ exists_outcome self.old.on_error x.path.mode (context_value context.entry) (trace_of x) }
+        ensures printed { IsPrinted result }
+        ensures costs { let x = path_with self.old.cursor.value in steps.new ≤ raised steps.old (exists_cost x.path.mode (context_value context.entry) (trace_of x)) }
+        ensures step { exists_step self.new ≡ exists_step self.old }
+    {
+        json_exists(&mut *self.cursor, context, self.on_error, steps)
+    }
+
+    /// Puts the value on a stack, or gives the state that it raises.
+    #[inline(never)]
+    pub(crate) fn put<L: Ledger>(
+        &mut self,
+        line: LineDoc<'d>,
+        stack: &mut Stack,
+        steps: &mut Steps<L>,
+    ) -> Result<Option<State>, Memory>
+        requires printable { All IsPrintable stack.old.values.items }
+        ensures does { let x = path_with self.old.cursor.value in IfOk result (λ raised. EndsIn (put_on (exists_outcome self.old.on_error x.path.mode (context (line_of line.entry)) (trace_of x)) (held stack.old)) raised (held stack.new)) }
+        ensures costs { let x = path_with self.old.cursor.value in steps.new ≤ raised steps.old (exists_cost x.path.mode (context (line_of line.entry)) (trace_of x)) }
+        ensures step { exists_step self.new ≡ exists_step self.old }
+        ensures printable { All IsPrintable stack.new.values.items }
+    {
+        let outcome = self.outcome(line.context(), steps);
+        stack.put(outcome)
+    }
+}
+
+impl<'d> ValueCall<'d> {
+    /// The outcome on a context item, or on the error in its place. The counter rises by no more than what it may take.
+    ///
+    /// # Errors
+    /// [`Memory`] where memory runs out. What is said of the counter holds then too.
+    #[inline(always)]
+    pub fn outcome<L: Ledger>(
+        &mut self,
+        alloc: Global,
+        context: Context<'d>,
+        steps: &mut Steps<L>,
+    ) -> Result<Outcome, Memory>
+        requires { IsValueSpec self.old.clauses.now }
+        ensures outcome { let x = path_with self.old.cursor.value in IfOk result (λ o. o ≡ value_outcome self.old.clauses.now x.path.mode (context_value context.entry) (trace_of x)) }
+        ensures printed { IfOk result IsPrinted }
+        ensures costs { let x = path_with self.old.cursor.value in steps.new ≤ raised steps.old (value_cost x.path.mode (context_value context.entry) (trace_of x)) }
+        ensures step { value_step self.new ≡ value_step self.old }
+    {
+        json_value(alloc, &mut *self.cursor, context, self.clauses, steps)
+    }
+
+    /// Puts the value on a stack, or gives the state that it raises.
+    #[inline(never)]
+    pub(crate) fn put<L: Ledger>(
+        &mut self,
+        alloc: Global,
+        line: LineDoc<'d>,
+        stack: &mut Stack,
+        steps: &mut Steps<L>,
+    ) -> Result<Option<State>, Memory>
+        requires clauses { IsValueSpec self.old.clauses.now }
+        requires printable { All IsPrintable stack.old.values.items }
+        ensures does { let x = path_with self.old.cursor.value in IfOk result (λ raised. EndsIn (put_on (value_outcome self.old.clauses.now x.path.mode (context (line_of line.entry)) (trace_of x)) (held stack.old)) raised (held stack.new)) }
+        ensures costs { let x = path_with self.old.cursor.value in steps.new ≤ raised steps.old (value_cost x.path.mode (context (line_of line.entry)) (trace_of x)) }
+        ensures step { value_step self.new ≡ value_step self.old }
+        ensures printable { All IsPrintable stack.new.values.items }
+    {
+        let outcome = self.outcome(alloc, line.context(), steps)?;
+        stack.put(outcome)
+    }
+}
+
+impl<'d> QueryCall<'d> {
+    /// The outcome on a context item, or on the error in its place. The counter rises by no more than what it may take.
+    ///
+    /// # Errors
+    /// [`Memory`] where memory runs out. What is said of the counter holds then too.
+    pub fn outcome<L: Ledger>(
+        &mut self,
+        alloc: Global,
+        context: Context<'d>,
+        steps: &mut Steps<L>,
+    ) -> Result<Outcome, Memory>
+        ensures outcome { let x = path_with self.old.cursor.value in IfOk result (λ o. o ≡ query_outcome self.old.clauses x.path.mode (context_value context.entry) (trace_of x)) }
+        ensures printed { IfOk result IsPrinted }
+        ensures costs { let x = path_with self.old.cursor.value in steps.new ≤ raised steps.old (query_cost self.old.clauses.wrapper x.path.mode (context_value context.entry) (trace_of x)) }
+        ensures step { query_step self.new ≡ query_step self.old }
+    {
+        json_query(alloc, &mut *self.cursor, context, &self.clauses, steps)
+    }
+
+    /// Puts the value on a stack, or gives the state that it raises.
+    #[inline(never)]
+    pub(crate) fn put<L: Ledger>(
+        &mut self,
+        alloc: Global,
+        line: LineDoc<'d>,
+        stack: &mut Stack,
+        steps: &mut Steps<L>,
+    ) -> Result<Option<State>, Memory>
+        requires printable { All IsPrintable stack.old.values.items }
+        ensures does { let x = path_with self.old.cursor.value in IfOk result (λ raised. EndsIn (put_on (query_outcome self.old.clauses x.path.mode (context (line_of line.entry)) (trace_of x)) (held stack.old)) raised (held stack.new)) }
+        ensures costs { let x = path_with self.old.cursor.value in steps.new ≤ raised steps.old (query_cost self.old.clauses.wrapper x.path.mode (context (line_of line.entry)) (trace_of x)) }
+        ensures step { query_step self.new ≡ query_step self.old }
+        ensures printable { All IsPrintable stack.new.values.items }
+    {
+        let outcome = self.outcome(alloc, line.context(), steps)?;
+        stack.put(outcome)
+    }
+}
