@@ -10,7 +10,7 @@ from checks.crates import listed
 from checks.times import clock
 
 EACH_TAKES = 3_000_000_000  # bytes of memory for a crate that is being proved: about 1.5 GB for each of its jobs, and most have one
-MINUTES = {"sj_cursor": 7, "sj_select": 6, "sj_sql": 6, "sj_bind": 5, "sj_path": 3, "sj_table": 3, "sqljson": 3}  # of processor time, as measured
+MINUTES = {"sj_cursor": 7, "sj_select": 6, "sj_sql": 6, "sj_bind": 5, "sj_path": 3, "sj_table": 3, "sqljson": 3, "sj_file": 2}  # of processor time, as measured
 MINUTES_OF_OTHERS = 1
 SLACK = 3  # minutes by which a short proof may end later and hold up none of the longest chain
 PATIENCE = 5  # how much later, by `nice`, the processors then come to it
