@@ -18,13 +18,13 @@ use Rattle.sj_json.proofs.Distinct.{unique_from, unique_to}
 use Rattle.sj_select_list.specs.Line.{Line}
 use Rattle.sj_select.specs.Seen.{Seen}
 use Rattle.sj_page.specs.Pages.{nothing, followed_by}
+use Rattle.sj_file.specs.declared.job.Keys.{Keys}
+use Rattle.sj_file.specs.declared.job.Keys.TheVariants.{Any, Unique}
+use Rattle.sj_file.specs.Job.{Job}
 use Rattle.sqljson.specs.declared.batch.ReadLine.{ReadLine}
 use Rattle.sqljson.specs.declared.batch.Reading.TheVariants.{Repeated, Json}
 use Rattle.sqljson.specs.declared.batch.Behind.{Behind}
 use Rattle.sqljson.specs.declared.batch.Behind.TheVariants.{Nothing, Perhaps}
-use Rattle.sqljson.specs.declared.job.Keys.{Keys}
-use Rattle.sqljson.specs.declared.job.Keys.TheVariants.{Any, Unique}
-use Rattle.sqljson.specs.Job.{Job}
 use Rattle.sqljson.specs.Output.{line_as, Asked, asked_from, tree_asked, line_asked, lines_asked, prints, cost}
 use Rattle.sqljson.specs.Batch.{reading, read_line, read_lines, ReadFront, ReadOn, line_read, batch_asked, bounds_in}
 use Rattle.sqljson.proofs.Streaming.{lines_asked-append, prints-append, cost-append}

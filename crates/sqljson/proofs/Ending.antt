@@ -2,94 +2,34 @@
 use Rattle.std.proofs.Common.{◌≡◌, inl, inr, ◌↔◌, ℕ, ◌+◌, ◌-◌, ◌<◌, ◌≤◌, List, [], ◌++◌, length, take, drop, Option, None, Some, IsTrue, IfSome, refl, sym, ◌∙◌, ap, subst, arith, length-append}
 use Rattle.std.proofs.lemmas.List.{take-append-drop, append-nil}
 use Rattle.std.specs.Io.KnownBytes.{Consumes, IsAtEnd}
-use Rattle.sj_base.specs.Count.{Rose, raised}
-use Rattle.sj_outside.specs.Outside.{Files, HasFile}
+use Rattle.sj_base.specs.Outside.{HasFile, Rose, raised}
 use Rattle.sj_sql_grammar.specs.declared.refusal.FileKind.{FileKind}
 use Rattle.sj_bound.specs.Bound.{Bound}
 use Rattle.sj_generated.specs.Lines.{generated}
 use Rattle.sj_page.specs.Sides.{OutputSide, Grew}
 use Rattle.sj_page.specs.Pages.{PageSeen, PrintState}
 use Rattle.sj_page.proofs.Writing.{grew_none}
-use Rattle.sqljson.specs.declared.job.Keys.{Keys}
-use Rattle.sqljson.specs.declared.job.Keys.TheVariants.{Any}
-use Rattle.sqljson.specs.declared.status.Status.{Status}
-use Rattle.sqljson.specs.declared.status.Status.TheVariants.{Done, Usage, Refused, ShelfFault, ReadFault, WriteFault, Memory, InputLimit, FileTooLong}
-use Rattle.sqljson.specs.Job.{Job, job}
-use Rattle.sqljson.specs.Input.{InputSide}
-use Rattle.sqljson.specs.Output.{output, whole_output, allowed}
-use Rattle.sqljson.specs.Stream.{IsPrefix, IsWhy, Streamed, IsFrontOf, WroteLeast, WroteWhole, StepsWithin, max_piece, TookMost}
 use Rattle.sj_sql_grammar.specs.Answers.{max_file}
 use Rattle.sj_rows.specs.Lines.{max_input}
-use Rattle.sqljson.specs.File.{ShelfSide, Form, running, checking, generating, name_in, file_named, file_run, file_shown, IsFile, IsTooLong}
-use Rattle.sqljson.specs.Verdict.{Accepts, Refuses}
+use Rattle.sj_file.specs.declared.job.Keys.{Keys}
+use Rattle.sj_file.specs.declared.job.Keys.TheVariants.{Any}
+use Rattle.sj_file.specs.declared.status.Status.{Status}
+use Rattle.sj_file.specs.declared.status.Status.TheVariants.{Done, Usage, Refused, ShelfFault, ReadFault, WriteFault, Memory, InputLimit, FileTooLong}
+use Rattle.sj_file.specs.Job.{Job, job}
+use Rattle.sj_file.specs.Piece.{max_piece}
+use Rattle.sj_file.specs.File.{Form, running, checking, generating, name_in, file_named, file_run, file_shown}
+use Rattle.sj_file.specs.Verdict.{Accepts, Refuses}
+use Rattle.sj_file.specs.Conditions.{IfRuns, IfChecks, IfGenerates, IfNames, IfAccepted, IsOrMemory}
+use Rattle.sj_file.proofs.Verdicts.{one_accepted, not_both}
+use Rattle.sj_file.proofs.ShownFiles.{by_some, no_name, past_limit, long_file, left_of, no_file, accepted_as, accepted_short, refused_as, for_run, for_check, for_generated}
+use Rattle.sj_file.proofs.Unaccepted.{only_memory, this_refusal, too_long_alone, absent_alone}
+use Rattle.sqljson.specs.Input.{InputSide}
+use Rattle.sqljson.specs.Output.{output, whole_output, allowed}
+use Rattle.sqljson.specs.Stream.{IsPrefix, IsWhy, Streamed, IsFrontOf, WroteLeast, WroteWhole, StepsWithin, TookMost}
 use Rattle.sqljson.specs.Summary.{summary_text}
-use Rattle.sqljson.specs.Ran.{Moment, Accepted, RefusedFile, IsUnaccepted, accepted_text, Tells, RanGenerated, Does, Idle, Did, Ran, IsBefore}
-use Rattle.sqljson.specs.Conditions.{IfRuns, IfChecks, IfGenerates, IfNames, IfAccepted, IsOrMemory}
+use Rattle.sqljson.specs.Ran.{Moment, accepted_text, Tells, RanGenerated, Does, Idle, Did, Ran, IsBefore}
 use Rattle.sqljson.proofs.Steps.{raised_none}
 use Rattle.sqljson.proofs.Streaming.{whole_output-append, output-end, prefix_trans, consumes_none, told, streamed_front}
-use Rattle.sqljson.proofs.Verdicts.{one_accepted, not_both, one_refusal}
-
-by_some : {A : Type 0} (x : Option A) (P : A → Type 0) → ((y : A) → x ≡ Some y → P y) → IfSome x P
-by_some None P h = tt
-by_some (Some y) P h = h y refl
-
--- ---- the file
-
--- no file is shown where none is named
-no_name : (files : Option Files) (file : List ℕ) → file_shown files None ≡ Some file → ⊥
-no_name None file shown = absurd (cc shown)
-no_name (Some files) file shown = absurd (cc shown)
-
-same_file : (files : Option Files) (name file file' : List ℕ) → file_shown files (Some name) ≡ Some file → IsFile files name file' → file' ≡ file
-same_file None name file file' shown is = absurd (cc shown)
-same_file (Some files) name file file' shown is = cc (shown, is)
-
--- Of a file that is too long no more was read than the first byte past the limit.
-abbrev pub IsPast : List ℕ → Option (List ℕ) → Type 0
-IsPast file left = (front : List ℕ) × (length front ≡ max_file + 1) × Consumes (Some file) left front
-
-past_limit : (files : Option Files) (name file : List ℕ) (left : Option (List ℕ)) → file_shown files (Some name) ≡ Some file → IsTooLong files name left → IsPast file left
-past_limit None name file left shown long = absurd (cc shown)
-past_limit (Some files) name file left shown long =
-    let same : long.0 ≡ file = cc (shown, long.1) in
-    subst (λ (f : List ℕ). IsPast f left) same (long.2, long.3, long.4)
-
-longer : (file : List ℕ) (left : Option (List ℕ)) → IsPast file left → max_file < length file
-longer file None past = absurd past.2
-longer file (Some rest) past = omega (arith, ap length past.2, length-append past.0 rest, past.1)
-
-long_file : (files : Option Files) (name file : List ℕ) (left : Option (List ℕ)) → file_shown files (Some name) ≡ Some file → IsTooLong files name left → max_file < length file
-long_file files name file left shown long = longer file left (past_limit files name file left shown long)
-
--- and the others are left
-left_of : (file : List ℕ) (left : Option (List ℕ)) (rest : List ℕ) → left ≡ Some rest → IsPast file left → length file ≡ max_file + 1 + length rest
-left_of file None rest is past = absurd past.2
-left_of file (Some all) rest is past =
-    let same : all ≡ rest = cc is in
-    omega (arith, ap length past.2, length-append past.0 all, past.1, ap length same)
-
-accepted_as : (name : List ℕ) (s s' : ShelfSide) (K : List Bound) (file : List ℕ) → file_shown s.files (Some name) ≡ Some file → Accepted name s s' K → Accepts file K
-accepted_as name s s' K file shown a = subst (λ (f : List ℕ). Accepts f K) (same_file s.files name file a.file shown a.holds.is) a.accepted
-
-accepted_short : (name : List ℕ) (s s' : ShelfSide) (K : List Bound) (file : List ℕ) → file_shown s.files (Some name) ≡ Some file → Accepted name s s' K → length file ≤ max_file
-accepted_short name s s' K file shown a = subst (λ (f : List ℕ). length f ≤ max_file) (same_file s.files name file a.file shown a.holds.is) a.holds.short
-
-refused_as : (name : List ℕ) (s s' : ShelfSide) (k : ℕ) (kind : FileKind) (file : List ℕ) → file_shown s.files (Some name) ≡ Some file → RefusedFile name s s' k kind → (length file ≤ max_file) × Refuses file k kind
-refused_as name s s' k kind file shown r =
-    subst (λ (f : List ℕ). (length f ≤ max_file) × Refuses f k kind) (same_file s.files name file r.file shown r.holds.is) (r.holds.short, r.refused)
-
--- where the file is accepted and the shelf did not fail, only being out of memory is a reason
-only_memory : (name : List ℕ) (s s' : ShelfSide) (status : Status) (file : List ℕ) (K : List Bound) → file_shown s.files (Some name) ≡ Some file → Accepts file K → length file ≤ max_file → (Rose s.faults s'.faults → ⊥)
-    → IsUnaccepted name s s' status → status ≡ Memory
-only_memory name s s' ShelfFault file K shown accepts short shelf why = absurd (shelf why.0)
-only_memory name s s' FileTooLong file K shown accepts short shelf why = absurd (omega (arith, short, long_file s.files name file s'.left shown why.0))
-only_memory name s s' (Refused k kind) file K shown accepts short shelf why = absurd (not_both file K k kind accepts (refused_as name s s' k kind file shown why).1)
-only_memory name s s' Memory file K shown accepts short shelf why = refl
-only_memory name s s' Done file K shown accepts short shelf why = absurd why
-only_memory name s s' Usage file K shown accepts short shelf why = absurd why
-only_memory name s s' ReadFault file K shown accepts short shelf why = absurd why
-only_memory name s s' WriteFault file K shown accepts short shelf why = absurd why
-only_memory name s s' InputLimit file K shown accepts short shelf why = absurd why
 
 -- ---- what was done
 
@@ -129,27 +69,6 @@ not_before (checking name) K i i' o o' status d is = tells_not_before (accepted_
 not_before (generating number name) K i i' o o' status d is = tells_not_before (summary_text number K) o o' status d.1 is
 
 -- ---- by the form
-
-for_run : (f : Option Form) (files : Option Files) (P : Keys → List ℕ → Type 0) → ((keys : Keys) (name file : List ℕ) → f ≡ Some (running keys name) → file_shown files (Some name) ≡ Some file → P keys file)
-    → IfRuns f files P
-for_run None files P h = by_some (file_shown files None) _ (λ file shown. absurd (no_name files file shown))
-for_run (Some (running keys name)) files P h = by_some (file_shown files (Some name)) _ (λ file shown. h keys name file refl shown)
-for_run (Some (checking name)) files P h = by_some (file_shown files None) _ (λ file shown. absurd (no_name files file shown))
-for_run (Some (generating number name)) files P h = by_some (file_shown files None) _ (λ file shown. absurd (no_name files file shown))
-
-for_check : (f : Option Form) (files : Option Files) (P : List ℕ → Type 0) → ((name file : List ℕ) → f ≡ Some (checking name) → file_shown files (Some name) ≡ Some file → P file)
-    → IfChecks f files P
-for_check None files P h = by_some (file_shown files None) _ (λ file shown. absurd (no_name files file shown))
-for_check (Some (running keys name)) files P h = by_some (file_shown files None) _ (λ file shown. absurd (no_name files file shown))
-for_check (Some (checking name)) files P h = by_some (file_shown files (Some name)) _ (λ file shown. h name file refl shown)
-for_check (Some (generating number name)) files P h = by_some (file_shown files None) _ (λ file shown. absurd (no_name files file shown))
-
-for_generated : (f : Option Form) (files : Option Files) (P : ℕ → List ℕ → Type 0) → ((number : ℕ) (name file : List ℕ) → f ≡ Some (generating number name) → file_shown files (Some name) ≡ Some file → P number file)
-    → IfGenerates f files P
-for_generated None files P h = by_some (file_shown files None) _ (λ file shown. absurd (no_name files file shown))
-for_generated (Some (running keys name)) files P h = by_some (file_shown files None) _ (λ file shown. absurd (no_name files file shown))
-for_generated (Some (checking name)) files P h = by_some (file_shown files None) _ (λ file shown. absurd (no_name files file shown))
-for_generated (Some (generating number name)) files P h = by_some (file_shown files (Some name)) _ (λ file shown. h number name file refl shown)
 
 -- either no file was accepted, or this was done with its statements
 either : (f : Form) (b a : Moment) (status : Status) (file : List ℕ) (K : List Bound) (Q : Type 0) → file_shown b.shelf.files (Some (name_in f)) ≡ Some file → Accepts file K → Ran (Some f) b a status
@@ -406,21 +325,6 @@ ran_generated_within f b a status r =
 
 -- ---- refusals
 
-same_refusal : (k n : ℕ) (kind other : FileKind) → ◌≡◌ {A = ℕ × FileKind} (k, kind) (n, other) → Refused k kind ≡ Refused n other
-same_refusal k n kind other is = ap (λ (e : ℕ × FileKind). Refused e.0 e.1) is
-
-this_refusal : (name : List ℕ) (s s' : ShelfSide) (status : Status) (file : List ℕ) (n : ℕ) (other : FileKind) → file_shown s.files (Some name) ≡ Some file → length file ≤ max_file → Refuses file n other → (Rose s.faults s'.faults → ⊥)
-    → IsUnaccepted name s s' status → IsOrMemory status (Refused n other)
-this_refusal name s s' ShelfFault file n other shown short bad shelf why = absurd (shelf why.0)
-this_refusal name s s' FileTooLong file n other shown short bad shelf why = absurd (omega (arith, short, long_file s.files name file s'.left shown why.0))
-this_refusal name s s' (Refused k kind) file n other shown short bad shelf why = inl (same_refusal k n kind other (one_refusal file k n kind other (refused_as name s s' k kind file shown why).1 bad))
-this_refusal name s s' Memory file n other shown short bad shelf why = inr refl
-this_refusal name s s' Done file n other shown short bad shelf why = absurd why
-this_refusal name s s' Usage file n other shown short bad shelf why = absurd why
-this_refusal name s s' ReadFault file n other shown short bad shelf why = absurd why
-this_refusal name s s' WriteFault file n other shown short bad shelf why = absurd why
-this_refusal name s s' InputLimit file n other shown short bad shelf why = absurd why
-
 pub ran_refuses : (f : Option Form) (b a : Moment) (status : Status) → Ran f b a status → (Rose b.shelf.faults a.shelf.faults → ⊥)
     → IfNames f b.shelf.files (λ file. length file ≤ max_file → (n : ℕ) (other : FileKind) → Refuses file n other → IsOrMemory status (Refused n other))
 ran_refuses None b a status r shelf = by_some (file_shown b.shelf.files None) _ (λ file shown. absurd (no_name b.shelf.files file shown))
@@ -460,17 +364,6 @@ ran_too_long_reads (Some f) b a status r is = by_length (subst (Ran (Some f) b a
     by_length (inl idle) = by_some (file_shown b.shelf.files (Some (name_in f))) _ (λ file shown. by_some a.shelf.left _ (λ rest left. left_of file a.shelf.left rest left (past_limit b.shelf.files (name_in f) file a.shelf.left shown idle.why.0)))
     by_length (inr d) = absurd (not_before f d.statements b.input a.input b.out a.out FileTooLong d.does tt)
 
-too_long_alone : (name : List ℕ) (s s' : ShelfSide) (status : Status) (file : List ℕ) → file_shown s.files (Some name) ≡ Some file → max_file < length file → (Rose s.faults s'.faults → ⊥) → IsUnaccepted name s s' status → IsOrMemory status FileTooLong
-too_long_alone name s s' ShelfFault file shown long shelf why = absurd (shelf why.0)
-too_long_alone name s s' FileTooLong file shown long shelf why = inl refl
-too_long_alone name s s' (Refused k kind) file shown long shelf why = absurd (omega (arith, long, (refused_as name s s' k kind file shown why).0))
-too_long_alone name s s' Memory file shown long shelf why = inr refl
-too_long_alone name s s' Done file shown long shelf why = absurd why
-too_long_alone name s s' Usage file shown long shelf why = absurd why
-too_long_alone name s s' ReadFault file shown long shelf why = absurd why
-too_long_alone name s s' WriteFault file shown long shelf why = absurd why
-too_long_alone name s s' InputLimit file shown long shelf why = absurd why
-
 pub ran_finds_too_long : (f : Option Form) (b a : Moment) (status : Status) → Ran f b a status → (Rose b.shelf.faults a.shelf.faults → ⊥)
     → IfNames f b.shelf.files (λ file. max_file < length file → IsOrMemory status FileTooLong)
 ran_finds_too_long None b a status r shelf = by_some (file_shown b.shelf.files None) _ (λ file shown. absurd (no_name b.shelf.files file shown))
@@ -478,28 +371,6 @@ ran_finds_too_long (Some f) b a status (inl idle) shelf =
     by_some (file_shown b.shelf.files (Some (name_in f))) _ (λ file shown long. too_long_alone (name_in f) b.shelf a.shelf status file shown long shelf idle.why)
 ran_finds_too_long (Some f) b a status (inr d) shelf =
     by_some (file_shown b.shelf.files (Some (name_in f))) _ (λ file shown long. absurd (omega (arith, long, accepted_short (name_in f) b.shelf a.shelf d.statements file shown d.accepted)))
-
-no_file : (files : Option Files) (fs : Files) (name file : List ℕ) → files ≡ Some fs → fs name ≡ None → IsFile files name file → ⊥
-no_file None fs name file is none here = absurd (cc is)
-no_file (Some gs) fs name file is none here =
-    let same : gs ≡ fs = cc is in
-    let told : gs name ≡ fs name = ap (λ (x : Files). x name) same in
-    absurd (cc (told, none, here))
-
-no_long_file : (files : Option Files) (fs : Files) (name : List ℕ) (left : Option (List ℕ)) → files ≡ Some fs → fs name ≡ None → IsTooLong files name left → ⊥
-no_long_file None fs name left is none long = absurd (cc is)
-no_long_file (Some gs) fs name left is none long = no_file (Some gs) fs name long.0 is none long.1
-
-absent_alone : (name : List ℕ) (s s' : ShelfSide) (status : Status) (fs : Files) → s.files ≡ Some fs → fs name ≡ None → IsUnaccepted name s s' status → IsOrMemory status ShelfFault
-absent_alone name s s' ShelfFault fs is none why = inl refl
-absent_alone name s s' FileTooLong fs is none why = absurd (no_long_file s.files fs name s'.left is none why.0)
-absent_alone name s s' (Refused k kind) fs is none why = absurd (no_file s.files fs name why.file is none why.holds.is)
-absent_alone name s s' Memory fs is none why = inr refl
-absent_alone name s s' Done fs is none why = absurd why
-absent_alone name s s' Usage fs is none why = absurd why
-absent_alone name s s' ReadFault fs is none why = absurd why
-absent_alone name s s' WriteFault fs is none why = absurd why
-absent_alone name s s' InputLimit fs is none why = absurd why
 
 pub ran_absent : (f : Option Form) (b a : Moment) (status : Status) → Ran f b a status
     → IfSome b.shelf.files (λ files. IfSome (file_named f) (λ name. files name ≡ None → IsOrMemory status ShelfFault))

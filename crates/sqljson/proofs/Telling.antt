@@ -10,16 +10,17 @@ use Rattle.sj_generated.specs.Lines.{most_lines, generated}
 use Rattle.sj_generated.proofs.Lengths.{generated_short}
 use Rattle.sj_page.specs.Sides.{OutputSide, Grew, Wrote, joined}
 use Rattle.sj_page.specs.Pages.{PageSeen}
-use Rattle.sqljson.specs.declared.job.Keys.TheVariants.{Any}
-use Rattle.sqljson.specs.declared.status.Status.{Status}
-use Rattle.sqljson.specs.declared.status.Status.TheVariants.{Done, Memory, WriteFault}
-use Rattle.sqljson.specs.Job.{job}
+use Rattle.sj_file.specs.declared.job.Keys.TheVariants.{Any}
+use Rattle.sj_file.specs.declared.status.Status.{Status}
+use Rattle.sj_file.specs.declared.status.Status.TheVariants.{Done, Memory, WriteFault}
+use Rattle.sj_file.specs.Job.{job}
+use Rattle.sj_file.specs.File.{ShelfSide, checking, generating}
+use Rattle.sj_file.specs.Accepted.{Accepted}
 use Rattle.sqljson.specs.Input.{InputSide}
 use Rattle.sqljson.specs.Output.{asked, rows_in, errors_in, output, allowed}
 use Rattle.sqljson.specs.Stream.{Streamed}
 use Rattle.sqljson.specs.Summary.{counts_text, summary_text}
-use Rattle.sqljson.specs.File.{ShelfSide, checking, generating}
-use Rattle.sqljson.specs.Ran.{moment, Accepted, accepted_text, Tells, Ran}
+use Rattle.sqljson.specs.Ran.{moment, accepted_text, Tells, Ran}
 use Rattle.sqljson.proofs.Steps.{counted_is}
 use Rattle.sqljson.proofs.Streaming.{told}
 use Rattle.sqljson.proofs.Ending.{all_taken, streamed_complete}

@@ -10,13 +10,13 @@ use Rattle.sj_bound.specs.View.{bound_of}
 use Rattle.sj_json.specs.UniqueKeys.{has_unique_keys}
 use Rattle.sj_select_list.specs.Line.{Line, not_json, repeated, json}
 use Rattle.sj_select.specs.Seen.{Seen}
+use Rattle.sj_file.specs.declared.job.Keys.{Keys}
+use Rattle.sj_file.specs.declared.job.Keys.TheVariants.{Any, Unique}
 use Rattle.sqljson.specs.declared.batch.ReadLine.{ReadLine}
 use Rattle.sqljson.specs.declared.batch.Reading.{Reading}
 use Rattle.sqljson.specs.declared.batch.Reading.TheVariants as r
 use Rattle.sqljson.specs.declared.batch.Behind.{Behind}
 use Rattle.sqljson.specs.declared.batch.Behind.TheVariants.{Nothing, Perhaps}
-use Rattle.sqljson.specs.declared.job.Keys.{Keys}
-use Rattle.sqljson.specs.declared.job.Keys.TheVariants.{Any, Unique}
 use Rattle.sqljson.specs.Output.{Asked, asked_from}
 
 -- a line by its tree, as it is kept

@@ -4,8 +4,8 @@ use Rattle.std.specs.Io.Iter.{u64_saturate}
 use Rattle.sj_bound.specs.Bound.{Bound}
 use Rattle.sj_generated.specs.Lines.{generated}
 use Rattle.sj_page.specs.Sides.{joined}
-use Rattle.sqljson.specs.declared.job.Keys.TheVariants.{Any}
-use Rattle.sqljson.specs.Job.{job}
+use Rattle.sj_file.specs.declared.job.Keys.TheVariants.{Any}
+use Rattle.sj_file.specs.Job.{job}
 use Rattle.sqljson.specs.Output.{asked, rows_in, errors_in, output}
 
 abbrev pub counts_text : ℕ → ℕ → ℕ → ℕ → List ℕ

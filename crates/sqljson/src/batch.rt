@@ -4,9 +4,9 @@ ghost use Rattle.sj_rows.specs.Line.{line_seen};
 ghost use Rattle.sj_json.specs.Document.{document};
 ghost use Rattle.sqljson.specs.Batch.{reading, read_line, ReadOn};
 
-use crate::job::Keys;
 use sj_base::Memory;
 use sj_doc::Doc;
+use sj_file::Keys;
 use sj_read::{ReadRefusal, read_over};
 use sj_rows::{Line, Lines, is_blank};
 use std::alloc::Global;

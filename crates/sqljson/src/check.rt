@@ -1,14 +1,13 @@
 // The check of a file.
 ghost use Rattle.std.specs.Prelude.{◌≡◌, ◌∷◌, [], Some, codes, decimal};
 ghost use Rattle.sj_page.specs.Sides.{Wrote, joined};
-ghost use Rattle.sqljson.specs.File.{checking, shelf_at};
+ghost use Rattle.sj_file.specs.File.{checking, shelf_at};
 ghost use Rattle.sqljson.specs.Input.{InputSide};
 ghost use Rattle.sqljson.specs.Ran.{IsBefore, Ran, moment, out_at};
 
-use crate::accept::accept_count;
-use crate::status::Status;
 use itoa::Buffer;
-use sj_outside::{Failed, Shelf, Sink};
+use sj_base::{Failed, Shelf, Sink};
+use sj_file::{Status, accept_count};
 use sj_page::write_parts;
 use std::alloc::Global;
 

@@ -2,16 +2,14 @@
 ghost use Rattle.std.specs.Prelude.{◌≡◌, ◌≤◌, ℕ, List, Option, Some};
 ghost use Rattle.sj_generated.specs.Lines.{most_lines};
 ghost use Rattle.sj_page.specs.Sides.{Wrote};
-ghost use Rattle.sqljson.specs.File.{generating, shelf_at};
+ghost use Rattle.sj_file.specs.File.{generating, shelf_at};
 ghost use Rattle.sqljson.specs.Summary.{counts_text};
 ghost use Rattle.sqljson.specs.Ran.{IsBefore, Ran, moment, out_at};
 
-use crate::accept::accept;
-use crate::job::{Job, Keys};
-use crate::status::Status;
 use crate::stream::stream;
 use itoa::Buffer;
-use sj_base::{Ledger, Steps};
+use sj_base::{CountSink, Failed, Ledger, Shelf, Sink, Steps};
+use sj_file::{Job, Keys, Status, accept};
 use sj_generated::GeneratedSource;
 use sj_outside::{CountSink, Failed, Shelf, Sink};
 use sj_page::{Counts, Page, write_parts};

@@ -4,9 +4,8 @@ mod generated;
 mod steps;
 
 use crate::run::run;
-use crate::status::Status;
-use sj_base::{Steps, Tally, Text};
-use sj_outside::{MemShelf, MemSink, MemSource};
+use sj_base::{MemShelf, MemSink, MemSource, Steps, Tally, Text};
+use sj_file::Status;
 use std::alloc::Global;
 use std::process::Abort;
 use std::test::Fail;

@@ -3,7 +3,7 @@ use Rattle.sj_base.specs.Count.{raised}
 use Rattle.sj_bound.specs.Bound.{Bound}
 use Rattle.sj_page.specs.Pages.{print_state, Printed, Stopped}
 use Rattle.sj_page.proofs.Printing.{printing_starts, printing_more, printing_stops}
-use Rattle.sqljson.specs.Job.{job_of}
+use Rattle.sj_file.specs.Job.{job_of}
 use Rattle.sqljson.specs.Batch.{bounds_in, line_read}
 use Rattle.sqljson.specs.Output.{asked_from, prints, cost}
 use Rattle.sqljson.proofs.Batches.{batch_first, batch_first_cost, rows_kept}

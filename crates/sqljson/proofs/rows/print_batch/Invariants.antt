@@ -2,9 +2,9 @@ use Rattle.std.proofs.Common.{◌≡◌, ◌≤◌, drop}
 use Rattle.sj_base.specs.Count.{raised}
 use Rattle.sj_page.specs.Pages.{print_state}
 use Rattle.sj_page.proofs.Printing.{Printing}
+use Rattle.sj_file.specs.Job.{job_of}
 use Rattle.sqljson.specs.Output.{prints, cost}
 use Rattle.sqljson.specs.Batch.{batch_asked, bounds_in}
-use Rattle.sqljson.specs.Job.{job_of}
 use Rattle.sqljson.proofs.rows.print_batch.Given as goal
 
 -- what was asked of the lines so far and of those that are left is all, and so with what it may take

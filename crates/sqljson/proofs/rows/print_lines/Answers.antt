@@ -1,8 +1,8 @@
 use Rattle.std.proofs.Common.{◌∙◌, refl, subst, arith}
 use Rattle.sj_page.proofs.Printing.{printing_starts, printing_more, printing_done, printing_stops, printing_memory}
+use Rattle.sj_file.specs.Job.{job_of}
 use Rattle.sqljson.specs.declared.batch.Behind.{Behind}
 use Rattle.sqljson.specs.Batch.{ReadOn}
-use Rattle.sqljson.specs.Job.{job_of}
 use Rattle.sqljson.proofs.Batches.{waiting_prints, waiting_cost, none_waits, drained_more}
 use Rattle.sqljson.proofs.Turns.{cost_step, cost_stop}
 use Rattle.sqljson.proofs.rows.print_lines.Goals as goal

@@ -1,0 +1,37 @@
+-- What is known of the file that the words name, where its statements are accepted and where they are not.
+use Rattle.std.specs.Prelude.{◌≡◌, ℕ, List, length, IsTrue}
+use Rattle.sj_base.specs.Outside.{HasFile, Rose}
+use Rattle.sj_sql_grammar.specs.declared.refusal.FileKind.{FileKind}
+use Rattle.sj_bound.specs.Bound.{Bound}
+use Rattle.sj_file.specs.declared.status.Status.{Status}
+use Rattle.sj_file.specs.declared.status.Status.TheVariants.{Done, Usage, Refused, ShelfFault, ReadFault, WriteFault, Memory, InputLimit, FileTooLong}
+use Rattle.sj_file.specs.File.{ShelfSide, IsTooLong, Holds}
+use Rattle.sj_file.specs.Verdict.{Accepts, Refuses}
+
+-- this file was read whole, and its statements are accepted
+pub record Accepted (name : List ℕ) (old new : ShelfSide) (statements : List Bound) : Type 0 where
+  pub file : List ℕ
+  pub holds : Holds name old new file
+  pub accepted : Accepts file statements
+
+-- this file was read whole, and so many statements are accepted
+abbrev pub AcceptedSoMany : List ℕ → ShelfSide → ShelfSide → ℕ → Type 0
+AcceptedSoMany name old new count = (statements : List Bound) × Accepted name old new statements × (count ≡ length statements)
+
+-- this file was read whole, and statement k is refused
+pub record RefusedFile (name : List ℕ) (old new : ShelfSide) (k : ℕ) (kind : FileKind) : Type 0 where
+  pub file : List ℕ
+  pub holds : Holds name old new file
+  pub refused : Refuses file k kind
+
+-- why no file was accepted
+abbrev pub IsUnaccepted : List ℕ → ShelfSide → ShelfSide → Status → Type 0
+IsUnaccepted name old new ShelfFault = Rose old.faults new.faults × (IsTrue old.quiet → HasFile old.files name → ⊥)
+IsUnaccepted name old new FileTooLong = IsTooLong old.files name new.left × (new.faults ≡ old.faults)
+IsUnaccepted name old new (Refused k kind) = RefusedFile name old new k kind
+IsUnaccepted name old new Memory = new.faults ≡ old.faults
+IsUnaccepted name old new Done = ⊥
+IsUnaccepted name old new Usage = ⊥
+IsUnaccepted name old new ReadFault = ⊥
+IsUnaccepted name old new WriteFault = ⊥
+IsUnaccepted name old new InputLimit = ⊥

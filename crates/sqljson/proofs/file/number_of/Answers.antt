@@ -1,6 +1,0 @@
-use Rattle.std.proofs.Common.{arith}
-use Rattle.sqljson.proofs.Digits.{small_enough}
-use Rattle.sqljson.proofs.file.number_of.Goals as goal
-
-pub returns-clause-small : goal.returns-clause-small
-returns-clause-small c = small_enough c.loop-digit.digit-index c.loop-digit.number c.loop-digit.invariant.counting.small (omega arith)
