@@ -10,8 +10,12 @@ from checks.crates import listed
 from checks.times import clock
 
 EACH_TAKES = 3_000_000_000  # bytes of memory for a crate that is being proved: about 1.5 GB for each of its jobs, and most have one
-MINUTES = {"sj_cursor": 7, "sj_select": 6, "sj_sql": 6, "sj_bind": 5, "sj_path": 3, "sj_table": 3, "sqljson": 3, "sj_file": 2}  # of processor time, as measured
-MINUTES_OF_OTHERS = 1
+MINUTES = {  # of processor time, as measured
+    "sj_cursor": 9, "sj_sql": 8.5, "sj_bind": 6.5, "sj_select_list": 4.5, "sj_path": 4.5, "sj_table": 4, "sj_select": 3.5, "sqljson": 3, "sj_file": 2.5,
+    "sj_doc": 2.3, "sj_path_token": 2.3, "sj_read": 2.3, "sj_build": 2, "sj_sql_token": 1.7, "sj_decimal": 1.7, "sj_path_tree": 1.5, "sj_base": 0.8, "sj_path_grammar": 0.5, "sj_json": 0.2,
+}
+MINUTES_OF_OTHERS = 1.3
+LONG = 3  # minutes from which a proof never waits
 SLACK = 3  # minutes by which a short proof may end later and hold up none of the longest chain
 PATIENCE = 5  # how much later, by `nice`, the processors then come to it
 PAUSE = 0.2  # seconds

@@ -1,7 +1,7 @@
 -- The file that the words name, where the shelf shows it.
 use Rattle.std.proofs.Common.{◌≡◌, ℕ, ◌+◌, ◌<◌, ◌≤◌, List, length, Option, None, Some, IfSome, refl, ap, subst, arith, length-append}
 use Rattle.std.specs.Io.KnownBytes.{Consumes}
-use Rattle.sj_base.specs.Outside.{Files}
+use Rattle.sj_outside.specs.Outside.{Files}
 use Rattle.sj_sql_grammar.specs.declared.refusal.FileKind.{FileKind}
 use Rattle.sj_sql_grammar.specs.Answers.{max_file}
 use Rattle.sj_bound.specs.Bound.{Bound}

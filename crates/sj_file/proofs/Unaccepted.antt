@@ -1,6 +1,7 @@
 -- How a command ends that accepts no file.
 use Rattle.std.proofs.Common.{◌≡◌, inl, inr, ℕ, ◌<◌, ◌≤◌, List, length, None, Some, refl, ap, arith}
-use Rattle.sj_base.specs.Outside.{Files, Rose}
+use Rattle.sj_base.specs.Count.{Rose}
+use Rattle.sj_outside.specs.Outside.{Files}
 use Rattle.sj_sql_grammar.specs.declared.refusal.FileKind.{FileKind}
 use Rattle.sj_sql_grammar.specs.Answers.{max_file}
 use Rattle.sj_bound.specs.Bound.{Bound}

@@ -1,6 +1,7 @@
 -- What is known of the file that the words name, where its statements are accepted and where they are not.
 use Rattle.std.specs.Prelude.{◌≡◌, ℕ, List, length, IsTrue}
-use Rattle.sj_base.specs.Outside.{HasFile, Rose}
+use Rattle.sj_base.specs.Count.{Rose}
+use Rattle.sj_outside.specs.Outside.{HasFile}
 use Rattle.sj_sql_grammar.specs.declared.refusal.FileKind.{FileKind}
 use Rattle.sj_bound.specs.Bound.{Bound}
 use Rattle.sj_file.specs.declared.status.Status.{Status}

@@ -16,10 +16,7 @@ use std::alloc::Global;
 ///
 /// # Errors
 /// [`Memory`] where memory runs out.
-pub fn operations_of<'d>(
-    alloc: Global,
-    bound: &'d Bound,
-) -> Result<Vec<Operation<'d>>, Memory>
+pub fn operations_of<'d>(alloc: Global, bound: &'d Bound) -> Result<Vec<Operation<'d>>, Memory>
     ensures { IfOk result (λ operations. steps_of operations.items ≡ steps_to_all (values_in (bound_of bound.now).items)) }
 {
     operations_in(alloc, bound.items.as_slice())

@@ -2,7 +2,8 @@
 use Rattle.std.proofs.Common.{◌≡◌, inl, inr, ◌↔◌, ℕ, ◌+◌, ◌-◌, ◌<◌, ◌≤◌, List, [], ◌++◌, length, take, drop, Option, None, Some, IsTrue, IfSome, refl, sym, ◌∙◌, ap, subst, arith, length-append}
 use Rattle.std.proofs.lemmas.List.{take-append-drop, append-nil}
 use Rattle.std.specs.Io.KnownBytes.{Consumes, IsAtEnd}
-use Rattle.sj_base.specs.Outside.{HasFile, Rose, raised}
+use Rattle.sj_base.specs.Count.{Rose, raised}
+use Rattle.sj_outside.specs.Outside.{HasFile}
 use Rattle.sj_sql_grammar.specs.declared.refusal.FileKind.{FileKind}
 use Rattle.sj_bound.specs.Bound.{Bound}
 use Rattle.sj_generated.specs.Lines.{generated}

@@ -6,8 +6,8 @@ ghost use Rattle.sqljson.specs.Input.{InputSide};
 ghost use Rattle.sqljson.specs.Ran.{IsBefore, Ran, moment, out_at};
 
 use itoa::Buffer;
-use sj_base::{Failed, Shelf, Sink};
 use sj_file::{Status, accept_count};
+use sj_outside::{Failed, Shelf, Sink};
 use sj_page::write_parts;
 use std::alloc::Global;
 

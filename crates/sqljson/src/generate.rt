@@ -8,10 +8,10 @@ ghost use Rattle.sqljson.specs.Ran.{IsBefore, Ran, moment, out_at};
 
 use crate::stream::stream;
 use itoa::Buffer;
-use sj_base::{CountSink, Failed, Ledger, Shelf, Sink, Steps};
+use sj_base::{Ledger, Steps};
 use sj_file::{Job, Keys, Status, accept};
 use sj_generated::GeneratedSource;
-use sj_outside::{CountSink, Failed, Shelf, Sink};
+use sj_outside::{CountSink, CountSink, Failed, Failed, Shelf, Shelf, Sink, Sink};
 use sj_page::{Counts, Page, write_parts};
 use std::alloc::Global;
 

@@ -4,8 +4,9 @@ mod generated;
 mod steps;
 
 use crate::run::run;
-use sj_base::{MemShelf, MemSink, MemSource, Steps, Tally, Text};
+use sj_base::{Steps, Tally, Text};
 use sj_file::Status;
+use sj_outside::{MemShelf, MemSink, MemSource};
 use std::alloc::Global;
 use std::process::Abort;
 use std::test::Fail;
