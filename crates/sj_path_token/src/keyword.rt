@@ -34,3 +34,35 @@ pub enum Keyword {
     /// Any other word.
     Other,
 }
+
+/// Each keyword with the word that spells it.
+pub(crate) const KEYWORDS: [(&[u8], Keyword); 28] = [
+    (b"lax", Keyword::Lax),
+    (b"strict", Keyword::Strict),
+    (b"last", Keyword::Last),
+    (b"true", Keyword::True),
+    (b"false", Keyword::False),
+    (b"null", Keyword::Null),
+    (b"to", Keyword::To),
+    (b"exists", Keyword::Exists),
+    (b"is", Keyword::Is),
+    (b"unknown", Keyword::Unknown),
+    (b"starts", Keyword::Starts),
+    (b"with", Keyword::With),
+    (b"like_regex", Keyword::LikeRegex),
+    (b"flag", Keyword::Flag),
+    (b"type", Keyword::Type),
+    (b"size", Keyword::Size),
+    (b"ceiling", Keyword::Ceiling),
+    (b"floor", Keyword::Floor),
+    (b"abs", Keyword::Abs),
+    (b"keyvalue", Keyword::KeyValue),
+    (b"bigint", Keyword::Bigint),
+    (b"boolean", Keyword::Boolean),
+    (b"decimal", Keyword::Decimal),
+    (b"integer", Keyword::Integer),
+    (b"number", Keyword::Number),
+    (b"string", Keyword::String),
+    (b"double", Keyword::Double),
+    (b"datetime", Keyword::Datetime),
+];

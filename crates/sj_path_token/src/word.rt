@@ -1,51 +1,37 @@
 //! Words and variables.
 
-ghost use Rattle.std.specs.Prelude.{◌≡◌};
+ghost use Rattle.std.specs.Prelude.{◌≡◌, map};
+ghost use Rattle.std.specs.Str.{bytes_eq};
 ghost use Rattle.sj_base.specs.Gives.{Gives};
+ghost use Rattle.sj_base.specs.Words.{first_like};
 ghost use Rattle.sj_path_token.specs.Words.{keyword_of};
 ghost use Rattle.sj_path_token.specs.Reading as reading;
 
 use crate::bytes::{next_is_letter, word_len};
-use crate::keyword::Keyword;
+use crate::keyword::{KEYWORDS, Keyword};
 use crate::token::Token;
 use sj_base::{ParseRefusal, Text};
 use std::alloc::Global;
 
+/// The part that a word plays by a table of keywords: that of the first row that has it.
+fn keyword_in(mut table: &[(&[u8], Keyword)], word: &[u8]) -> Keyword
+    ensures { result ≡ first_like bytes_eq Keyword.Other (map (λ row. (row.0.now, row.1)) table.entry.now) word.now }
+{
+    while let [row, rest @ ..] = table {
+        if word == row.0 {
+            return row.1;
+        }
+        table = rest;
+    }
+    Keyword::Other
+}
+
 /// The part that a word plays.
-fn keyword(word: &str) -> Keyword
+#[tactic(auto, unfolding(crate::specs::Words::keyword_of))]
+fn keyword(word: &[u8]) -> Keyword
     ensures { result ≡ keyword_of word.now }
 {
-    match word {
-        "lax" => Keyword::Lax,
-        "strict" => Keyword::Strict,
-        "last" => Keyword::Last,
-        "true" => Keyword::True,
-        "false" => Keyword::False,
-        "null" => Keyword::Null,
-        "to" => Keyword::To,
-        "exists" => Keyword::Exists,
-        "is" => Keyword::Is,
-        "unknown" => Keyword::Unknown,
-        "starts" => Keyword::Starts,
-        "with" => Keyword::With,
-        "like_regex" => Keyword::LikeRegex,
-        "flag" => Keyword::Flag,
-        "type" => Keyword::Type,
-        "size" => Keyword::Size,
-        "ceiling" => Keyword::Ceiling,
-        "floor" => Keyword::Floor,
-        "abs" => Keyword::Abs,
-        "keyvalue" => Keyword::KeyValue,
-        "bigint" => Keyword::Bigint,
-        "boolean" => Keyword::Boolean,
-        "decimal" => Keyword::Decimal,
-        "integer" => Keyword::Integer,
-        "number" => Keyword::Number,
-        "string" => Keyword::String,
-        "double" => Keyword::Double,
-        "datetime" => Keyword::Datetime,
-        _ => Keyword::Other,
-    }
+    keyword_in(&KEYWORDS, word)
 }
 
 /// The word at the front.
@@ -56,7 +42,7 @@ pub(crate) fn word(alloc: Global, text: &str) -> Result<(Token, usize), ParseRef
     let len = word_len(text.as_bytes());
     let word = &text[..len];
     Ok((
-        Token::Word(keyword(word), Text::from_str(alloc, word)?),
+        Token::Word(keyword(word.as_bytes()), Text::from_str(alloc, word)?),
         len,
     ))
 }
