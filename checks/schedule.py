@@ -11,13 +11,14 @@ from checks.times import clock
 
 EACH_TAKES = 3_000_000_000  # bytes of memory for a crate that is being proved: about 1.5 GB for each of its jobs, and most have one
 MINUTES = {  # of processor time, as measured
-    "sj_cursor": 9, "sj_sql": 8.5, "sj_bind": 6.5, "sj_select_list": 4.5, "sj_path": 4.5, "sj_table": 4, "sj_select": 3.5, "sqljson": 3, "sj_file": 2.5,
-    "sj_doc": 2.3, "sj_path_token": 2.3, "sj_read": 2.3, "sj_build": 2, "sj_sql_token": 1.7, "sj_decimal": 1.7, "sj_path_tree": 1.5, "sj_base": 0.8, "sj_path_grammar": 0.5, "sj_json": 0.2,
+    "sj_cursor": 9, "sj_bind": 6.5, "sj_sql": 5.5, "sj_select_list": 4.7, "sj_path": 4.5, "sj_sql_phrase": 4.2, "sj_table": 4, "sj_select": 3.5, "sqljson": 3.5,
+    "sj_file": 2.5, "sj_doc": 2.3, "sj_read": 2.3, "sj_build": 2, "sj_path_token": 1.8, "sj_step": 1.8, "sj_sql_token": 1.7, "sj_decimal": 1.7, "sj_rows": 1.7,
+    "sj_path_tree": 1.5, "sj_sql_grammar": 1.4, "sj_base": 0.8, "sj_bound": 0.7, "sj_path_grammar": 0.5, "sj_generated": 0.5, "sj_json": 0.2,
 }
-MINUTES_OF_OTHERS = 1.3
-LONG = 3  # minutes from which a proof never waits
-SLACK = 3  # minutes by which a short proof may end later and hold up none of the longest chain
-PATIENCE = 5  # how much later, by `nice`, the processors then come to it
+MINUTES_OF_OTHERS = 1.2
+NEARLY = 1  # minutes: a chain that is shorter by less is as long as the longest
+PATIENCE = 2  # how much later, by `nice`, the processors come to a proof for each minute that it may wait, up to MOST_PATIENCE
+MOST_PATIENCE = 10
 PAUSE = 0.2  # seconds
 SHOWN = 20  # lines of a failed proof
 
@@ -36,6 +37,7 @@ class Proof:
     def __init__(self, crate, words, folder, log, patience):
         self.began, self.crate, self.log = time.monotonic(), crate, log
         with open(log, "wb") as said:
+            # A group of its own, to be given up by, and no session of its own: sessions share the processors evenly, however many jobs each has and whatever `nice` says.
             how = {"cwd": folder, "stdin": subprocess.DEVNULL, "stdout": said, "stderr": subprocess.STDOUT, "process_group": 0}
             self.command = subprocess.Popen(["nice", "-n", str(patience), *words], **how)
 
@@ -95,14 +97,14 @@ class Schedule:
         return [it for it in self.left if self.done.issuperset(self.below[it])]
 
     def start(self, crate, start):
-        """Starts the proof of a crate. A second job reads all libraries once more, so most have one, and together they fill the processors. One for which the
-        longest chain waits has two, or as many as no other proof would take. Those that are short and hold up nothing soon come last."""
+        """Starts the proof of a crate. A second job takes processor time of its own, so most have one, and together they fill the processors. One for which the
+        longest chain waits has two, or as many as no other proof would take. The longer a proof may wait and hold up nothing, the later it comes."""
         self.left.remove(crate)
         longest = max(self.behind[it] for it in [crate, *self.left, *(proof.crate for proof in self.running)])
+        may_wait = longest - self.behind[crate]
         beside = len(self.running) + len(self.ready())
-        jobs = max(min(3, processors()), processors() - beside) if self.behind[crate] == longest else 1
-        can_wait = MINUTES.get(crate, MINUTES_OF_OTHERS) < LONG and longest - self.behind[crate] > SLACK
-        proof = start(crate, jobs, PATIENCE if can_wait else 0)
+        jobs = max(min(2, processors()), processors() - beside) if may_wait < NEARLY else 1
+        proof = start(crate, jobs, min(MOST_PATIENCE, round(PATIENCE * may_wait)))
         if proof:
             self.running.append(proof)
         else:
