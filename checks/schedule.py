@@ -11,7 +11,7 @@ from checks.times import clock
 
 EACH_TAKES = 3_000_000_000  # bytes of memory for a crate that is being proved: about 1.5 GB for each of its jobs, and most have one
 MINUTES = {  # of processor time, as measured
-    "sj_cursor": 9, "sj_sql": 8.5, "sj_select": 8, "sj_bind": 6.5, "sqljson": 5, "sj_path": 4, "sj_table": 4, "sj_doc": 2.3, "sj_path_token": 2.3,
+    "sj_cursor": 9, "sj_select": 8, "sj_bind": 6.5, "sqljson": 5, "sj_sql": 5, "sj_path": 4, "sj_sql_phrase": 4, "sj_table": 4, "sj_doc": 2.3, "sj_path_token": 2.3,
     "sj_read": 2.3, "sj_build": 2, "sj_sql_token": 1.7, "sj_decimal": 1.7, "sj_path_tree": 1.5, "sj_base": 0.8, "sj_path_grammar": 0.5, "sj_json": 0.2,
 }
 MINUTES_OF_OTHERS = 1.3
