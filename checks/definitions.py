@@ -18,7 +18,7 @@ from checks.crates import listed as listed_crates
 PAGE = "docs/DEFINITIONS.md"
 MOST_LINES = 5000
 # Modules that say how the code holds, finds or reads a value, and not what a contract of `run` means.
-VIEWS = {"Building", "Cells", "Coding", "Filling", "HeldLines", "MadeValues", "SoFar", "Layouts", "Looks", "Machine", "Nodes", "Raw", "Reading", "Seen", "Sequel", "View"}
+VIEWS = {"Boxes", "Building", "Cells", "Coding", "Filling", "HeldLines", "MadeValues", "SoFar", "Layouts", "Looks", "Machine", "Nodes", "Raw", "Reading", "Seen", "Sequel", "View"}
 IMPORT = re.compile(r"^[ \t]*(?:pub )?(?:ghost )?use Rattle\.(\w+)\.specs\.([\w.]+?)(?:\.\{([^}]*)\}| as (\w+))?;?$", re.M)
 # The first line of a definition, or of a block of several; and the name that a line within a block defines.
 WORDS = r"(?:(?:abbrev|unfoldable|pub|data|record) )*"

@@ -50,10 +50,11 @@ after a refusal, and the clauses of the contract that say what it is. [PROOFS.md
   `Status` the one that it speaks of is in parentheses; *before the input* is each that comes before any input is read.
 - *At Ok*: it says it of the good answer alone.
 
-A call of a trait is listed with the trait, and again with each object that meets it. `checks/refusals.py` makes this page
-of the sources, and fails if the page differs, if an argument has no clause in the columns *at every answer* and *when
-refused*, or if it may change when memory runs out and its row does not say why that does no harm. It looks at names and
-forms alone: whether a clause says all that is to be said, a reader has to judge.
+A call of a trait is listed with the trait, and again with each object that meets it. The calls of public modules, which
+sj_sql_phrase alone has, are for the parser above it and are not listed. `checks/refusals.py` makes this page of the
+sources, and fails if the page differs, if an argument has no clause in the columns *at every answer* and *when refused*,
+or if it may change when memory runs out and its row does not say why that does no harm. It looks at names and forms
+alone: whether a clause says all that is to be said, a reader has to judge.
 """
 
 

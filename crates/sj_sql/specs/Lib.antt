@@ -1,7 +1,6 @@
 pub mod Noted
-pub mod Cells
+pub mod Boxes
 pub mod File
 pub mod Script
 pub mod Nests
-pub mod Plans
 pub mod Words

@@ -9,12 +9,11 @@ use Rattle.sj_sql_grammar.specs.Grammar.{Source}
 use Rattle.sj_sql_grammar.specs.Phrases.{Tokens}
 use Rattle.sj_path_tree.specs.Tree.{Path}
 use Rattle.sj_sql_grammar.specs.Tree.{Value}
-use Rattle.sj_sql_grammar.specs.Reading.{value_at, columns_at, plan_expr_at}
+use Rattle.sj_sql_grammar.specs.Reading.{value_at, columns_at}
 use Rattle.sj_sql.specs.declared.faults.Faults.{Faults}
 use Rattle.sj_sql_tree.specs.declared.tree.Columns.{Columns}
-use Rattle.sj_sql_tree.specs.declared.tree.NamedPlan.{NamedPlan}
 use Rattle.sj_sql.specs.Noted.{faults_of}
-use Rattle.sj_sql_tree.specs.View.{columns_of, plan_of}
+use Rattle.sj_sql_tree.specs.View.{columns_of}
 
 -- it reads the values of a SELECT list, seen by view
 pub record Nests {V : Type 0} (view : V → Value Path) (source : Source) (depth : ℕ) (pre : Global → ℕ → Faults → Bor Tokens → Type 0)
@@ -29,9 +28,3 @@ pub record ColumnNests (depth : ℕ) (pre : Global → ℕ → Faults → Bor To
   pub callable : (alloc : Global) (faults : Faults) (tokens : Bor Tokens) → pre alloc depth faults tokens
   pub reads : (alloc : Global) (faults : Faults) (tokens : Bor Tokens) (r : Result (Columns × Faults × Bor Tokens) ParseRefusal) → post alloc depth faults tokens r
       → Gives (λ x. (columns_of x.0, faults_of x.1, x.2.now)) r (columns_at parsing depth (faults_of faults) tokens.now)
-
--- the plan of a table
-pub record PlanNests (depth : ℕ) (pre : Global → ℕ → Bor Tokens → Type 0) (post : Global → ℕ → Bor Tokens → Result (NamedPlan × Bor Tokens) ParseRefusal → Type 0) : Type 0 where
-  pub callable : (alloc : Global) (tokens : Bor Tokens) → pre alloc depth tokens
-  pub reads : (alloc : Global) (tokens : Bor Tokens) (r : Result (NamedPlan × Bor Tokens) ParseRefusal) → post alloc depth tokens r
-      → Gives (λ x. (plan_of x.0, x.1.now)) r (plan_expr_at depth tokens.now)

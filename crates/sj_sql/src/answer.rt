@@ -2,11 +2,11 @@
 
 ghost use Rattle.sj_sql.specs.File.{IsAnswered};
 
-use crate::depth::too_deep;
 use crate::select::select;
-use crate::single::Tokens;
 use sj_base::ParseRefusal;
 use sj_sql_grammar::FileKind;
+use sj_sql_phrase::depth::too_deep;
+use sj_sql_phrase::single::Tokens;
 use sj_sql_tree::Statement;
 use std::alloc::Global;
 

@@ -9,11 +9,11 @@ ghost use Rattle.sj_sql_tree.specs.View.{svalue_of};
 
 use crate::common::common;
 use crate::faults::Faults;
-use crate::optional::value_action;
-use crate::phrase::{exists_clause, query_clause, quotes_clause, returning, wrapper};
-use crate::single::{Tokens, close, open};
 use sj_base::{ParseRefusal, boxed};
 use sj_sql_grammar::{Quotes, TypeName};
+use sj_sql_phrase::optional::value_action;
+use sj_sql_phrase::phrase::{exists_clause, query_clause, quotes_clause, returning, wrapper};
+use sj_sql_phrase::single::{Tokens, close, open};
 use sj_sql_token::Keyword;
 use sj_sql_tree::{ExistsCall, QueryCall, SValue, ValueCall};
 use sj_value::{ExistsAction, QueryAction, SqlType, Wrapper};

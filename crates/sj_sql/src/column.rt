@@ -5,22 +5,23 @@ ghost use Rattle.sj_base.specs.Gives.{Gives};
 ghost use Rattle.sj_sql_grammar.specs.Faults.{parsing};
 ghost use Rattle.sj_sql_grammar.specs.Reading as reading;
 ghost use Rattle.sj_sql_grammar.specs.Tree as t;
-ghost use Rattle.sj_sql.specs.Cells.{onto, boxed_column_of};
+ghost use Rattle.sj_sql.specs.Boxes.{boxed_column_of};
+ghost use Rattle.sj_sql_phrase.specs.Cells.{onto};
 ghost use Rattle.sj_sql.specs.Nests.{ColumnNests};
 ghost use Rattle.sj_sql.specs.Noted.{faults_of};
 ghost use Rattle.sj_sql_tree.specs.View.{column_of, columns_of};
 
 use crate::faults::Faults;
-use crate::optional::{name_of_path, value_action};
-use crate::passing::put;
 use crate::path::{column_path, nested_path, path};
-use crate::phrase::{
+use sj_base::{Memory, ParseRefusal, Text, boxed};
+use sj_sql_grammar::{Encoding, Quotes};
+use sj_sql_phrase::optional::{name_of_path, value_action};
+use sj_sql_phrase::passing::put;
+use sj_sql_phrase::phrase::{
     encoding_clause, existence_type, exists_clause, formatted_type, query_clause, quotes_clause,
     type_name, wrapper,
 };
-use crate::single::{Rest, Tokens, close, comma, name, open, word};
-use sj_base::{Memory, ParseRefusal, Text, boxed};
-use sj_sql_grammar::{Encoding, Quotes};
+use sj_sql_phrase::single::{Rest, Tokens, close, comma, name, open, word};
 use sj_sql_token::Keyword;
 use sj_sql_tree::{Column, Columns, FormattedColumn, RegularColumn, Seq};
 use sj_value::{ExistsAction, QueryAction, Wrapper};

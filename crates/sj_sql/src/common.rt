@@ -7,13 +7,13 @@ ghost use Rattle.sj_sql_grammar.specs.Reading as reading;
 ghost use Rattle.sj_sql.specs.Noted.{faults_of};
 ghost use Rattle.sj_sql_tree.specs.View.{common_of};
 
-use crate::document::document;
 use crate::faults::Faults;
-use crate::optional::name_of_path;
-use crate::passing::passing;
 use crate::path::path;
-use crate::single::{Tokens, comma, string};
 use sj_base::{ParseRefusal, Text};
+use sj_sql_phrase::document::document;
+use sj_sql_phrase::optional::name_of_path;
+use sj_sql_phrase::passing::passing;
+use sj_sql_phrase::single::{Tokens, comma, string};
 use sj_sql_tree::Common;
 use std::alloc::Global;
 

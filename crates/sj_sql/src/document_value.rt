@@ -10,13 +10,13 @@ ghost use Rattle.sj_sql.specs.Noted.{faults_of};
 ghost use Rattle.sj_sql_tree.specs.View.{svalue_of, svalues_of, smembers_of};
 
 use crate::call::{exists, query, value};
-use crate::document::is_json;
 use crate::faults::Faults;
-use crate::single::{Tokens, word};
 use crate::value::Level;
 use crate::value_tree::ValueTree;
 use sj_base::ParseRefusal;
 use sj_path::Literal;
+use sj_sql_phrase::document::is_json;
+use sj_sql_phrase::single::{Tokens, word};
 use sj_sql_token::Keyword;
 use sj_sql_tree::{SMembers, SValue, SValues};
 use sj_value::Nulls;

@@ -9,13 +9,13 @@ ghost use Rattle.sj_sql_tree.specs.View.{svalue_of, item_of, plain_of, items_of}
 
 use crate::document_value::document_value;
 use crate::faults::Faults;
-use crate::optional::skip_alias;
-use crate::passing::put;
-use crate::phrase::{nulls_clause, unique_clause};
 use crate::row_value::row_value;
-use crate::single::{Rest, Tokens, close, comma, open, word};
 use crate::value::Level;
 use sj_base::ParseRefusal;
+use sj_sql_phrase::optional::skip_alias;
+use sj_sql_phrase::passing::put;
+use sj_sql_phrase::phrase::{nulls_clause, unique_clause};
+use sj_sql_phrase::single::{Rest, Tokens, close, comma, open, word};
 use sj_sql_token::Keyword;
 use sj_sql_tree::{SValue, Seq, TItem};
 use sj_value::Nulls;

@@ -1,32 +1,22 @@
 //! The parser of statements (ISO/IEC 9075-2, SQL/JSON), and the reading of a file of them.
 //!
-//! It stands on the definitions of sj_sql_grammar, the parser of sj_path and the trees of sj_sql_tree, whose public names it passes
-//! on. Contracts see a statement as a tree of sj_sql_grammar, by `statement_of` of sj_sql_tree.
+//! It stands on the definitions of sj_sql_grammar, the phrases of sj_sql_phrase, the parser of sj_path and the trees of sj_sql_tree,
+//! whose public names it passes on. Contracts see a statement as a tree of sj_sql_grammar, by `statement_of` of sj_sql_tree.
 #![tactic(auto)]
 
 mod answer;
 mod call;
 mod column;
 mod common;
-mod depth;
-mod document;
 mod document_value;
 mod faults;
 mod file;
 mod item;
-mod literal;
-mod meaning;
 mod member;
-mod operators;
-mod optional;
-mod passing;
 mod path;
-mod phrase;
-mod plan;
 mod row_value;
 mod script;
 mod select;
-mod single;
 mod table;
 mod value;
 mod value_tree;

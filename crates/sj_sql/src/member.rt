@@ -2,7 +2,8 @@
 
 ghost use Rattle.std.specs.Prelude.{◌≡◌, IfOk, map};
 ghost use Rattle.sj_sql_grammar.specs.Tree as t;
-ghost use Rattle.sj_sql.specs.Cells.{onto, member_of, more_members};
+ghost use Rattle.sj_sql.specs.Boxes.{member_of};
+ghost use Rattle.sj_sql_phrase.specs.Cells.{onto, more_members};
 
 use crate::value_tree::ValueTree;
 use sj_base::{Memory, boxed};

@@ -11,9 +11,9 @@ ghost use Rattle.sj_sql_grammar.specs.Tree.{Written, OfName};
 ghost use Rattle.sj_sql.specs.Noted.{faults_of, IsNoted, ReadsPath};
 
 use crate::faults::Faults;
-use crate::single::{Tokens, passing, string, word};
 use sj_base::{Memory, ParseRefusal, Text};
 use sj_path::{Expr, Mode, Path, member_path, parse_path};
+use sj_sql_phrase::single::{Tokens, passing, string, word};
 use sj_sql_token::{Keyword, Quoted};
 use std::alloc::Global;
 

@@ -10,11 +10,11 @@ ghost use Rattle.sj_sql.specs.Noted.{faults_of};
 ghost use Rattle.sj_sql_tree.specs.View.{tvalue_of, tvalues_of, tmembers_of};
 
 use crate::faults::Faults;
-use crate::single::{Tokens, name};
 use crate::value::Level;
 use crate::value_tree::ValueTree;
 use sj_base::ParseRefusal;
 use sj_path::Literal;
+use sj_sql_phrase::single::{Tokens, name};
 use sj_sql_tree::{TMembers, TValue, TValues};
 use sj_value::Nulls;
 use std::alloc::Global;

@@ -10,9 +10,9 @@ ghost use Rattle.sj_sql.specs.Words as words;
 
 use crate::faults::Faults;
 use crate::item::{listed_items, plain_items};
-use crate::single::{Tokens, same, star, word};
 use crate::table::table;
 use sj_base::ParseRefusal;
+use sj_sql_phrase::single::{Tokens, same, star, word};
 use sj_sql_token::{Keyword, Token};
 use sj_sql_tree::Statement;
 use std::alloc::Global;

@@ -10,9 +10,9 @@ ghost use Rattle.sj_sql_grammar.specs.Tree as t;
 ghost use Rattle.sj_sql.specs.Noted.{faults_of};
 
 use crate::faults::Faults;
-use crate::single::Tokens;
 use sj_base::ParseRefusal;
 use sj_path::Literal;
+use sj_sql_phrase::single::Tokens;
 use sj_value::Nulls;
 use std::alloc::Global;
 

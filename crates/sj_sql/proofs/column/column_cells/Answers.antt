@@ -1,8 +1,8 @@
 use Rattle.std.proofs.Common.{map}
 use Rattle.sj_sql_grammar.specs.Tree.{More}
-use Rattle.sj_sql.specs.Cells.{boxed_column_of}
+use Rattle.sj_sql.specs.Boxes.{boxed_column_of}
 use Rattle.sj_sql_tree.specs.View.{columns_of}
-use Rattle.sj_sql.proofs.Lists.{cell_made, mapped_end}
+use Rattle.sj_sql_phrase.proofs.Lists.{cell_made, mapped_end}
 use Rattle.sj_sql.proofs.column.column_cells.Goals as goal
 
 pub loop-column-preserved : goal.loop-column-preserved

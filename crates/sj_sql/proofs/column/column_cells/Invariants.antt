@@ -1,6 +1,7 @@
 use Rattle.std.proofs.Common.{◌≡◌, map, vec_len}
 use Rattle.sj_sql_grammar.specs.Tree.{More, Last}
-use Rattle.sj_sql.specs.Cells.{onto, boxed_column_of}
+use Rattle.sj_sql.specs.Boxes.{boxed_column_of}
+use Rattle.sj_sql_phrase.specs.Cells.{onto}
 use Rattle.sj_sql_tree.specs.View.{columns_of}
 use Rattle.sj_sql.proofs.column.column_cells.Given as goal
 

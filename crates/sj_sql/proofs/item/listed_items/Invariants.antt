@@ -1,7 +1,7 @@
 use Rattle.std.proofs.Common.{◌≡◌, ◌-◌, length, ◌∷◌}
 use Rattle.sj_sql_grammar.specs.Faults.{parsing}
 use Rattle.sj_sql_grammar.specs.Reading.{listed_item_at, items_from}
-use Rattle.sj_sql.specs.Cells.{fronted}
+use Rattle.sj_sql_phrase.specs.Cells.{fronted}
 use Rattle.sj_sql.specs.Noted.{faults_of}
 use Rattle.sj_sql_tree.specs.View.{items_of}
 use Rattle.sj_sql.proofs.item.listed_items.Given as goal

@@ -3,7 +3,7 @@ use Rattle.sj_sql_grammar.specs.Faults.{parsing}
 use Rattle.sj_sql_grammar.specs.Reading.{plain_item_at}
 use Rattle.sj_sql.specs.Noted.{faults_of}
 use Rattle.sj_sql_tree.specs.View.{plain_of, svalue_of}
-use Rattle.sj_sql.proofs.Lists.{goes_on, ends, read, onto_list, plain_end, items_read}
+use Rattle.sj_sql_phrase.proofs.Lists.{goes_on, ends, read, onto_list, plain_end, items_read}
 use Rattle.sj_sql.proofs.item.plain_items.Goals as goal
 
 pub loop-turn-preserved : goal.loop-turn-preserved

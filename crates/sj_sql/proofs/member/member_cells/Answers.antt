@@ -1,6 +1,7 @@
 use Rattle.std.proofs.Common.{map}
-use Rattle.sj_sql.specs.Cells.{member_of, more_members}
-use Rattle.sj_sql.proofs.Lists.{cell_made, mapped_end}
+use Rattle.sj_sql.specs.Boxes.{member_of}
+use Rattle.sj_sql_phrase.specs.Cells.{more_members}
+use Rattle.sj_sql_phrase.proofs.Lists.{cell_made, mapped_end}
 use Rattle.sj_sql.proofs.member.member_cells.Goals as goal
 
 pub loop-member-preserved : goal.loop-member-preserved

@@ -1,6 +1,7 @@
 use Rattle.std.proofs.Common.{◌≡◌, map, vec_len}
 use Rattle.sj_sql_grammar.specs.Tree.{NoMembers}
-use Rattle.sj_sql.specs.Cells.{onto, member_of, more_members}
+use Rattle.sj_sql.specs.Boxes.{member_of}
+use Rattle.sj_sql_phrase.specs.Cells.{onto, more_members}
 use Rattle.sj_sql.proofs.member.member_cells.Given as goal
 
 abbrev pub decreases-loop-member : goal.decreases-loop-member

@@ -1,6 +1,6 @@
 use Rattle.std.proofs.Common.{map}
 use Rattle.sj_sql_grammar.specs.Tree.{MoreValues}
-use Rattle.sj_sql.proofs.Lists.{cell_made, mapped_end}
+use Rattle.sj_sql_phrase.proofs.Lists.{cell_made, mapped_end}
 use Rattle.sj_sql.proofs.member.value_cells.Goals as goal
 
 pub loop-value-preserved : goal.loop-value-preserved

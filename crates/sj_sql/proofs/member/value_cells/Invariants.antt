@@ -1,6 +1,6 @@
 use Rattle.std.proofs.Common.{◌≡◌, map, vec_len}
 use Rattle.sj_sql_grammar.specs.Tree.{MoreValues, NoValues}
-use Rattle.sj_sql.specs.Cells.{onto}
+use Rattle.sj_sql_phrase.specs.Cells.{onto}
 use Rattle.sj_sql.proofs.member.value_cells.Given as goal
 
 abbrev pub decreases-loop-value : goal.decreases-loop-value

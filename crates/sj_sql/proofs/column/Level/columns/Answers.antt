@@ -2,9 +2,9 @@ use Rattle.std.proofs.Common.{map, sym, ap, ◌∙◌}
 use Rattle.sj_sql_grammar.specs.Faults.{parsing}
 use Rattle.sj_sql_grammar.specs.Reading.{columns_at}
 use Rattle.sj_sql_grammar.specs.Tree.{More}
-use Rattle.sj_sql.specs.Cells.{boxed_column_of}
+use Rattle.sj_sql.specs.Boxes.{boxed_column_of}
 use Rattle.sj_sql.specs.Noted.{faults_of}
-use Rattle.sj_sql.proofs.Lists.{goes_on, ends, read, mapped_end, columns_read}
+use Rattle.sj_sql_phrase.proofs.Lists.{goes_on, ends, read, mapped_end, columns_read}
 use Rattle.sj_sql.proofs.column.Level.columns.Goals as goal
 
 pub loop-turn-preserved : goal.loop-turn-preserved

@@ -2,7 +2,8 @@ use Rattle.std.proofs.Common.{◌≡◌, ◌-◌, length, map}
 use Rattle.sj_sql_grammar.specs.Faults.{parsing}
 use Rattle.sj_sql_grammar.specs.Reading.{columns_at, columns_from}
 use Rattle.sj_sql_grammar.specs.Tree.{More}
-use Rattle.sj_sql.specs.Cells.{boxed_column_of, fronted}
+use Rattle.sj_sql.specs.Boxes.{boxed_column_of}
+use Rattle.sj_sql_phrase.specs.Cells.{fronted}
 use Rattle.sj_sql.specs.Noted.{faults_of}
 use Rattle.sj_sql.proofs.column.Level.columns.Given as goal
 

@@ -1,9 +1,10 @@
 use Rattle.std.proofs.Common.{map, sym, ap, ◌∙◌}
 use Rattle.sj_sql_grammar.specs.Faults.{parsing}
 use Rattle.sj_sql_grammar.specs.Reading.{value_at}
-use Rattle.sj_sql.specs.Cells.{member_of, more_members}
+use Rattle.sj_sql.specs.Boxes.{member_of}
+use Rattle.sj_sql_phrase.specs.Cells.{more_members}
 use Rattle.sj_sql.specs.Noted.{faults_of}
-use Rattle.sj_sql.proofs.Lists.{goes_on, ends, read, mapped_end, members_read}
+use Rattle.sj_sql_phrase.proofs.Lists.{goes_on, ends, read, mapped_end, members_read}
 use Rattle.sj_sql.proofs.value.Level.members.Goals as goal
 
 pub loop-turn-preserved : goal.loop-turn-preserved

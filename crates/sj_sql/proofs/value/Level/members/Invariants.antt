@@ -1,7 +1,8 @@
 use Rattle.std.proofs.Common.{◌≡◌, ◌-◌, length, map}
 use Rattle.sj_sql_grammar.specs.Faults.{parsing}
 use Rattle.sj_sql_grammar.specs.Reading.{value_at, members_from}
-use Rattle.sj_sql.specs.Cells.{member_of, fronted, more_members}
+use Rattle.sj_sql.specs.Boxes.{member_of}
+use Rattle.sj_sql_phrase.specs.Cells.{fronted, more_members}
 use Rattle.sj_sql.specs.Noted.{faults_of}
 use Rattle.sj_sql.proofs.value.Level.members.Given as goal
 

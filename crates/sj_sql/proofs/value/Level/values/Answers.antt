@@ -3,7 +3,7 @@ use Rattle.sj_sql_grammar.specs.Faults.{parsing}
 use Rattle.sj_sql_grammar.specs.Reading.{value_at}
 use Rattle.sj_sql_grammar.specs.Tree.{MoreValues}
 use Rattle.sj_sql.specs.Noted.{faults_of}
-use Rattle.sj_sql.proofs.Lists.{goes_on, ends, read, mapped_end, values_read}
+use Rattle.sj_sql_phrase.proofs.Lists.{goes_on, ends, read, mapped_end, values_read}
 use Rattle.sj_sql.proofs.value.Level.values.Goals as goal
 
 pub loop-turn-preserved : goal.loop-turn-preserved

@@ -2,7 +2,7 @@ use Rattle.std.proofs.Common.{◌≡◌, ◌-◌, length, map}
 use Rattle.sj_sql_grammar.specs.Faults.{parsing}
 use Rattle.sj_sql_grammar.specs.Reading.{value_at, values_from}
 use Rattle.sj_sql_grammar.specs.Tree.{MoreValues}
-use Rattle.sj_sql.specs.Cells.{fronted}
+use Rattle.sj_sql_phrase.specs.Cells.{fronted}
 use Rattle.sj_sql.specs.Noted.{faults_of}
 use Rattle.sj_sql.proofs.value.Level.values.Given as goal
 
