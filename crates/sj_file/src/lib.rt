@@ -9,15 +9,15 @@
 //! or refuse it alike. No input is read here, and nothing is written.
 #![tactic(auto)]
 
-mod accept;
 mod file;
 mod job;
 mod piece;
+mod statements;
 mod status;
 mod verdict;
 
-pub use accept::{accept, accept_count};
 pub use file::{Form, form_of};
 pub use job::{Job, Keys};
 pub use piece::{MAX_PIECE, front, piece_len};
+pub use statements::{accept, accept, accept_count, accept_count};
 pub use status::Status;
