@@ -6,7 +6,7 @@ pub mod Texts
 pub mod Numbers
 -- for `name`, `next_token`, `string` and `word`
 pub mod Pieces
--- for sj_sql and sj_sql_grammar
+-- for sj_sql_phrase and sj_sql_grammar
 pub mod Keywords
 -- for the lemmas of `Longest`
 pub mod Sizes
