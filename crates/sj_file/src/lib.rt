@@ -19,5 +19,5 @@ mod verdict;
 pub use file::{Form, form_of};
 pub use job::{Job, Keys};
 pub use piece::{MAX_PIECE, front, piece_len};
-pub use statements::{accept, accept, accept_count, accept_count};
+pub use statements::{accept, accept_count};
 pub use status::Status;

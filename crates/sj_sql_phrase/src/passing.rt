@@ -1,6 +1,6 @@
 //! The variables of a PASSING clause.
 
-ghost use Rattle.std.specs.Prelude.{◌≡◌, ◌++◌, ◌∷◌, [], length, OnOk};
+ghost use Rattle.std.specs.Prelude.{◌≡◌, ◌++◌, ◌∷◌, [], length, OnOk, OnErr};
 ghost use Rattle.sj_base.specs.Gives.{Gives};
 ghost use Rattle.sj_sql_grammar.specs.Phrases as phrase;
 ghost use Rattle.sj_sql_grammar.specs.Reading as reading;
@@ -13,10 +13,11 @@ use sj_sql_token::Keyword;
 use sj_sql_tree::Seq;
 use std::alloc::Global;
 
-/// Puts a value at the end of a sequence. Where memory runs out, or the sequence has as many values as one may have, nothing is
-/// said of the sequence, and the caller gives it up.
+/// Puts a value at the end of a sequence. Where memory runs out, or the sequence has 2^32 - 1 values, which is as many as one may
+/// have, the sequence stays as it is and the value is given up.
 pub fn put<T: Drop>(values: &mut Seq<T>, value: T) -> Result<(), Memory>
-    ensures { OnOk result (values.new ≡ values.old ++ value ∷ []) }
+    ensures ok { OnOk result (values.new ≡ values.old ++ value ∷ []) }
+    ensures err { OnErr result (values.new ≡ values.old) }
 {
     if values.len() == u32::MAX {
         return Err(Memory);

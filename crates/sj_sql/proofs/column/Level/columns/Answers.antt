@@ -10,7 +10,7 @@ use Rattle.sj_sql.proofs.column.Level.columns.Goals as goal
 pub loop-turn-preserved : goal.loop-turn-preserved
 loop-turn-preserved g c =
     goes_on More _ _ _ (columns_read (columns_at parsing c.args.self.now.depth)) _ c.loop-turn._turn (map boxed_column_of c.loop-turn.columns) (map boxed_column_of c.put.new.values) (boxed_column_of c.in_ok-column.column) (faults_of c.loop-turn.so_far) (faults_of c.in_ok-column.noted)
-    c.loop-turn.left.tokens.now c.in_ok-column.after.now c.in-Some.next.now c.loop-turn-test.true c.loop-turn.invariant c.in_ok-column.ensures c.in-Some.ensures (ap (map boxed_column_of) c.in_ok-put.ensures ∙ mapped_end boxed_column_of c.loop-turn.columns c.in_ok-column.column)
+    c.loop-turn.left.tokens.now c.in_ok-column.after.now c.in-Some.next.now c.loop-turn-test.true c.loop-turn.invariant c.in_ok-column.ensures c.in-Some.ensures (ap (map boxed_column_of) c.in_ok-put.ensures.ok ∙ mapped_end boxed_column_of c.loop-turn.columns c.in_ok-column.column)
 
 pub returns-in_default : goal.returns-in_default
 returns-in_default g c =

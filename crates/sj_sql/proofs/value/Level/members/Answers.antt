@@ -10,7 +10,7 @@ use Rattle.sj_sql.proofs.value.Level.members.Goals as goal
 pub loop-turn-preserved : goal.loop-turn-preserved
 loop-turn-preserved g c =
     goes_on more_members _ _ _ (members_read (value_at parsing g.V.ValueTree.source c.args.self.now.depth)) _ c.loop-turn._turn (map (member_of g.V.ValueTree.value_of) c.loop-turn.members) (map (member_of g.V.ValueTree.value_of) c.put.new.values) (member_of g.V.ValueTree.value_of c.in_ok-member.member) (faults_of c.loop-turn.so_far) (faults_of c.in_ok-member.noted)
-    c.loop-turn.left.tokens.now c.in_ok-member.after.now c.in-Some.next.now c.loop-turn-test.true c.loop-turn.invariant c.in_ok-member.ensures c.in-Some.ensures (ap (map (member_of g.V.ValueTree.value_of)) c.in_ok-put.ensures ∙ mapped_end (member_of g.V.ValueTree.value_of) c.loop-turn.members c.in_ok-member.member)
+    c.loop-turn.left.tokens.now c.in_ok-member.after.now c.in-Some.next.now c.loop-turn-test.true c.loop-turn.invariant c.in_ok-member.ensures c.in-Some.ensures (ap (map (member_of g.V.ValueTree.value_of)) c.in_ok-put.ensures.ok ∙ mapped_end (member_of g.V.ValueTree.value_of) c.loop-turn.members c.in_ok-member.member)
 
 pub returns-in_default : goal.returns-in_default
 returns-in_default g c =

@@ -9,7 +9,7 @@ use Rattle.sj_sql.proofs.value.Level.values.Goals as goal
 pub loop-turn-preserved : goal.loop-turn-preserved
 loop-turn-preserved g c =
     goes_on MoreValues _ _ _ (values_read (value_at parsing g.V.ValueTree.source c.args.self.now.depth)) _ c.loop-turn._turn (map g.V.ValueTree.value_of c.loop-turn.values) (map g.V.ValueTree.value_of c.put.new.values) (g.V.ValueTree.value_of c.in_ok-value.value) (faults_of c.loop-turn.so_far) (faults_of c.in_ok-value.noted)
-    c.loop-turn.left.tokens.now c.in_ok-value.after.now c.in-Some.next.now c.loop-turn-test.true c.loop-turn.invariant c.in_ok-value.ensures c.in-Some.ensures (ap (map g.V.ValueTree.value_of) c.in_ok-put.ensures ∙ mapped_end g.V.ValueTree.value_of c.loop-turn.values c.in_ok-value.value)
+    c.loop-turn.left.tokens.now c.in_ok-value.after.now c.in-Some.next.now c.loop-turn-test.true c.loop-turn.invariant c.in_ok-value.ensures c.in-Some.ensures (ap (map g.V.ValueTree.value_of) c.in_ok-put.ensures.ok ∙ mapped_end g.V.ValueTree.value_of c.loop-turn.values c.in_ok-value.value)
 
 pub returns-in_default : goal.returns-in_default
 returns-in_default g c =
