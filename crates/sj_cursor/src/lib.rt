@@ -46,7 +46,7 @@
 //! An operand that is one member of `@` or `$`, as `@.qty` above, is read in the same way for each item that the filter tests: its
 //! cells are asked in strict mode and where the item is no node.
 //!
-//! The crate stands on `sj_path` for paths and variables, on `sj_step` for accessors and traces, and on `sj_method` for
+//! The crate stands on `sj_path_tree` for paths and variables, on `sj_step` for accessors and traces, and on `sj_method` for
 //! methods and arithmetic. It promises that each call of `Cursor::next` gives the first item that the meaning has left, or
 //! its end, takes no memory, and raises the counter by no more than the visits that stand before that item or end.
 #![tactic(auto)]

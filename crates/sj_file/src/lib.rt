@@ -1,7 +1,7 @@
 //! The words of the command and the file of statements: what the words ask for, the file read whole, its statements as
 //! they are bound, or the status with which the command ends.
 //!
-//! It stands on `sj_base` for the shelf that has the file, on `sj_sql` for its statements one after the other, and on
+//! It stands on `sj_outside` for the shelf that has the file, on `sj_sql` for its statements one after the other, and on
 //! `sj_bind` for what each is bound to. [`form_of`] says what the words ask for. [`accept`] gives the statements of the
 //! file that they name, and [`accept_count`] their number; or each gives the [`Status`] with which the command ends
 //! instead. Contracts say of every status that these calls give why it came, and that a file is accepted only if it is

@@ -5,7 +5,7 @@
 //! a subscript and a binary operation are. Nothing is unwrapped here: in lax mode whoever evaluates a path does that
 //! before.
 //!
-//! The crate stands on `sj_item` for items and their casts, on `sj_decimal` for arithmetic, on `sj_path_grammar` for the
+//! The crate stands on `sj_item` for items and their casts, on `sj_decimal` for arithmetic, on `sj_path_tree` for the
 //! names of methods and operators, and on `sj_step` for traces. It promises that each call gives exactly what these
 //! definitions say, and that a [`PairWalk`] raises the counter by exactly the visits of its trace. It takes no memory.
 #![tactic(auto)]

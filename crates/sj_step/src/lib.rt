@@ -6,7 +6,7 @@
 //! language, accessors), with the unwrapping of lax mode, and the last index of an array. `specs/Takes.antt` says what
 //! one call takes from a trace.
 //!
-//! The crate stands on `sj_item` for items, on `sj_doc` for the children of a node, and on `sj_path_grammar` for the modes.
+//! The crate stands on `sj_item` for items, on `sj_doc` for the children of a node, and on `sj_path_tree` for the modes.
 //! It promises that a [`Walk`] gives exactly the items and the end of its trace, and raises the counter by exactly the
 //! visits. It takes no memory.
 #![tactic(auto)]
