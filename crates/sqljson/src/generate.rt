@@ -11,7 +11,7 @@ use itoa::Buffer;
 use sj_base::{Ledger, Steps};
 use sj_file::{Job, Keys, Status, accept};
 use sj_generated::GeneratedSource;
-use sj_outside::{CountSink, CountSink, Failed, Failed, Shelf, Shelf, Sink, Sink};
+use sj_outside::{CountSink, Failed, Shelf, Sink};
 use sj_page::{Counts, Page, write_parts};
 use std::alloc::Global;
 
