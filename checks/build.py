@@ -26,6 +26,7 @@ PROGRAM = "sqljson"
 OUT = TOP / "crates" / PROGRAM / "out"
 MADE = OUT / "build"
 SOURCES = ["src", "specs", "proofs"]
+SIGNALS = [signal.SIGINT, signal.SIGTERM, signal.SIGHUP]
 TARGET = "x86_64-unknown-linux-gnu"
 
 
@@ -138,11 +139,14 @@ def build():
 
 
 def interrupt(*_):
+    """Ends the build at the first signal. While its proofs are given up, further signals change nothing."""
+    for it in SIGNALS:
+        signal.signal(it, signal.SIG_IGN)
     raise KeyboardInterrupt
 
 
 def main(work=build):
-    for it in (signal.SIGINT, signal.SIGTERM, signal.SIGHUP):
+    for it in SIGNALS:
         if signal.getsignal(it) != signal.SIG_IGN:  # as under nohup
             signal.signal(it, interrupt)
     try:
