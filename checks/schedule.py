@@ -37,7 +37,8 @@ class Proof:
     def __init__(self, crate, words, folder, log, patience):
         self.began, self.crate, self.log = time.monotonic(), crate, log
         with open(log, "wb") as said:
-            # A group of its own, to be given up by, and no session of its own: sessions share the processors evenly, however many jobs each has and whatever `nice` says.
+            # A process group of its own, to be given up by, and no `setsid`: Linux shares the processors evenly among what each `setsid` began (autogroup), however
+            # many jobs that has and whatever `nice` says.
             how = {"cwd": folder, "stdin": subprocess.DEVNULL, "stdout": said, "stderr": subprocess.STDOUT, "process_group": 0}
             self.command = subprocess.Popen(["nice", "-n", str(patience), *words], **how)
 
