@@ -15,6 +15,8 @@ EVERY, OK, REFUSED = "every answer", "Ok", "a refusal"
 ITEM = re.compile(r"^(?:impl|pub trait|trait)\b.*?\{$.*?^\}$", re.M | re.S)
 HEAD = re.compile(r"^(impl\b(?:<[^{]*?>)?\s+(?:(\w+)(?:<[^{]*?>)? for )?(\w+)|(?:pub )?trait (\w+))", re.M)
 FUNCTION = re.compile(r"^[ \t]*(pub )?fn (\w+)", re.M)
+PUBLIC = re.compile(r"^pub (?:fn|struct|enum|trait) (\w+)", re.M)
+PUBLIC_MODULE = re.compile(r"^pub mod (\w+);", re.M)
 EXPORTED = re.compile(r"^pub use \w+::(?:\{(.*?)\}|(\w+));", re.M | re.S)
 CLAUSE = re.compile(r"\s*(requires|ensures|decreases)\s*(\w*)\s*\{")
 COMMENT = re.compile(r"//[^\n]*")
@@ -50,11 +52,10 @@ after a refusal, and the clauses of the contract that say what it is. [PROOFS.md
   `Status` the one that it speaks of is in parentheses; *before the input* is each that comes before any input is read.
 - *At Ok*: it says it of the good answer alone.
 
-A call of a trait is listed with the trait, and again with each object that meets it. The calls of public modules, which
-sj_sql_phrase alone has, are for the parser above it and are not listed. `checks/refusals.py` makes this page of the
-sources, and fails if the page differs, if an argument has no clause in the columns *at every answer* and *when refused*,
-or if it may change when memory runs out and its row does not say why that does no harm. It looks at names and forms
-alone: whether a clause says all that is to be said, a reader has to judge.
+A call of a trait is listed with the trait, and again with each object that meets it. `checks/refusals.py` makes this page
+of the sources, and fails if the page differs, if an argument has no clause in the columns *at every answer* and *when
+refused*, or if it may change when memory runs out and its row does not say why that does no harm. It looks at names and
+forms alone: whether a clause says all that is to be said, a reader has to judge.
 """
 
 
@@ -89,10 +90,13 @@ def calls_of(top):
 
 def in_crate(folder):
     root = folder / "lib.rt"
-    names = exported(root.read_text(encoding="utf-8")) if root.is_file() else {"run"}
+    told = root.read_text(encoding="utf-8") if root.is_file() else ""
+    names = exported(told) if told else {"run"}
+    opened = {folder / f"{module}.rt" for module in PUBLIC_MODULE.findall(told)}
     for path in sorted(folder.rglob("*.rt")):
         if "tests" not in path.relative_to(folder).parts and path.name != "tests.rt":
-            yield from in_file(COMMENT.sub("", path.read_text(encoding="utf-8")), names)
+            text = COMMENT.sub("", path.read_text(encoding="utf-8"))
+            yield from in_file(text, names | set(PUBLIC.findall(text)) if path in opened else names)
 
 
 def exported(text):

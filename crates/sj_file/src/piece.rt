@@ -1,5 +1,5 @@
 // The pieces in which bytes are read.
-ghost use Rattle.std.specs.Prelude.{◌≡◌, ◌<◌, ◌≤◌, length, take};
+ghost use Rattle.std.specs.Prelude.{◌≡◌, ◌<◌, ◌≤◌, length, min, take};
 ghost use Rattle.sj_file.specs.Piece.{max_piece};
 
 /// How many bytes are read at once, at most, of the statement file or of the input.
@@ -9,15 +9,12 @@ pub const MAX_PIECE: usize = 65_536;
 /// are more.
 pub fn piece_len(left: u64) -> usize
     requires { 0 < left }
+    ensures value { result ≡ min left max_piece }
     ensures some { 0 < result }
     ensures a_piece { result ≤ max_piece }
     ensures within { result ≤ left }
 {
-    if left < MAX_PIECE as u64 {
-        left as usize
-    } else {
-        MAX_PIECE
-    }
+    left.min(MAX_PIECE as u64) as usize
 }
 
 /// The first `n` bytes, lent.
