@@ -10,13 +10,13 @@ from checks.crates import listed
 from checks.times import clock
 
 EACH_TAKES = 3_000_000_000  # bytes of memory for a crate that is being proved: about 1.5 GB for each of its jobs, and most have one
-MINUTES = {  # of processor time, as measured
-    "sj_cursor": 9, "sj_bind": 6.5, "sj_sql": 5.5, "sj_select_list": 4.7, "sj_path": 4.5, "sj_sql_phrase": 4.2, "sj_table": 4, "sj_select": 3.5, "sqljson": 3.5,
-    "sj_file": 2.5, "sj_doc": 2.3, "sj_read": 2.3, "sj_build": 2, "sj_path_token": 1.8, "sj_step": 1.8, "sj_sql_token": 1.7, "sj_decimal": 1.7, "sj_rows": 1.7,
-    "sj_path_tree": 1.5, "sj_sql_grammar": 1.4, "sj_base": 0.8, "sj_bound": 0.7, "sj_path_grammar": 0.5, "sj_generated": 0.5, "sj_json": 0.2,
+MINUTES = {  # of processor time, as measured where four proofs ran side by side
+    "sj_cursor": 14.6, "sj_select": 8.4, "sqljson": 8.3, "sj_path": 7.6, "sj_sql": 7.6, "sj_bind": 6.8, "sj_select_list": 6.8, "sj_table": 6.7, "sj_sql_phrase": 4.9,
+    "sj_build": 3, "sj_func": 2.7, "sj_read": 2.7, "sj_step": 2.4, "sj_doc": 2.3, "sj_decimal": 2.1, "sj_file": 2, "sj_sql_token": 2, "sj_base": 1, "sj_bound": 1,
+    "sj_path_grammar": 0.8, "sj_page": 0.7, "sj_generated": 0.6, "sj_json": 0.3,
 }
-MINUTES_OF_OTHERS = 1.2
-NEARLY = 1  # minutes: a chain that is shorter by less is as long as the longest
+MINUTES_OF_OTHERS = 1.6
+NEARLY = 2  # minutes: a chain that is shorter by less is as long as the longest
 PATIENCE = 2  # how much later, by `nice`, the processors come to a proof for each minute that it may wait, up to MOST_PATIENCE
 MOST_PATIENCE = 10
 PAUSE = 0.2  # seconds
