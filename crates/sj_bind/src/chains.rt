@@ -5,7 +5,7 @@ ghost use Rattle.sj_bound.specs.Bound.{NoValues, NoMembers};
 ghost use Rattle.sj_bound.specs.View.{values_of, members_of};
 ghost use Rattle.sj_bind.specs.Chains.{chained, chained_members};
 
-use sj_base::Memory;
+use sj_base::{Memory, boxed};
 use sj_bound::{BoundMembers, BoundValue, BoundValues};
 use std::alloc::Global;
 
@@ -17,7 +17,8 @@ pub fn chain_values(alloc: Global, values: Vec<BoundValue>) -> Result<BoundValue
     let mut left = values;
     let mut chain = BoundValues::Empty;
     while let Some(value) = left.pop() {
-        chain = BoundValues::More(Box::new(alloc, value)?, Box::new(alloc, chain)?);
+        let value = boxed(alloc, value)?;
+        chain = BoundValues::More(value, boxed(alloc, chain)?);
     }
     Ok(chain)
 }
@@ -33,9 +34,9 @@ pub fn chain_members(
     let mut left = members;
     let mut chain = BoundMembers::Empty;
     while let Some((key, value)) = left.pop() {
-        let key = Box::new(alloc, key)?;
-        let value = Box::new(alloc, value)?;
-        chain = BoundMembers::More(key, value, Box::new(alloc, chain)?);
+        let key = boxed(alloc, key)?;
+        let value = boxed(alloc, value)?;
+        chain = BoundMembers::More(key, value, boxed(alloc, chain)?);
     }
     Ok(chain)
 }

@@ -6,7 +6,7 @@ ghost use Rattle.sj_value.specs.Types.{IsCastType};
 ghost use Rattle.sj_bound.specs.Sound as sound;
 ghost use Rattle.sj_bind.specs.Clauses as spec;
 
-use sj_base::Memory;
+use sj_base::{Memory, boxed};
 use sj_item::{Exact, Item};
 use sj_path_tree::Literal;
 use sj_sql_grammar::{Quotes, TypeName, ValueDo};
@@ -128,7 +128,7 @@ pub fn value_clauses(
         on_empty,
         on_error,
     };
-    Ok(Box::new(alloc, clauses)?)
+    boxed(alloc, clauses)
 }
 
 /// Whether a QUOTES clause stands beside WITH WRAPPER.

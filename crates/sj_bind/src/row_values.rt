@@ -11,7 +11,7 @@ ghost use Rattle.sj_bind.specs.Names.{names_of};
 
 use crate::chains::{chain_members, chain_values};
 use crate::name_set::NameSet;
-use sj_base::Memory;
+use sj_base::{Memory, boxed};
 use sj_bound::{BoundItem, BoundMembers, BoundValue, BoundValues};
 use sj_sql_tree::{TItem, TMembers, TValue, TValues};
 use std::alloc::Global;
@@ -103,12 +103,12 @@ pub fn bind_item(alloc: Global, item: TItem, columns: &NameSet<'_>) -> Result<Bo
             Ok(BoundItem::Value(value))
         }
         TItem::ArrayAgg(value, nulls) => {
-            let value = Box::new(alloc, bind_row_value(alloc, value, columns)?)?;
+            let value = boxed(alloc, bind_row_value(alloc, value, columns)?)?;
             Ok(BoundItem::ArrayAgg(value, nulls))
         }
         TItem::ObjectAgg(key, value, nulls, unique) => {
-            let key = Box::new(alloc, bind_row_value(alloc, key, columns)?)?;
-            let value = Box::new(alloc, bind_row_value(alloc, value, columns)?)?;
+            let key = boxed(alloc, bind_row_value(alloc, key, columns)?)?;
+            let value = boxed(alloc, bind_row_value(alloc, value, columns)?)?;
             Ok(BoundItem::ObjectAgg(key, value, nulls, unique))
         }
     }

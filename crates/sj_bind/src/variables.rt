@@ -13,7 +13,7 @@ ghost use Rattle.sj_bound.specs.View.{path_with_of};
 use crate::covered::covers;
 use crate::name_set::NameSet;
 use crate::table::note;
-use sj_base::Memory;
+use sj_base::{Memory, boxed};
 use sj_bound::BoundPath;
 use sj_path_tree::Vars;
 use sj_sql_grammar::Passed;
@@ -90,5 +90,5 @@ pub fn bound_path(alloc: Global, common: Common) -> Result<Box<BoundPath>, Memor
         path,
         vars: passed_vars(alloc, passing)?,
     };
-    Ok(Box::new(alloc, bound)?)
+    boxed(alloc, bound)
 }

@@ -13,7 +13,7 @@ use crate::cells::{
     Applied, At, Binary, Both, Bounds, Cell, Comparison, Each, Elements, Filter, MoreParts, One,
     Operand, Operator, Part, Parts, Range, Reached, Results, Simple, Source, Start, Test,
 };
-use sj_base::Memory;
+use sj_base::{Memory, boxed};
 use sj_path_tree::{Arith, Compare, Expr, Initial, Pred, Step, Sub, Subs};
 use sj_step::Walk;
 use std::alloc::Global;
@@ -76,7 +76,7 @@ fn one<'d>(alloc: Global, source: Source<'d>) -> Result<Box<Cell<'d>>, Memory>
         source,
         given: false,
     });
-    Ok(Box::new(alloc, cell)?)
+    boxed(alloc, cell)
 }
 
 // A cell that something is done with.
@@ -100,7 +100,7 @@ fn binary<'d>(alloc: Global, op: Arith, operands: TwoCells<'d>) -> Result<Box<Ce
         right: operand(right),
         reached: Reached::Unasked,
     });
-    Ok(Box::new(alloc, cell)?)
+    boxed(alloc, cell)
 }
 
 // Where memory runs out, what was made is given up by one call.
@@ -156,7 +156,7 @@ fn each<'d>(
     ensures { IfOk result (λ c. core c.value ≡ doing_on (doing operator.entry) (core input.entry.value)) }
 {
     let input = operand(input);
-    Ok(Box::new(alloc, Cell::Each(Each { input, operator }))?)
+    boxed(alloc, Cell::Each(Each { input, operator }))
 }
 
 #[inline(never)]
@@ -247,7 +247,7 @@ fn part<'d>(ends: Ends<'d>) -> Part<'d>
 fn only<'d>(alloc: Global, ends: Ends<'d>) -> Result<Box<Parts<'d>>, Memory>
     ensures { IfOk result (λ p. parts_core p.value ≡ tree.Only (ends_core ends.entry)) }
 {
-    Ok(Box::new(alloc, Parts::Only(part(ends)))?)
+    boxed(alloc, Parts::Only(part(ends)))
 }
 
 #[inline(never)]
@@ -262,7 +262,7 @@ fn more<'d>(
         first: part(first),
         others,
     });
-    Ok(Box::new(alloc, parts)?)
+    boxed(alloc, parts)
 }
 
 // ---- predicates
@@ -301,14 +301,6 @@ fn two_tests<'d>(alloc: Global, left: &'d Pred, right: &'d Pred) -> Result<Both<
         Ok(right) => Ok(Both { left, right }),
         Err(memory) => Err(give_up_test(left, memory)),
     }
-}
-
-// A test in a place of its own.
-#[inline(never)]
-fn boxed<'d>(alloc: Global, test: Test<'d>) -> Result<Box<Test<'d>>, Memory>
-    ensures { IfOk result (λ x. x.value ≡ test.entry) }
-{
-    Ok(Box::new(alloc, test)?)
 }
 
 #[inline(never)]

@@ -5,7 +5,7 @@ ghost use Rattle.sj_select_list.specs.Operations.{steps_of, steps_to, steps_to_v
 ghost use Rattle.sj_select_list.specs.Values.{values_in};
 
 use crate::operation::{ExistsCall, Operation, QueryCall, ValueCall};
-use sj_base::Memory;
+use sj_base::{Memory, boxed};
 use sj_bound::{Bound, BoundItem, BoundMembers, BoundPath, BoundValue, BoundValues};
 use sj_cursor::Cursor;
 use sj_item::Item;
@@ -72,7 +72,7 @@ pub fn boxed_cursor<'d>(
     ensures vars { IfOk result (λ cursor. cursor.value.vars ≡ vars.now) }
 {
     let cursor = Cursor::new(alloc, path, vars, Item::Null)?;
-    Ok(Box::new(alloc, cursor)?)
+    boxed(alloc, cursor)
 }
 
 // Appends an operation. With a `?` at each place where this is called, the calls that recur would have as many ways out

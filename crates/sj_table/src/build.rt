@@ -8,7 +8,7 @@ ghost use Rattle.sj_table.specs.Rows.{single as single_of, nested as nested_of, 
 use crate::cells::{At, Cell, Cross, Hand, Nested, PathCell, Side, Stage, Union};
 use crate::join::Join;
 use crate::run::Run;
-use sj_base::Memory;
+use sj_base::{Memory, boxed};
 use sj_item::Item;
 use sj_path_tree::{Path, Vars};
 use sj_value::Plan;
@@ -62,7 +62,7 @@ fn single<'d>(
     ensures { IfOk result (λ c. core c.value ≡ single_of (source (map path_of paths.now) vars.now number)) }
 {
     let path = path_cell(alloc, number, paths, vars)?;
-    Ok(Box::new(alloc, Cell::Single(path))?)
+    boxed(alloc, Cell::Single(path))
 }
 
 // A path with the plan below it.
@@ -85,7 +85,7 @@ fn nested<'d>(
         below,
         at: At::Nothing,
     });
-    Ok(Box::new(alloc, cell)?)
+    boxed(alloc, cell)
 }
 
 #[inline(never)]
@@ -101,7 +101,7 @@ fn union<'d>(
         right,
         side: Side::Left,
     });
-    Ok(Box::new(alloc, cell)?)
+    boxed(alloc, cell)
 }
 
 #[inline(never)]
@@ -117,7 +117,7 @@ fn cross<'d>(
         right,
         hand: Hand::Empty,
     });
-    Ok(Box::new(alloc, cell)?)
+    boxed(alloc, cell)
 }
 
 fn path_cell<'d>(

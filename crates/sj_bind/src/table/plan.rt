@@ -13,7 +13,7 @@ ghost use Rattle.sj_bind.specs.Grown.{one_more, grown_in, grown_below};
 
 use super::matching::root_of;
 use super::paths::{NumberedPath, count_paths_in, find_path};
-use sj_base::{Memory, Text};
+use sj_base::{Memory, Text, boxed};
 use sj_sql_grammar::{InOut, Siblings};
 use sj_sql_tree::{Column, Columns, NamedPlan, PlanTree, Table};
 use sj_value::Plan;
@@ -195,7 +195,7 @@ fn path_over(alloc: Global, number: u32, below: Option<Plan>, in_out: InOut) -> 
 fn joined(alloc: Global, in_out: InOut, number: u32, below: Plan) -> Result<Plan, Memory>
     ensures { IfOk result (λ plan. plan_tree plan ≡ spec.joined in_out number (plan_tree below)) }
 {
-    let below = Box::new(alloc, below)?;
+    let below = boxed(alloc, below)?;
     Ok(match in_out {
         InOut::Outer => Plan::Outer(number, below),
         InOut::Inner => Plan::Inner(number, below),
@@ -205,8 +205,8 @@ fn joined(alloc: Global, in_out: InOut, number: u32, below: Plan) -> Result<Plan
 fn beside(alloc: Global, siblings: Siblings, a: Plan, b: Plan) -> Result<Plan, Memory>
     ensures { IfOk result (λ plan. plan_tree plan ≡ spec.beside siblings (plan_tree a) (plan_tree b)) }
 {
-    let a = Box::new(alloc, a)?;
-    let b = Box::new(alloc, b)?;
+    let a = boxed(alloc, a)?;
+    let b = boxed(alloc, b)?;
     Ok(match siblings {
         Siblings::Union => Plan::Union(a, b),
         Siblings::Cross => Plan::Cross(a, b),

@@ -18,7 +18,7 @@ ghost use Rattle.sj_bound.specs.View as bound;
 use super::columns::{Taken, put_path, take_columns};
 use super::plan::table_plan;
 use crate::variables::passed_vars;
-use sj_base::Memory;
+use sj_base::{Memory, boxed};
 use sj_bound::BoundTable;
 use sj_path_tree::Path;
 use sj_sql_tree::{Columns, Common, Seq, Table};
@@ -55,7 +55,7 @@ pub fn bind_table(alloc: Global, table: Table) -> Result<Box<BoundTable>, Memory
         on_error,
         columns,
     };
-    Ok(Box::new(alloc, bound)?)
+    boxed(alloc, bound)
 }
 
 /// The row path, and what stands in the columns under it.
