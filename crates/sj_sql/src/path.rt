@@ -13,7 +13,7 @@ ghost use Rattle.sj_sql.specs.Noted.{faults_of, IsNoted, ReadsPath};
 use crate::faults::Faults;
 use sj_base::{Memory, ParseRefusal, Text};
 use sj_path::{Expr, Mode, Path, member_path, parse_path};
-use sj_sql_phrase::single::{Tokens, passing, string, word};
+use sj_sql_phrase::single::{Tokens, skip_word, string, word};
 use sj_sql_token::{Keyword, Quoted};
 use std::alloc::Global;
 
@@ -79,5 +79,5 @@ pub fn column_path<'a>(
 pub fn nested_path(tokens: Tokens<'_>) -> Option<(&Quoted<'_>, Tokens<'_>)>
     ensures { option_map (λ x. (Written x.0.now, x.1.now)) result ≡ phrase.nested_path_at tokens.now }
 {
-    string(passing(Keyword::Path, tokens))
+    string(skip_word(Keyword::Path, tokens))
 }

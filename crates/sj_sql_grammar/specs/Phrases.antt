@@ -111,8 +111,8 @@ meant f (k.Word v text ∷ ts) = f v >>= λ a. Some (a, ts)
 meant f _ = None
 
 -- a word that may be left out
-abbrev pub passing : Keyword → Tokens → Tokens
-passing v ts = if_some (word v ts) (λ rest. rest) ts
+abbrev pub skip_word : Keyword → Tokens → Tokens
+skip_word v ts = if_some (word v ts) (λ rest. rest) ts
 
 -- ---- literals and types
 
@@ -262,7 +262,7 @@ condition_of _ = None
 
 -- [ "ARRAY" ] "WRAPPER"
 abbrev pub wrapped : Wrapper → Phrase Wrapper
-wrapped x ts = word w.Wrapper (passing w.Array ts) >>= λ rest. Some (x, rest)
+wrapped x ts = word w.Wrapper (skip_word w.Array ts) >>= λ rest. Some (x, rest)
 
 -- wrapper = "WITHOUT" [ "ARRAY" ] "WRAPPER" | "WITH" [ "CONDITIONAL" | "UNCONDITIONAL" ] [ "ARRAY" ] "WRAPPER"
 unfoldable pub wrapper_at : Phrase Wrapper
@@ -300,7 +300,7 @@ unique_of _ = None
 
 -- unique = ( "WITH" | "WITHOUT" ) "UNIQUE" [ "KEYS" ]
 unfoldable pub unique_at : Phrase Bool
-unique_at ts = meant unique_of ts >>= λ u. word w.Unique u.1 >>= λ a. Some (u.0, passing w.Keys a)
+unique_at ts = meant unique_of ts >>= λ u. word w.Unique u.1 >>= λ a. Some (u.0, skip_word w.Keys a)
 
 abbrev pub nulls_of : Keyword → Option Nulls
 nulls_of w.Null = Some nulls.Null
@@ -319,7 +319,7 @@ alias_at ts = word w.As ts >>= name_at
 
 -- [ "AS" ] name, of a table
 unfoldable pub table_alias_at : Phrase (List ℕ)
-table_alias_at ts = name_at (passing w.As ts)
+table_alias_at ts = name_at (skip_word w.As ts)
 
 -- "AS" name, of a path
 unfoldable pub path_name_at : Phrase (Option (List ℕ))
@@ -331,7 +331,7 @@ path_at ts = word w.Path ts >>= string_at >>= λ s. Some (Written s.0, s.1)
 
 -- [ "PATH" ] string, of nested columns
 unfoldable pub nested_path_at : Phrase PathText
-nested_path_at ts = string_at (passing w.Path ts) >>= λ s. Some (Written s.0, s.1)
+nested_path_at ts = string_at (skip_word w.Path ts) >>= λ s. Some (Written s.0, s.1)
 
 -- "VARCHAR" "FORMAT" "JSON"
 unfoldable pub formatted_at : Tokens → Option Tokens

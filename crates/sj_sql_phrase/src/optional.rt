@@ -9,7 +9,7 @@ ghost use Rattle.sj_sql_grammar.specs.declared.clauses.ValueDo.TheVariants as on
 
 use crate::literal::value_action_phrase;
 use crate::phrase::cause;
-use crate::single::{Tokens, name, passing, skip_name, word};
+use crate::single::{Tokens, name, skip_name, skip_word, word};
 use sj_base::{ParseRefusal, Text};
 use sj_sql_grammar::ValueDo;
 use sj_sql_token::Keyword;
@@ -74,5 +74,5 @@ pub fn skip_alias(tokens: Tokens<'_>) -> Tokens<'_>
 pub fn skip_table_alias(tokens: Tokens<'_>) -> Tokens<'_>
     ensures { result.now ≡ reading.passed_over phrase.table_alias_at tokens.now }
 {
-    skip_name(passing(Keyword::As, tokens)).unwrap_or(tokens)
+    skip_name(skip_word(Keyword::As, tokens)).unwrap_or(tokens)
 }

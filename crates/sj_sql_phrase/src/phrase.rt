@@ -5,7 +5,7 @@ ghost use Rattle.std.specs.Option.{option_copied};
 ghost use Rattle.sj_sql_grammar.specs.Phrases as phrase;
 
 use crate::meaning::{emptied, meant};
-use crate::single::{Tokens, close, comma, count, open, passing, word};
+use crate::single::{Tokens, close, comma, count, open, skip_word, word};
 use sj_decimal::MAX_DIGITS;
 use sj_sql_grammar::{Encoding, Quotes, TypeName};
 use sj_sql_token::{Keyword, Token};
@@ -58,7 +58,7 @@ pub fn unique_clause(tokens: Tokens<'_>) -> Option<(bool, Tokens<'_>)>
 {
     let (unique, rest) = meant::<bool>(tokens)?;
     let rest = word(Keyword::Unique, rest)?;
-    Some((unique, passing(Keyword::Keys, rest)))
+    Some((unique, skip_word(Keyword::Keys, rest)))
 }
 
 fn query_action_phrase(tokens: Tokens<'_>) -> Option<(QueryAction, Tokens<'_>)>
@@ -83,7 +83,7 @@ pub fn query_clause(on: Keyword, tokens: Tokens<'_>) -> Option<(QueryAction, Tok
 fn wrapped(wrapper: Wrapper, tokens: Tokens<'_>) -> Option<(Wrapper, Tokens<'_>)>
     ensures { option_map (λ x. (x.0, x.1.now)) result ≡ phrase.wrapped wrapper tokens.now }
 {
-    let rest = word(Keyword::Wrapper, passing(Keyword::Array, tokens))?;
+    let rest = word(Keyword::Wrapper, skip_word(Keyword::Array, tokens))?;
     Some((wrapper, rest))
 }
 

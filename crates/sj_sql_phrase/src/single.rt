@@ -175,8 +175,8 @@ pub(crate) fn skip_name(tokens: Tokens<'_>) -> Option<Tokens<'_>>
 }
 
 /// What follows a keyword, if it stands first, and else all.
-pub fn passing(wanted: Keyword, tokens: Tokens<'_>) -> Tokens<'_>
-    ensures { result.now ≡ phrase.passing wanted tokens.now }
+pub fn skip_word(wanted: Keyword, tokens: Tokens<'_>) -> Tokens<'_>
+    ensures { result.now ≡ phrase.skip_word wanted tokens.now }
 {
     word(wanted, tokens).unwrap_or(tokens)
 }
