@@ -5,7 +5,7 @@ ghost use Rattle.sj_sql_tree.specs.View.{svalue_of, svalues_of, smembers_of, pla
 ghost use Rattle.sj_bind.specs.Parts as spec;
 ghost use Rattle.sj_bind.specs.PartsView.{calls_of, keys_of};
 
-use sj_base::Memory;
+use sj_base::{Memory, push};
 use sj_sql_tree::{ExistsCall, QueryCall, SMembers, SValue, SValues, ValueCall};
 use std::alloc::Global;
 
@@ -58,9 +58,9 @@ fn find_parts<'s>(value: &'s SValue, parts: &mut Parts<'s>) -> Result<(), Memory
 {
     match value {
         SValue::Lit(_) | SValue::IsJson(_) => Ok(()),
-        SValue::Exists(call) => Ok(parts.calls.push(Call::Exists(call))?),
-        SValue::Value(call) => Ok(parts.calls.push(Call::Value(call))?),
-        SValue::Query(call) => Ok(parts.calls.push(Call::Query(call))?),
+        SValue::Exists(call) => push(&mut parts.calls, Call::Exists(call)),
+        SValue::Value(call) => push(&mut parts.calls, Call::Value(call)),
+        SValue::Query(call) => push(&mut parts.calls, Call::Query(call)),
         SValue::Object(members, _, _) => find_in_members(members, parts),
         SValue::Array(values, _) => find_in_values(values, parts),
     }

@@ -11,7 +11,7 @@ ghost use Rattle.sj_bind.specs.Names.{names_of};
 
 use crate::chains::{chain_members, chain_values};
 use crate::name_set::NameSet;
-use sj_base::{Memory, boxed};
+use sj_base::{Memory, boxed, push};
 use sj_bound::{BoundItem, BoundMembers, BoundValue, BoundValues};
 use sj_sql_tree::{TItem, TMembers, TValue, TValues};
 use std::alloc::Global;
@@ -64,7 +64,8 @@ fn bind_row_values(
     let mut rest = values;
     let mut bound = Vec::new(alloc);
     while let Some((value, others)) = rest.split_first() {
-        bound.push(bind_row_value(alloc, value, columns)?)?;
+        let value = bind_row_value(alloc, value, columns)?;
+        push(&mut bound, value)?;
         rest = others;
     }
     chain_values(alloc, bound)
@@ -85,7 +86,8 @@ fn bind_row_members(
     let mut bound = Vec::new(alloc);
     while let Some((key, value, others)) = rest.split_first() {
         let key = bind_row_value(alloc, key, columns)?;
-        bound.push((key, bind_row_value(alloc, value, columns)?))?;
+        let value = bind_row_value(alloc, value, columns)?;
+        push(&mut bound, (key, value))?;
         rest = others;
     }
     chain_members(alloc, bound)

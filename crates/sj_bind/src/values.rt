@@ -10,7 +10,7 @@ ghost use Rattle.sj_bind.specs.Meaning.{bound_value, bound_values, bound_members
 use crate::chains::{chain_members, chain_values};
 use crate::clauses::{query_clauses, value_clauses};
 use crate::variables::bound_path;
-use sj_base::Memory;
+use sj_base::{Memory, push};
 use sj_bound::{BoundMembers, BoundValue, BoundValues};
 use sj_sql_tree::{ExistsCall, QueryCall, SMembers, SValue, SValues, ValueCall};
 use std::alloc::Global;
@@ -87,7 +87,8 @@ fn bind_values(alloc: Global, values: SValues) -> Result<BoundValues, Memory>
     let mut rest = values;
     let mut bound = Vec::new(alloc);
     while let Some((value, others)) = rest.split_first() {
-        bound.push(bind_value(alloc, value)?)?;
+        let value = bind_value(alloc, value)?;
+        push(&mut bound, value)?;
         rest = others;
     }
     chain_values(alloc, bound)
@@ -103,7 +104,8 @@ fn bind_members(alloc: Global, members: SMembers) -> Result<BoundMembers, Memory
     let mut bound = Vec::new(alloc);
     while let Some((key, value, others)) = rest.split_first() {
         let key = bind_value(alloc, key)?;
-        bound.push((key, bind_value(alloc, value)?))?;
+        let value = bind_value(alloc, value)?;
+        push(&mut bound, (key, value))?;
         rest = others;
     }
     chain_members(alloc, bound)

@@ -9,7 +9,7 @@ ghost use Rattle.sj_select_list.specs.Gathers.{Gathers};
 ghost use Rattle.sj_select.specs.Columns.{column_outcome, column_cost, columns_given, columns_cost, ordinality_of, with_variables};
 ghost use Rattle.sj_select.specs.Filling.{column_of, regular_column, formatted_column, exists_column, CanFill};
 
-use sj_base::{Ledger, Memory, State, Steps};
+use sj_base::{Ledger, Memory, State, Steps, push};
 use sj_bound::{BoundColumn, BoundTable};
 use sj_func::{Context, Outcome};
 use sj_item::Item;
@@ -199,7 +199,8 @@ pub(crate) fn columns_of<'d>(
 {
     let mut columns = Vec::with_capacity(alloc, table.columns.len() as usize)?;
     for column in table.columns.as_slice() {
-        columns.push(Column::new(alloc, column, &table.vars)?)?;
+        let column = Column::new(alloc, column, &table.vars)?;
+        push(&mut columns, column)?;
     }
     Ok(columns)
 }

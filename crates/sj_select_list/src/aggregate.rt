@@ -21,7 +21,8 @@ use std::alloc::Global;
 use std::mem;
 
 /// An aggregate, and what it has taken so far.
-#[derive(Drop)]
+///
+/// Its `drop` is written out, and so are those of what it holds, so that whoever holds one gives it up by one call.
 pub enum Aggregate<'d> {
     /// JSON_ARRAYAGG.
     Array(ArrayCall<'d>),
@@ -29,16 +30,33 @@ pub enum Aggregate<'d> {
     Object(ObjectCall<'d>),
 }
 
+impl<'d> Drop for Aggregate<'d> {
+    fn drop(self) {
+        match self {
+            Aggregate::Array(_call) => {}
+            Aggregate::Object(_call) => {}
+        }
+    }
+}
+
 /// JSON_ARRAYAGG.
-#[derive(Drop)]
 pub struct ArrayCall<'d> {
     pub(crate) value: Finder<'d>,
     pub(crate) nulls: Nulls,
     pub(crate) array: ArrayAgg,
 }
 
+impl<'d> Drop for ArrayCall<'d> {
+    fn drop(self) {
+        let ArrayCall {
+            value: _value,
+            nulls: _nulls,
+            array: _array,
+        } = self;
+    }
+}
+
 /// JSON_OBJECTAGG.
-#[derive(Drop)]
 pub struct ObjectCall<'d> {
     pub(crate) key: Finder<'d>,
     pub(crate) value: Finder<'d>,
@@ -46,6 +64,18 @@ pub struct ObjectCall<'d> {
     /// WITH UNIQUE KEYS.
     pub(crate) unique: bool,
     pub(crate) object: ObjectAgg,
+}
+
+impl<'d> Drop for ObjectCall<'d> {
+    fn drop(self) {
+        let ObjectCall {
+            key: _key,
+            value: _value,
+            nulls: _nulls,
+            unique: _unique,
+            object: _object,
+        } = self;
+    }
 }
 
 impl<'d> ArrayCall<'d> {

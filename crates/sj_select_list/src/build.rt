@@ -5,7 +5,7 @@ ghost use Rattle.sj_select_list.specs.Operations.{steps_of, steps_to, steps_to_v
 ghost use Rattle.sj_select_list.specs.Values.{values_in};
 
 use crate::operation::{ExistsCall, Operation, QueryCall, ValueCall};
-use sj_base::{Memory, boxed};
+use sj_base::{Memory, boxed, push};
 use sj_bound::{Bound, BoundItem, BoundMembers, BoundPath, BoundValue, BoundValues};
 use sj_cursor::Cursor;
 use sj_item::Item;
@@ -75,15 +75,6 @@ pub fn boxed_cursor<'d>(
     boxed(alloc, cursor)
 }
 
-// Appends an operation. With a `?` at each place where this is called, the calls that recur would have as many ways out
-// more.
-fn push<'d>(operation: Operation<'d>, operations: &mut Vec<Operation<'d>>) -> Result<(), Memory>
-    ensures { OnOk result (operations.new.items ≡ operations.old.items ++ operation.entry ∷ []) }
-{
-    operations.push(operation)?;
-    Ok(())
-}
-
 // Appends the operations that find a value: what it is made of first. They are one at least.
 #[cycle(push_value)]
 fn push_value<'d>(
@@ -95,19 +86,19 @@ fn push_value<'d>(
     ensures grows { OnOk result (length operations.old.items < length operations.new.items) }
 {
     match value {
-        BoundValue::Lit(literal) => push(Operation::Literal(literal), operations),
-        BoundValue::Column(number) => push(Operation::Column(*number), operations),
+        BoundValue::Lit(literal) => push(operations, Operation::Literal(literal)),
+        BoundValue::Column(number) => push(operations, Operation::Column(*number)),
         BoundValue::Exists(path, on_error) => {
             let cursor = cursor_of(alloc, path)?;
             let call = ExistsCall {
                 cursor,
                 on_error: *on_error,
             };
-            push(Operation::Exists(call), operations)
+            push(operations, Operation::Exists(call))
         }
         BoundValue::Value(path, clauses) => {
             let cursor = cursor_of(alloc, path)?;
-            push(Operation::Value(ValueCall { cursor, clauses }), operations)
+            push(operations, Operation::Value(ValueCall { cursor, clauses }))
         }
         BoundValue::Query(path, clauses) => {
             let cursor = cursor_of(alloc, path)?;
@@ -115,16 +106,16 @@ fn push_value<'d>(
                 cursor,
                 clauses: *clauses,
             };
-            push(Operation::Query(call), operations)
+            push(operations, Operation::Query(call))
         }
-        BoundValue::IsJson(call) => push(Operation::IsJson(*call), operations),
+        BoundValue::IsJson(call) => push(operations, Operation::IsJson(*call)),
         BoundValue::Object(members, nulls, unique) => {
             let count = push_members(alloc, members, operations)?;
-            push(Operation::Object(count, *nulls, *unique), operations)
+            push(operations, Operation::Object(count, *nulls, *unique))
         }
         BoundValue::Array(values, nulls) => {
             let count = push_values(alloc, values, operations)?;
-            push(Operation::Array(count, *nulls), operations)
+            push(operations, Operation::Array(count, *nulls))
         }
     }
 }
@@ -166,7 +157,7 @@ fn push_members<'d>(
     while let BoundMembers::More(key, value, others) = rest {
         push_value(alloc, key, operations)?;
         push_value(alloc, value, operations)?;
-        push(Operation::Member, operations)?;
+        push(operations, Operation::Member)?;
         count += 1;
         rest = others;
     }

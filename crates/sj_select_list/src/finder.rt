@@ -23,10 +23,18 @@ use sj_value::SqlValue;
 use std::alloc::Global;
 
 /// A value, and the operations that find it.
-#[derive(Drop)]
 pub(crate) struct Finder<'d> {
     pub(crate) value: &'d BoundValue,
     pub(crate) operations: Vec<Operation<'d>>,
+}
+
+impl<'d> Drop for Finder<'d> {
+    fn drop(self) {
+        let Finder {
+            value: _value,
+            operations: _operations,
+        } = self;
+    }
 }
 
 /// A value that was found, or the state that was raised in its place.

@@ -8,7 +8,7 @@ ghost use Rattle.sj_select_list.specs.Performing as spec;
 ghost use Rattle.sj_select_list.specs.Performing.{EndsIn, held, last_of, paired, without_members, without_values};
 ghost use Rattle.sj_select_list.specs.Values.{outcome_of};
 
-use sj_base::{Memory, State};
+use sj_base::{Memory, State, push};
 use sj_build::{BuildRefusal, Field, json_array, json_object};
 use sj_func::Outcome;
 use sj_value::{Nulls, SqlValue};
@@ -88,7 +88,7 @@ impl Stack {
         let value = self.values.pop();
         let key = self.values.pop();
         if let (Some(key), Some(value)) = (key, value) {
-            self.members.push(Field { key, value })?;
+            push(&mut self.members, Field { key, value })?;
         }
         Ok(())
     }

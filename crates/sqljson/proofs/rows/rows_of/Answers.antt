@@ -5,4 +5,4 @@ use Rattle.sqljson.proofs.rows.rows_of.Goals as goal
 pub loop-statement-preserved : goal.loop-statement-preserved
 loop-statement-preserved c =
     let within : c.loop-statement.statement-index < length c.args.statements.now = omega arith in
-    more_rows _ _ c.statement-item.result _ _ c.in_ok-rows.rows within c.loop-statement.invariant (search rules) c.in_ok-push.ensures.items
+    more_rows _ _ c.statement-item.result _ _ c.in_ok-rows.rows within c.loop-statement.invariant (search rules) c.in_ok-push.ensures.ok
