@@ -40,17 +40,20 @@ class Kit:
     def path(self, name):
         return str(self.folder / name)
 
-    def words_to_build(self, crate, stands_on, jobs):
-        """The command that proves a crate over the libraries of those below it, and writes what it makes of the crate."""
-        is_program = crate == PROGRAM
-        words = [self.path("bin/rattle"), "build", "--crate-name", crate, "src/main.rt" if is_program else "src/lib.rt"]
+    def words(self, command, crate, stands_on, jobs):
+        """A command on a crate, over the libraries of those below it."""
+        words = [self.path("bin/rattle"), command, "--crate-name", crate, "src/main.rt" if crate == PROGRAM else "src/lib.rt"]
         words += ["--extern", f"std={self.path('rlibs/std.rlib')}", "-L", f"dependency={self.path('rlibs')}", "-L", f"dependency={MADE}"]
         for name in stands_on:
             folder = MADE if (TOP / "crates" / name).is_dir() else self.folder / "rlibs"
             words += ["--extern", f"{name}={folder / name}.rlib"]
         words += ["--antt-project", self.path("rattle/logic/antt-project.json"), "--logic-built", self.path("logic_built")]
-        words += ["--links", f"{crate}=", "--jobs", str(jobs), "-o", str(made_of(crate))]
-        return [*words, "--toolchain", self.path("toolchain"), "--backend", "llvm"] if is_program else [*words, "--statements"]
+        return [*words, "--links", f"{crate}=", "--jobs", str(jobs)]
+
+    def words_to_build(self, crate, stands_on, jobs):
+        """The command that proves a crate, and writes what it makes of it."""
+        words = [*self.words("build", crate, stands_on, jobs), "-o", str(made_of(crate))]
+        return [*words, "--toolchain", self.path("toolchain"), "--backend", "llvm"] if crate == PROGRAM else [*words, "--statements"]
 
     def words_to_link(self, program):
         words = [self.path("bin/rattle-link"), "--target", TARGET, "--toolchain", self.path("toolchain"), "-o", str(program), str(made_of(PROGRAM))]
