@@ -1,6 +1,7 @@
 -- What the rows of a statement are made of: which rows are left, and what is found in the place of the next one. Private clauses alone
 -- cite this.
-use Rattle.std.specs.Prelude.{◌≡◌, ℕ, ◌+◌, List, [], ◌∷◌, ◌++◌, map, Option, None, Some, Result, Ok, Err, All as Each}
+use Rattle.std.specs.Prelude.{◌≡◌, ℕ, ◌+◌, List, [], ◌∷◌, ◌++◌, map, Option, None, Some, Result, Ok, Err, Box, All as Each}
+use Rattle.std.specs.declared.alloc.Global.{Global}
 use Rattle.sj_base.specs.declared.memory.Memory.{Memory}
 use Rattle.sj_base.specs.declared.state.State.{State}
 use Rattle.sj_value.specs.Values.{IsPrintable}
@@ -26,13 +27,13 @@ use Rattle.sj_select.specs.declared.table.TableRows.{TableRows}
 
 -- ---- what is left
 
-abbrev pub left_beside : Option TableRows → List b.Item → Line → StatementRows
+abbrev pub left_beside : Option (Box TableRows Global) → List b.Item → Line → StatementRows
 left_beside None items line = one_row (given_list line [] (values_in items))
-left_beside (Some t) items line = over_rows line (table_of t.table.now) (values_in items) (aggregates_in items) (plan_left t)
+left_beside (Some t) items line = over_rows line (table_of t.value.table.now) (values_in items) (aggregates_in items) (plan_left t.value)
 
-abbrev pub due_beside : Option TableRows → List b.Item → Line → ℕ
+abbrev pub due_beside : Option (Box TableRows Global) → List b.Item → Line → ℕ
 due_beside None items line = list_cost line [] (values_in items)
-due_beside (Some t) items line = plan_due t + over_cost line (table_of t.table.now) (values_in items) (aggregates_in items) (plan_left t)
+due_beside (Some t) items line = plan_due t.value + over_cost line (table_of t.value.table.now) (values_in items) (aggregates_in items) (plan_left t.value)
 
 -- the rows that are left of a statement for a line
 abbrev pub source_left : b.Bound → Line → RowSource → StatementRows
@@ -47,18 +48,18 @@ listed_due line list t = plan_due t + listed_cost line (table_of t.table.now) li
 
 -- ---- of which statement
 
-abbrev pub IsTableOf : Option TableRows → Option b.Table → Type 0
+abbrev pub IsTableOf : Option (Box TableRows Global) → Option b.Table → Type 0
 IsTableOf None table = table ≡ None
-IsTableOf (Some t) table = table ≡ Some (table_of t.table.now)
+IsTableOf (Some t) table = table ≡ Some (table_of t.value.table.now)
 
 pub record IsFor (s : b.Bound) (r : RowSource) : Type 0 where
   pub finds : steps_of r.operations.items ≡ steps_to_all (values_in s.items)
   pub takes : map aggregate_of r.aggregates.items ≡ aggregates_in s.items
   pub table : IsTableOf r.table s.table
 
-abbrev pub IsPlacedIfAny : Option TableRows → Type 0
+abbrev pub IsPlacedIfAny : Option (Box TableRows Global) → Type 0
 IsPlacedIfAny None = Unit {0}
-IsPlacedIfAny (Some t) = IsPlaced t
+IsPlacedIfAny (Some t) = IsPlaced t.value
 
 -- all that asking for a row needs
 pub record IsReadySource (r : RowSource) : Type 0 where

@@ -17,7 +17,7 @@ ghost use Rattle.sj_select.specs.Sources.{IsFor, IsReadySource, source_left, sou
 ghost use Rattle.sj_select.specs.Tables.{IsPlaced, plan_left, plan_due};
 
 use crate::table::TableRows;
-use sj_base::{Ledger, Memory, State, Steps};
+use sj_base::{Ledger, Memory, State, Steps, boxed};
 use sj_bound::Bound;
 use sj_select_list::{
     Aggregate, LineDoc, Operation, Stack, aggregates_of, begin_all, find_list, finish_all,
@@ -42,8 +42,8 @@ pub(crate) enum Found {
 /// What the rows of a statement are made of. Its cursors take their memory once, and then go from line to line.
 #[derive(Drop)]
 pub(crate) struct RowSource<'d> {
-    /// The table, where there is one.
-    pub(crate) table: Option<TableRows<'d>>,
+    /// The table, where there is one. It has a place of its own, since many statements have none.
+    pub(crate) table: Option<Box<TableRows<'d>>>,
     /// The operations that find the values of the SELECT list.
     pub(crate) operations: Vec<Operation<'d>>,
     /// The aggregates of the SELECT list.
@@ -63,7 +63,7 @@ impl<'d> RowSource<'d> {
         ensures is_for { IfOk result (IsFor (bound_of bound.now)) }
     {
         let table = match &bound.table {
-            Some(table) => Some(TableRows::new(alloc, table)?),
+            Some(table) => Some(boxed(alloc, TableRows::new(alloc, table)?)?),
             None => None,
         };
         Ok(RowSource {

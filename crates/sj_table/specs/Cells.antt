@@ -28,7 +28,7 @@ use Rattle.sj_table.specs.declared.cells.Hand.TheVariants as hands
 -- ---- the plans
 
 abbrev pub path_source : PathCell → Source
-path_source c = record { number = c.number; trace = λ x. path_trace (path_of c.run.cursor.path) c.run.cursor.vars x }
+path_source c = record { number = c.number; trace = λ x. path_trace (path_of c.run.cursor.value.path) c.run.cursor.value.vars x }
 
 abbrev pub core : Cell → SourcePlan
 core (cells.Single c) = single (path_source c)
@@ -100,14 +100,14 @@ stage_left stages.Unasked all left = all
 stage_left stages.Entered all left = left
 
 abbrev pub entries_left : TableAction → PathCell → ItemValue → Series Entry
-entries_left action c x = stage_left c.stage (entries action (path_source c) x) (entries_to_end c.number (c.ordinal + 1) c.run.cursor.left)
+entries_left action c x = stage_left c.stage (entries action (path_source c) x) (entries_to_end c.number (c.ordinal + 1) c.run.cursor.value.left)
 
 abbrev pub stage_due : Stage → ℕ → ℕ → ℕ
 stage_due stages.Unasked all left = all
 stage_due stages.Entered all left = left
 
 abbrev pub entries_due : PathCell → ItemValue → ℕ
-entries_due c x = stage_due c.stage (2 * visits ((path_source c).trace x)) (visits c.run.cursor.left)
+entries_due c x = stage_due c.stage (2 * visits ((path_source c).trace x)) (visits c.run.cursor.value.left)
 
 -- ---- the rows that a cell has left
 

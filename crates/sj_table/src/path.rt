@@ -39,7 +39,7 @@ impl<'d> PathCell<'d> {
     fn enter<L: Ledger>(&mut self, parent: &Item<'d>, steps: &mut Steps<L>) -> Option<State>
         ensures fault { result ≡ fault_of ((path_source self.old).trace (item_value parent.now)) }
         ensures costs { steps.new ≤ raised steps.old (visits ((path_source self.old).trace (item_value parent.now))) }
-        ensures left { self.new.run.cursor.left ≡ (path_source self.old).trace (item_value parent.now) }
+        ensures left { self.new.run.cursor.value.left ≡ (path_source self.old).trace (item_value parent.now) }
         ensures ordinal { self.new.ordinal ≡ 0 }
         ensures stage { self.new.stage ≡ Stage.Entered }
         ensures same { path_source self.new ≡ path_source self.old }
@@ -53,7 +53,7 @@ impl<'d> PathCell<'d> {
 
     // The next of the items that the cursor has left.
     fn advance<L: Ledger>(&mut self, steps: &mut Steps<L>) -> RowPull
-        ensures takes { Takes (entries_to_end self.old.number (self.old.ordinal + 1) self.old.run.cursor.left) (visits self.old.run.cursor.left) result (entry_at self.new) (entries_to_end self.new.number (self.new.ordinal + 1) self.new.run.cursor.left) (visits self.new.run.cursor.left) steps.old steps.new }
+        ensures takes { Takes (entries_to_end self.old.number (self.old.ordinal + 1) self.old.run.cursor.value.left) (visits self.old.run.cursor.value.left) result (entry_at self.new) (entries_to_end self.new.number (self.new.ordinal + 1) self.new.run.cursor.value.left) (visits self.new.run.cursor.value.left) steps.old steps.new }
         ensures stage { self.new.stage ≡ self.old.stage }
         ensures same { path_source self.new ≡ path_source self.old }
     {

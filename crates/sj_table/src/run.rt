@@ -9,7 +9,7 @@ ghost use Rattle.sj_cursor.specs.FaultFree.{fault_free};
 ghost use Rattle.sj_cursor.specs.Meaning.{path_trace};
 ghost use Rattle.sj_table.specs.declared.run.Faults.TheVariants.{Never};
 
-use sj_base::{Ledger, Memory, State, Steps};
+use sj_base::{Ledger, Memory, State, Steps, boxed};
 use sj_cursor::{Cursor, is_fault_free};
 use sj_item::{Item, Pull};
 use sj_path_tree::{Path, Vars};
@@ -24,22 +24,23 @@ pub(crate) enum Faults {
     Possible,
 }
 
-/// The cursor of a path, and whether the path may end in a fault.
+/// The cursor of a path, and whether the path may end in a fault. The cursor has a place of its own, so that the cells stay small.
 #[derive(Drop)]
 pub(crate) struct Run<'d> {
-    cursor: Cursor<'d>,
+    cursor: Box<Cursor<'d>>,
     faults: Faults,
-    ghost never: { faults ≡ Never → fault_free (path_of cursor.path) ≡ true },
+    ghost never: { faults ≡ Never → fault_free (path_of cursor.value.path) ≡ true },
 }
 
 impl<'d> Run<'d> {
     /// A path that was run under no item yet. It takes all memory that running it will use.
     pub(crate) fn new(alloc: Global, path: &'d Path, vars: &'d Vars) -> Result<Run<'d>, Memory>
-        ensures path { IfOk result (λ r. r.cursor.path ≡ path.now) }
-        ensures vars { IfOk result (λ r. r.cursor.vars ≡ vars.now) }
+        ensures path { IfOk result (λ r. r.cursor.value.path ≡ path.now) }
+        ensures vars { IfOk result (λ r. r.cursor.value.vars ≡ vars.now) }
     {
+        let cursor = Cursor::new(alloc, path, vars, Item::Null)?;
         Ok(Run {
-            cursor: Cursor::new(alloc, path, vars, Item::Null)?,
+            cursor: boxed(alloc, cursor)?,
             faults: faults_of(path),
         })
     }
@@ -50,10 +51,10 @@ impl<'d> Run<'d> {
         parent: &Item<'d>,
         steps: &mut Steps<L>,
     ) -> Option<State>
-        ensures fault { result ≡ fault_of (path_trace (path_of self.old.cursor.path) self.old.cursor.vars (item_value parent.now)) }
-        ensures costs { steps.new ≤ raised steps.old (visits (path_trace (path_of self.old.cursor.path) self.old.cursor.vars (item_value parent.now))) }
-        ensures path { self.new.cursor.path ≡ self.old.cursor.path }
-        ensures vars { self.new.cursor.vars ≡ self.old.cursor.vars }
+        ensures fault { result ≡ fault_of (path_trace (path_of self.old.cursor.value.path) self.old.cursor.value.vars (item_value parent.now)) }
+        ensures costs { steps.new ≤ raised steps.old (visits (path_trace (path_of self.old.cursor.value.path) self.old.cursor.value.vars (item_value parent.now))) }
+        ensures path { self.new.cursor.value.path ≡ self.old.cursor.value.path }
+        ensures vars { self.new.cursor.value.vars ≡ self.old.cursor.value.vars }
     {
         match self.faults {
             Faults::Never => None,
@@ -66,18 +67,18 @@ impl<'d> Run<'d> {
 
     /// From the beginning, under an item.
     pub(crate) fn rewind(&mut self, parent: &Item<'d>)
-        ensures left { self.new.cursor.left ≡ path_trace (path_of self.old.cursor.path) self.old.cursor.vars (item_value parent.now) }
-        ensures path { self.new.cursor.path ≡ self.old.cursor.path }
-        ensures vars { self.new.cursor.vars ≡ self.old.cursor.vars }
+        ensures left { self.new.cursor.value.left ≡ path_trace (path_of self.old.cursor.value.path) self.old.cursor.value.vars (item_value parent.now) }
+        ensures path { self.new.cursor.value.path ≡ self.old.cursor.value.path }
+        ensures vars { self.new.cursor.value.vars ≡ self.old.cursor.value.vars }
     {
         self.cursor.rewind(*parent);
     }
 
     /// The next item, or the end.
     pub(crate) fn next<L: Ledger>(&mut self, steps: &mut Steps<L>) -> Pull<'d>
-        ensures answers { Draws self.old.cursor.left (pull_value result) self.new.cursor.left steps.old steps.new }
-        ensures path { self.new.cursor.path ≡ self.old.cursor.path }
-        ensures vars { self.new.cursor.vars ≡ self.old.cursor.vars }
+        ensures answers { Draws self.old.cursor.value.left (pull_value result) self.new.cursor.value.left steps.old steps.new }
+        ensures path { self.new.cursor.value.path ≡ self.old.cursor.value.path }
+        ensures vars { self.new.cursor.value.vars ≡ self.old.cursor.value.vars }
     {
         self.cursor.next(steps)
     }
