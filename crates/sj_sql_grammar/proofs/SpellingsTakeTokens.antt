@@ -9,7 +9,7 @@ use Rattle.sj_sql_token.specs.Same.{same}
 use Rattle.sj_sql_token.proofs.Keywords.{same_is}
 use Rattle.sj_path_tree.specs.declared.parts.Literal.TheVariants as l
 use Rattle.sj_sql_grammar.specs.declared.clauses.TypeName.{TypeName}
-use Rattle.sj_sql_grammar.specs.Phrases.{Tokens, Phrase, if_some, word, open_at, close_at, comma_at, colon_at, string_at, count_at, number_at, name_at, doc_at, meant, passing, constant_of, literal_at, sized, varchar_at, fixed_at, numeric_at, type_from, type_at, encoding_of, encoding_at, format_at, passed_at, on_at, exists_action_of, exists_clause_at, returning_at, value_action_of, value_action_at, value_clause_at, query_action_of, emptied_of, query_action_at, query_clause_at, condition_of, wrapped, wrapper_at, quotes_of, quotes_at, not_at, unique_of, unique_at, nulls_of, nulls_at, alias_at, table_alias_at, path_name_at, path_at, nested_path_at, formatted_at, existence_at, table_action_of, table_clause_at, in_out_of, siblings_of, default_at}
+use Rattle.sj_sql_grammar.specs.Phrases.{Tokens, Phrase, if_some, word, open_at, close_at, comma_at, colon_at, string_at, count_at, number_at, name_at, doc_at, meant, skip_word, constant_of, literal_at, sized, varchar_at, fixed_at, numeric_at, type_from, type_at, encoding_of, encoding_at, format_at, passed_at, on_at, exists_action_of, exists_clause_at, returning_at, value_action_of, value_action_at, value_clause_at, query_action_of, emptied_of, query_action_at, query_clause_at, condition_of, wrapped, wrapper_at, quotes_of, quotes_at, not_at, unique_of, unique_at, nulls_of, nulls_at, alias_at, table_alias_at, path_name_at, path_at, nested_path_at, formatted_at, existence_at, table_action_of, table_clause_at, in_out_of, siblings_of, default_at}
 use Rattle.sj_sql_grammar.specs.Reading.{has_from}
 use Rattle.sj_sql_grammar.proofs.ReadTokens.{If, nothing, here, then, given, either, chosen, weaken, said}
 
@@ -114,8 +114,8 @@ meant_eats f none (k.Word v text ∷ ts) = given _ _ (λ a h. here (word_taken v
     none_some q = cc
 meant_eats f none _ = nothing
 
-pub passing_passes : (v : Keyword) (ts : Tokens) → same v w.From ≡ false → Passes ts (passing v ts)
-passing_passes v ts h = go (word v ts) (word_eats v ts h)
+pub skip_word_passes : (v : Keyword) (ts : Tokens) → same v w.From ≡ false → Passes ts (skip_word v ts)
+skip_word_passes v ts h = go (word v ts) (word_eats v ts h)
   where
     go : (o : Option Tokens) → If (Eats ts) o → Passes ts (if_some o (λ rest. rest) ts)
     go None p = stays ts
@@ -232,7 +232,7 @@ unfolding query_clause_at
 query_clause_eats cause c ts = on_eats cause c query_action_at ts (query_action_eats ts)
 
 wrapped_eats : (x : _) (ts : Tokens) → If (Takes ts) (wrapped x ts)
-wrapped_eats x ts = then _ _ (word_eats w.Wrapper (passing w.Array ts) refl) (λ rest e. here (and_eats (passing_passes w.Array ts refl) e))
+wrapped_eats x ts = then _ _ (word_eats w.Wrapper (skip_word w.Array ts) refl) (λ rest e. here (and_eats (skip_word_passes w.Array ts refl) e))
 
 pub wrapper_eats : (ts : Tokens) → If (Takes ts) (wrapper_at ts)
 unfolding wrapper_at
@@ -260,7 +260,7 @@ not_eats ts = then _ _ (word_eats w.Not ts refl) (λ rest e. here e)
 
 pub unique_eats : (ts : Tokens) → If (Takes ts) (unique_at ts)
 unfolding unique_at
-unique_eats ts = then _ _ (meant_eats unique_of refl ts) (λ u e. then _ _ (word_eats w.Unique u.1 refl) (λ a g. here (eats (joined e g) (passing_passes w.Keys a refl))))
+unique_eats ts = then _ _ (meant_eats unique_of refl ts) (λ u e. then _ _ (word_eats w.Unique u.1 refl) (λ a g. here (eats (joined e g) (skip_word_passes w.Keys a refl))))
 
 pub nulls_eats : (ts : Tokens) → If (Takes ts) (nulls_at ts)
 unfolding nulls_at
@@ -274,7 +274,7 @@ alias_eats ts = then _ _ (word_eats w.As ts refl) (λ a e. weaken (λ x g. joine
 
 pub table_alias_eats : (ts : Tokens) → If (Takes ts) (table_alias_at ts)
 unfolding table_alias_at
-table_alias_eats ts = weaken (λ x e. and_eats (passing_passes w.As ts refl) e) (name_eats (passing w.As ts))
+table_alias_eats ts = weaken (λ x e. and_eats (skip_word_passes w.As ts refl) e) (name_eats (skip_word w.As ts))
 
 pub path_name_eats : (ts : Tokens) → If (Takes ts) (path_name_at ts)
 unfolding path_name_at
@@ -286,7 +286,7 @@ path_eats ts = then _ _ (then _ _ (word_eats w.Path ts refl) (λ a e. weaken (λ
 
 pub nested_path_eats : (ts : Tokens) → If (Takes ts) (nested_path_at ts)
 unfolding nested_path_at
-nested_path_eats ts = then _ _ (string_eats (passing w.Path ts)) (λ s e. here (and_eats (passing_passes w.Path ts refl) e))
+nested_path_eats ts = then _ _ (string_eats (skip_word w.Path ts)) (λ s e. here (and_eats (skip_word_passes w.Path ts refl) e))
 
 pub formatted_eats : (ts : Tokens) → If (Eats ts) (formatted_at ts)
 unfolding formatted_at
