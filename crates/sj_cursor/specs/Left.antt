@@ -84,7 +84,7 @@ abbrev mutual
   pub core : Cell → t.Expr
   core (cells.One o) = source_expr o.source
   core (cells.Each' p input walk operator) = doing_on (doing operator) (core input)
-  core (cells.Binary' op p a v q b w reached) = t.Binary op (core a) (core b)
+  core (cells.Binary' r op p a v q b w reached) = t.Binary op (core a) (core b)
 
   pub doing : Operator → Doing
   doing (operators.Simple a) = Acts a.simple
@@ -97,10 +97,10 @@ abbrev mutual
 
   pub bounds_core : Bounds → t.Sub
   bounds_core (bounds_.One' p c walk) = t.One (core c)
-  bounds_core (bounds_.Range' p a v q b w) = t.Range (core a) (core b)
+  bounds_core (bounds_.Range' r p a v q b w) = t.Range (core a) (core b)
 
   pub test_core : Test → t.Pred
-  test_core (tests.Compare' op p a v q b w) = t.Compares op (core a) (core b)
+  test_core (tests.Compare' r op p a v q b w) = t.Compares op (core a) (core b)
   test_core (tests.And' p x q y) = t.And (test_core x) (test_core y)
   test_core (tests.Or' p x q y) = t.Or (test_core x) (test_core y)
   test_core (tests.Not' p x) = t.Not (test_core x)
@@ -180,7 +180,7 @@ abbrev pub left : Cell → Env → Trace
 left (cells.One o) env = one_left o env
 left (cells.Each' p input walk operator) env =
     join (operator_left operator env) (each (join (walk_left walk) (each (left input env) (opened (doing_opening (doing operator)) env.mode))) (done (doing operator) env))
-left (cells.Binary' op p a v q b w reached) env = begun_left reached (meaning (t.Binary op (core a) (core b)) env)
+left (cells.Binary' r op p a v q b w reached) env = begun_left reached (meaning (t.Binary op (core a) (core b)) env)
 
 abbrev pub operand_left : Opening → Operand → Env → Trace
 operand_left how o env = join (walk_left o.opened) (each (left o.cell.value env) (opened how env.mode))

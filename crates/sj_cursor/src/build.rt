@@ -7,7 +7,7 @@ ghost use Rattle.sj_path_tree.specs.Tree as tree;
 ghost use Rattle.sj_path_tree.specs.View.{expr_of, step_of, sub_of, subs_of, pred_of};
 ghost use Rattle.sj_cursor.specs.Cells.{source_expr, simple_on};
 ghost use Rattle.sj_cursor.specs.Ends.{ends_core};
-ghost use Rattle.sj_cursor.specs.Left.{core, doing, doing_on, part_core, parts_core, test_core};
+ghost use Rattle.sj_cursor.specs.Left.{core, doing, doing_on, part_core, parts_core, range_core, test_core};
 
 use crate::cells::{
     Applied, At, Binary, Both, Bounds, Cell, Comparison, Each, Elements, Filter, MoreParts, One,
@@ -22,7 +22,7 @@ use std::alloc::Global;
 #[derive(Drop)]
 enum Ends<'d> {
     One(Box<Cell<'d>>),
-    Range(Box<Cell<'d>>, Box<Cell<'d>>),
+    Range(Box<Range<'d>>),
 }
 
 /// The cells of two expressions.
@@ -94,13 +94,14 @@ fn binary<'d>(alloc: Global, op: Arith, operands: TwoCells<'d>) -> Result<Box<Ce
     ensures { IfOk result (λ c. core c.value ≡ tree.Binary op (core operands.entry.0.value) (core operands.entry.1.value)) }
 {
     let (left, right) = operands;
-    let cell = Cell::Binary(Binary {
+    let binary = Binary {
         op,
         left: operand(left),
         right: operand(right),
         reached: Reached::Unasked,
-    });
-    boxed(alloc, cell)
+    };
+    let binary = boxed(alloc, binary)?;
+    boxed(alloc, Cell::Binary(binary))
 }
 
 // Where memory runs out, what was made is given up by one call.
@@ -222,9 +223,24 @@ fn ends_cell<'d>(alloc: Global, sub: &'d Sub) -> Result<Ends<'d>, Memory>
         Sub::One(index) => Ok(Ends::One(expr_cell(alloc, index)?)),
         Sub::Range(from, to) => {
             let (from, to) = two_cells(alloc, from, to)?;
-            Ok(Ends::Range(from, to))
+            Ok(Ends::Range(range(alloc, from, to)?))
         }
     }
+}
+
+#[inline(never)]
+fn range<'d>(
+    alloc: Global,
+    from: Box<Cell<'d>>,
+    to: Box<Cell<'d>>,
+) -> Result<Box<Range<'d>>, Memory>
+    ensures { IfOk result (λ r. range_core r.value ≡ tree.Range (core from.entry.value) (core to.entry.value)) }
+{
+    let range = Range {
+        from: operand(from),
+        to: operand(to),
+    };
+    boxed(alloc, range)
 }
 
 fn part<'d>(ends: Ends<'d>) -> Part<'d>
@@ -232,10 +248,7 @@ fn part<'d>(ends: Ends<'d>) -> Part<'d>
 {
     let bounds = match ends {
         Ends::One(index) => Bounds::One(operand(index)),
-        Ends::Range(from, to) => Bounds::Range(Range {
-            from: operand(from),
-            to: operand(to),
-        }),
+        Ends::Range(range) => Bounds::Range(range),
     };
     Part {
         bounds,
@@ -314,7 +327,8 @@ fn comparison<'d>(
     let (left, right) = operands;
     let right = operand(right);
     let left = operand(left);
-    boxed(alloc, Test::Compare(Comparison { op, left, right }))
+    let comparison = boxed(alloc, Comparison { op, left, right })?;
+    boxed(alloc, Test::Compare(comparison))
 }
 
 #[inline(never)]

@@ -1,6 +1,6 @@
 // The cells of a path: one for each part of its tree, each owning the cells that it asks. A cell holds where it stands, and no
-// list of items.
-ghost use Rattle.std.specs.Prelude.{◌<◌, unsigned_abs};
+// list of items. What holds two operands has a place of its own, since it is far larger than all else that may stand there.
+ghost use Rattle.std.specs.Prelude.{◌≡◌, ◌<◌, unsigned_abs};
 ghost use Rattle.sj_decimal.specs.Limits.{magnitude_limit};
 
 use sj_base::State;
@@ -17,7 +17,7 @@ pub(crate) enum Cell<'d> {
     /// An accessor, a method or a sign on each item of an expression.
     Each(Each<'d>),
     /// Arithmetic on two operands.
-    Binary(Binary<'d>),
+    Binary(Box<Binary<'d>>),
 }
 
 // A loop, since a path of some hundred parts is a chain of as many cells: a drop that calls itself would take stack for each.
@@ -27,20 +27,15 @@ impl<'d> Drop for Cell<'d> {
         loop {
             match self {
                 Cell::One(_) => return,
-                Cell::Each(
-                    Each {
-                        input: Operand { cell, opened: _ },
-                        operator: _,
-                    },
-                ) => self = Box::into_inner(cell),
-                Cell::Binary(
-                    Binary {
-                        op: _,
-                        left: Operand { cell, opened: _ },
-                        right: _,
-                        reached: _,
-                    },
-                ) => self = Box::into_inner(cell),
+                Cell::Each(each) => {
+                    let Each { input, operator: _ } = each;
+                    let Operand { cell, opened: _ } = input;
+                    self = Box::into_inner(cell);
+                }
+                Cell::Binary(binary) => {
+                    let Operand { cell, opened: _ } = Box::into_inner(binary).into_left();
+                    self = Box::into_inner(cell);
+                }
             }
         }
     }
@@ -193,14 +188,23 @@ pub(crate) struct Part<'d> {
 #[derive(Drop)]
 pub(crate) enum Bounds<'d> {
     One(Operand<'d>),
-    Range(Range<'d>),
+    Range(Box<Range<'d>>),
 }
 
 #[cycle(cells)]
-#[derive(Drop)]
 pub(crate) struct Range<'d> {
     pub(crate) from: Operand<'d>,
     pub(crate) to: Operand<'d>,
+}
+
+impl<'d> Drop for Range<'d> {
+    #[cycle(cells)]
+    fn drop(self) {
+        let Range {
+            from: _from,
+            to: _to,
+        } = self;
+    }
 }
 
 /// What a part reached of the item at hand.
@@ -213,7 +217,6 @@ pub(crate) enum Reached<'d> {
 
 /// Two operands, which are asked when the result is first asked.
 #[cycle(cells)]
-#[derive(Drop)]
 pub(crate) struct Binary<'d> {
     pub(crate) op: Arith,
     pub(crate) left: Operand<'d>,
@@ -221,10 +224,37 @@ pub(crate) struct Binary<'d> {
     pub(crate) reached: Reached<'d>,
 }
 
+impl<'d> Drop for Binary<'d> {
+    fn drop(self) {
+        let Binary {
+            op: _op,
+            left: _left,
+            right: _right,
+            reached: _reached,
+        } = self;
+    }
+}
+
+impl<'d> Binary<'d> {
+    // The left operand. All else is given up.
+    #[cycle(cells)]
+    fn into_left(self) -> Operand<'d>
+        ensures { result ≡ self.entry.left }
+    {
+        let Binary {
+            op: _op,
+            left,
+            right: _right,
+            reached: _reached,
+        } = self;
+        left
+    }
+}
+
 /// A predicate.
 #[cycle(cells)]
 pub(crate) enum Test<'d> {
-    Compare(Comparison<'d>),
+    Compare(Box<Comparison<'d>>),
     And(Both<'d>),
     Or(Both<'d>),
     Not(Box<Test<'d>>),
@@ -249,11 +279,21 @@ impl<'d> Drop for Test<'d> {
 }
 
 #[cycle(cells)]
-#[derive(Drop)]
 pub(crate) struct Comparison<'d> {
     pub(crate) op: Compare,
     pub(crate) left: Operand<'d>,
     pub(crate) right: Operand<'d>,
+}
+
+impl<'d> Drop for Comparison<'d> {
+    #[cycle(cells)]
+    fn drop(self) {
+        let Comparison {
+            op: _op,
+            left: _left,
+            right: _right,
+        } = self;
+    }
 }
 
 #[cycle(cells)]

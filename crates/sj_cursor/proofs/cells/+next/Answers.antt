@@ -190,7 +190,7 @@ Both::or-returns-in_default g t c = record {
 }
 
 pub Test::holds-returns-in-Not-clause-decides : goal.Test::holds-returns-in-Not-clause-decides
-Test::holds-returns-in-Not-clause-decides g t c = rw (c.in-Not.is, c.not.ensures) (not_decides _ _ _ _ (rw c.deref_mut.ensures.value at c.holds-in-Not.ensures.decides))
+Test::holds-returns-in-Not-clause-decides g t c = rw (c.in-Not.is, c.not.ensures) (not_decides _ _ _ _ (rw c.deref_mut-in-Not.ensures.value at c.holds-in-Not.ensures.decides))
 
 pub Test::holds-returns-in-IsUnknown-clause-decides : goal.Test::holds-returns-in-IsUnknown-clause-decides
 Test::holds-returns-in-IsUnknown-clause-decides g t c = rw (c.in-IsUnknown.is, c.is_unknown.ensures) (unknown_decides _ _ _ _ (rw c.deref_mut-in-IsUnknown.ensures.value at c.holds-in-IsUnknown.ensures.decides))
