@@ -11,11 +11,11 @@ from checks.times import clock
 
 EACH_TAKES = 3_000_000_000  # bytes of memory for a crate that is being proved: about 1.5 GB for each of its jobs, and most have one
 MINUTES = {  # of processor time, as measured where four proofs ran side by side
-    "sj_cursor": 14.6, "sj_select": 8.4, "sqljson": 8.3, "sj_path": 7.6, "sj_sql": 7.6, "sj_bind": 6.8, "sj_select_list": 6.8, "sj_table": 6.7, "sj_sql_phrase": 4.9,
-    "sj_build": 3, "sj_func": 2.7, "sj_read": 2.7, "sj_step": 2.4, "sj_doc": 2.3, "sj_decimal": 2.1, "sj_file": 2, "sj_sql_token": 2, "sj_base": 1, "sj_bound": 1,
-    "sj_path_grammar": 0.8, "sj_page": 0.7, "sj_generated": 0.6, "sj_json": 0.3,
+    "sj_cursor": 10.8, "sj_bind": 7.4, "sj_sql": 6.5, "sj_path": 6.1, "sj_select_list": 5.7, "sj_select": 4.8, "sj_sql_phrase": 3.9, "sqljson": 3.8, "sj_table": 3.3,
+    "sj_read": 2.5, "sj_doc": 2.3, "sj_build": 2.2, "sj_step": 1.9, "sj_decimal": 1.8, "sj_path_token": 1.8, "sj_sql_grammar": 1.7, "sj_method": 0.9, "sj_base": 0.7,
+    "sj_path_grammar": 0.7, "sj_bound": 0.6, "sj_page": 0.6, "sj_generated": 0.5, "sj_json": 0.3,
 }
-MINUTES_OF_OTHERS = 1.6
+MINUTES_OF_OTHERS = 1.4
 NEARLY = 2  # minutes: a chain that is shorter by less is as long as the longest
 PATIENCE = 2  # how much later, by `nice`, the processors come to a proof for each minute that it may wait, up to MOST_PATIENCE
 MOST_PATIENCE = 10
