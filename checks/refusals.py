@@ -225,9 +225,9 @@ def without_clause(call):
 
 
 def left_by(call, argument):
-    """What a refusal leaves in an argument, as far as the form of the clauses tells."""
+    """What a refusal leaves in an argument, as far as the form of the clauses tells. A list is as it was if it has the same items."""
     told = [text for name, text in call.clauses if {EVERY, REFUSED} & answers_of(text, argument)]
-    if any(re.fullmatch(rf"\s*(?:OnErr result \()?{argument}\.new ≡ {argument}\.old\)?\s*", text) for text in told):
+    if any(re.fullmatch(rf"\s*(?:OnErr result \()?{argument}\.new((?:\.items)?) ≡ {argument}\.old\1\)?\s*", text) for text in told):
         return AS_IT_WAS
     return LONGER if any(f"AppendsPrefix {argument}.old " in text for text in told) else BY_CLAUSES
 
