@@ -6,7 +6,7 @@ One process proves the crate once more, over the libraries of the build, and kee
 next is what the later one took. The table has the seconds by the clock for each function, and of these what its lifetimes and its goals took; the others
 went into what is stated of its types and its contract. Functions that call each other have one proof. It is named by a plus sign.
 """
-import re
+import argparse
 import subprocess
 import sys
 import tempfile
@@ -56,11 +56,13 @@ def shown(times):
 
 
 def main():
-    crate = sys.argv[1]
+    words = argparse.ArgumentParser(prog="checks.slowest", description="Prints which functions of a crate take longest to prove.")
+    words.add_argument("crate", choices=named(TOP), metavar="CRATE", help="a crate of crates.txt")
+    crate = words.parse_args().crate
     with tempfile.TemporaryDirectory() as kept:
-        words = [*Kit().words("check", crate, named(TOP)[crate], 1), "--incremental", kept]
+        command = [*Kit().words("check", crate, named(TOP)[crate], 1), "--incremental", kept]
         began = time.time()
-        if subprocess.run(words, cwd=TOP / "crates" / crate, stdin=subprocess.DEVNULL, stdout=sys.stderr).returncode:
+        if subprocess.run(command, cwd=TOP / "crates" / crate, stdin=subprocess.DEVNULL, stdout=sys.stderr).returncode:
             return 1
         files = [(it.stat().st_mtime, it.stem) for it in Path(kept).rglob("*.oantt") if it.parent.name != "records"]
     print(shown(times_of(began, files, crate)))
