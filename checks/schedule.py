@@ -11,13 +11,13 @@ from checks.times import clock
 
 EACH_TAKES = 3_000_000_000  # bytes of memory for a crate that is being proved: about 1.5 GB for each of its jobs, and most have one
 MINUTES = {  # of processor time, as measured where four proofs ran side by side
-    "sj_cursor": 10.8, "sj_bind": 7.4, "sj_sql": 6.5, "sj_path": 6.1, "sj_select_list": 5.7, "sj_select": 4.8, "sj_sql_phrase": 3.9, "sqljson": 3.8, "sj_table": 3.3,
-    "sj_read": 2.5, "sj_doc": 2.3, "sj_build": 2.2, "sj_step": 1.9, "sj_decimal": 1.8, "sj_path_token": 1.8, "sj_sql_grammar": 1.7, "sj_method": 0.9, "sj_base": 0.7,
-    "sj_path_grammar": 0.7, "sj_bound": 0.6, "sj_page": 0.6, "sj_generated": 0.5, "sj_json": 0.3,
+    "sj_cursor": 9.9, "sj_bind": 7.4, "sj_sql": 6.5, "sj_path": 6.1, "sj_select_list": 5.7, "sj_select": 4.8, "sj_sql_phrase": 3.9, "sqljson": 3.8, "sj_table": 3.3,
+    "sj_read": 2.5, "sj_doc": 2.3, "sj_build": 2.2, "sj_decimal": 1.8, "sj_path_token": 1.8, "sj_sql_grammar": 1.7, "sj_walk": 1.6, "sj_plain_path": 1.4, "sj_method": 0.9, "sj_base": 0.7,
+    "sj_path_grammar": 0.7, "sj_bound": 0.6, "sj_page": 0.6, "sj_generated": 0.5, "sj_step": 0.5, "sj_fault_free": 0.4, "sj_json": 0.3,
 }
 MINUTES_OF_OTHERS = 1.4
 NEARLY = 2  # minutes: a chain that is shorter by less is as long as the longest
-PATIENCE = 2  # how much later, by `nice`, the processors come to a proof for each minute that it may wait, up to MOST_PATIENCE
+PATIENCE = 0.5  # how much later, by `nice`, the processors come to a proof for each minute that it may wait, up to MOST_PATIENCE
 MOST_PATIENCE = 10
 PAUSE = 0.2  # seconds
 SHOWN = 20  # lines of a failed proof
@@ -101,7 +101,7 @@ class Schedule:
         """Starts the proof of a crate. A second job takes processor time of its own, so most have one, and together they fill the processors. One for which the
         longest chain waits has two, or as many as no other proof would take. The longer a proof may wait and hold up nothing, the later it comes."""
         self.left.remove(crate)
-        longest = max(self.behind[it] for it in [crate, *self.left, *(proof.crate for proof in self.running)])
+        longest = max([self.behind[it] for it in [crate, *self.left]] + [self.behind[it.crate] - it.age() / 60 for it in self.running])
         may_wait = longest - self.behind[crate]
         beside = len(self.running) + len(self.ready())
         jobs = max(min(2, processors()), processors() - beside) if may_wait < NEARLY else 1
