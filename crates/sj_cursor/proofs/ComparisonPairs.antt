@@ -4,9 +4,11 @@ use Rattle.std.specs.List.{list_any}
 use Rattle.sj_path_tree.specs.declared.parts.Mode.TheVariants.{Lax, Strict}
 use Rattle.sj_item.specs.Items.{ItemValue}
 use Rattle.sj_step.specs.Trace.{Trace, stop, fail, visit, give, items, count, visits, visits_before}
-use Rattle.sj_cursor.specs.Verdicts.{is_faulty, is_unknown}
-use Rattle.sj_cursor.specs.Comparisons.{PairTruth, is_true, some_pair, has_true, has_doubt, next_index, index_where, behind, here_or, first_true, up_to, compare_allow}
-use Rattle.sj_cursor.specs.Pairings.{pairing_true, pairing_doubt, pairing_cost, pairings_true, pairings_doubt, pairings_cost}
+use Rattle.sj_cursor.specs.Verdicts.{is_faulty}
+use Rattle.sj_plain_path.specs.Truths.{is_unknown, is_true}
+use Rattle.sj_cursor.specs.Comparisons.{PairTruth, some_pair, has_true, has_doubt, next_index, index_where, behind, here_or, first_true, up_to, compare_allow}
+use Rattle.sj_plain_path.specs.Pairings.{pairing_true, pairing_doubt, pairing_cost}
+use Rattle.sj_cursor.specs.Pairings.{pairings_true, pairings_doubt, pairings_cost}
 
 -- ---- truth
 

@@ -10,13 +10,15 @@ use Rattle.sj_item.specs.Truths.{truth_of}
 use Rattle.sj_item.specs.declared.truth.Truth.{Truth}
 use Rattle.sj_item.specs.declared.truth.Truth.TheVariants.{True, False, Unknown}
 use Rattle.sj_step.specs.Trace.{Trace, stop, fail, visit, give, only, items, count, visits}
-use Rattle.sj_cursor.specs.Verdicts.{is_unknown, is_faulty, has_item}
-use Rattle.sj_cursor.specs.Comparisons.{PairTruth, is_true, has_true, has_doubt, compare_truth, compare_allow, compare_verdict}
-use Rattle.sj_cursor.specs.Pairings.{pairing_true, pairing_doubt, pairing_cost, pairings_true, pairings_doubt, pairings_cost}
-use Rattle.sj_cursor.specs.PairingsSeen.{PairingSeen, PairingsSeen}
+use Rattle.sj_plain_path.specs.Truths.{is_unknown, is_true}
+use Rattle.sj_cursor.specs.Verdicts.{is_faulty, has_item}
+use Rattle.sj_cursor.specs.Comparisons.{PairTruth, has_true, has_doubt, compare_truth, compare_allow, compare_verdict}
+use Rattle.sj_plain_path.specs.Pairings.{pairing_true, pairing_doubt, pairing_cost, PairingSeen, decided_truth, pairing_truth}
+use Rattle.sj_cursor.specs.Pairings.{pairings_true, pairings_doubt, pairings_cost}
+use Rattle.sj_cursor.specs.PairingsSeen.{PairingsSeen}
 use Rattle.sj_cursor.specs.Asked.{Asked}
 use Rattle.sj_cursor.specs.Decides.{Decides}
-use Rattle.sj_cursor.specs.Cells.{is_lax, decided_truth, pairing_truth}
+use Rattle.sj_cursor.specs.Cells.{is_lax}
 use Rattle.sj_cursor.proofs.ComparisonPairs.{pairings_true_is, pairing_doubt_is, pairings_doubt_is, lax_allow_some, lax_allow_none, strict_allow_some, strict_allow_none}
 
 -- ---- whether there is a left item

@@ -22,13 +22,7 @@ mod ItemAnswers
 mod Parts
 -- for `next`
 mod Connectives
--- for `is_array`, and for other lemmas
-mod NotUnwrapped
 -- for `see_one`
 mod SingleItems
--- for `look_below` and `see_below`
-mod Takers
--- for `Cursor::look`, `collect`, `seek` and for other functions of plain paths
-mod Chains
--- for `fault_free_paths_end_well`, and for crates above
-pub mod WithoutFaults
+-- for `Cursor::look` and `Operand::keyed`
+mod PlainPaths

@@ -15,9 +15,10 @@ use Rattle.sj_cursor.specs.Verdicts.{exists_truth, exists_verdict, is_faulty, ha
 use Rattle.sj_cursor.specs.Draws.{Draws}
 use Rattle.sj_cursor.specs.Decides.{Decides}
 use Rattle.sj_cursor.specs.Answers.{unless_faulty, exists_answer, answer_in}
-use Rattle.sj_cursor.specs.Looks.{Found, none_found, one_found, several_found, Look, more, is_enough, looked, look_cost, Finds, limit_of_exists, limit_of_single, is_found, truth_unless, exists_in, single_found, single_in}
-use Rattle.sj_cursor.specs.declared.look.Limit.{Limit}
-use Rattle.sj_cursor.specs.declared.look.Limit.TheVariants as limits
+use Rattle.sj_plain_path.specs.Looks.{Found, none_found, one_found, several_found, Look, more, is_enough, looked, look_cost, Finds, limit_of_exists, limit_of_single, is_found, truth_unless, exists_in}
+use Rattle.sj_cursor.specs.Looks.{single_found, single_in}
+use Rattle.sj_plain_path.specs.declared.look.Limit.{Limit}
+use Rattle.sj_plain_path.specs.declared.look.Limit.TheVariants as limits
 use Rattle.sj_cursor.proofs.Draws.{draw_item, draw_end, draw_fault}
 
 -- ---- draw by draw

@@ -11,7 +11,7 @@ use Rattle.sj_method.specs.Methods.{method_of}
 use Rattle.sj_cursor.specs.Meaning.{Env, takes_arrays, meaning}
 use Rattle.sj_cursor.specs.Left.{Doing, Acts, Keeps, Picks, doing_on, doing_opening, doing_nodes, done, operand_whole}
 use Rattle.sj_cursor.specs.declared.cells.Simple.TheVariants as simples
-use Rattle.sj_cursor.specs.declared.cells.Opening.TheVariants.{AsItIs, Unwrapped}
+use Rattle.sj_plain_path.specs.declared.opening.Opening.TheVariants.{AsItIs, Unwrapped}
 
 pub as_it_is : (e : t.Expr) (env : Env) → operand_whole AsItIs e env ≡ meaning e env
 as_it_is e env = each-only (meaning e env)

@@ -6,10 +6,12 @@ use Rattle.sj_base.specs.Count.{raised}
 use Rattle.sj_base.specs.declared.state.State.{State}
 use Rattle.sj_item.specs.Items.{ItemValue, gives, ends, faults}
 use Rattle.sj_step.specs.Trace.{Trace, stop, fail, give, after_visits, count, visits_to_first}
-use Rattle.sj_cursor.specs.Verdicts.{is_unknown, has_item}
-use Rattle.sj_cursor.specs.Comparisons.{PairTruth, is_true}
-use Rattle.sj_cursor.specs.Pairings.{ItemTruth, pairing_true, pairing_doubt, pairing_cost, pairings_true, pairings_doubt, pairings_cost}
-use Rattle.sj_cursor.specs.PairingsSeen.{PairingSeen, PairingsSeen}
+use Rattle.sj_plain_path.specs.Truths.{is_unknown, is_true}
+use Rattle.sj_cursor.specs.Verdicts.{has_item}
+use Rattle.sj_cursor.specs.Comparisons.{PairTruth}
+use Rattle.sj_plain_path.specs.Pairings.{ItemTruth, pairing_true, pairing_doubt, pairing_cost, PairingSeen}
+use Rattle.sj_cursor.specs.Pairings.{pairings_true, pairings_doubt, pairings_cost}
+use Rattle.sj_cursor.specs.PairingsSeen.{PairingsSeen}
 use Rattle.sj_cursor.specs.Draws.{Draws}
 use Rattle.sj_cursor.proofs.Draws.{draw_item, draw_end, draw_fault}
 

@@ -9,14 +9,13 @@ use Rattle.sj_item.specs.Items.{ItemValue}
 use Rattle.sj_step.specs.Trace.{Trace, only, each}
 use Rattle.sj_step.specs.Reach.{unwrap}
 use Rattle.sj_cursor.specs.Cells.{source_value, source_expr}
-use Rattle.sj_cursor.specs.Chains.{node_value, IsLaxNode}
-use Rattle.sj_cursor.specs.Comparisons.{is_true}
+use Rattle.sj_plain_path.specs.Chains.{node_value}
+use Rattle.sj_cursor.specs.LaxNodes.{IsLaxNode}
+use Rattle.sj_plain_path.specs.Truths.{is_true, is_unknown}
 use Rattle.sj_cursor.specs.Left.{operand_whole}
 use Rattle.sj_cursor.specs.Meaning.{Env, meaning}
-use Rattle.sj_cursor.specs.Pairings.{ItemTruth}
-use Rattle.sj_cursor.specs.PairingsSeen.{PairingSeen}
-use Rattle.sj_cursor.specs.Verdicts.{is_unknown}
-use Rattle.sj_cursor.specs.declared.cells.Opening.TheVariants.{Unwrapped}
+use Rattle.sj_plain_path.specs.Pairings.{ItemTruth, PairingSeen}
+use Rattle.sj_plain_path.specs.declared.opening.Opening.TheVariants.{Unwrapped}
 use Rattle.sj_cursor.specs.declared.cells.Source.{Source}
 use Rattle.sj_cursor.specs.declared.cells.Source.TheVariants as sources
 

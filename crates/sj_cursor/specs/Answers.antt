@@ -8,7 +8,7 @@ use Rattle.sj_item.specs.declared.item.Item.{Item}
 use Rattle.sj_step.specs.Trace.{Trace, fault_of}
 use Rattle.sj_cursor.specs.Verdicts.{has_item}
 use Rattle.sj_cursor.specs.Single.{Single, bad, zero_items, one_item}
-use Rattle.sj_cursor.specs.Looks.{Look, is_found}
+use Rattle.sj_plain_path.specs.Looks.{Look, is_found}
 
 abbrev pub unless_faulty : Option State → Bool → Result Bool State
 unless_faulty None answer = Ok answer

@@ -1,30 +1,23 @@
 -- What cells are of, and what they have left.
-use Rattle.std.specs.Prelude.{Bool, true, false, ◌&&◌, if◌then◌else◌}
+use Rattle.std.specs.Prelude.{Bool, true, false, if◌then◌else◌}
 use Rattle.sj_path_tree.specs.declared.parts.Mode.{Mode}
 use Rattle.sj_path_tree.specs.declared.parts.Mode.TheVariants.{Lax, Strict}
 use Rattle.sj_path_tree.specs.declared.parts.Method.{Method}
 use Rattle.sj_path_tree.specs.Tree as t
 use Rattle.sj_item.specs.Items.{ItemValue, item_value, made_number}
-use Rattle.sj_item.specs.Truths.{truth_of}
-use Rattle.sj_item.specs.Pairs.{items_compare, item_starts_with}
-use Rattle.sj_item.specs.declared.truth.Truth.{Truth}
-use Rattle.sj_item.specs.declared.truth.Truth.TheVariants.{True, Unknown}
 use Rattle.sj_step.specs.Trace.{Trace, stop, only}
-use Rattle.sj_step.specs.Reach.{reach, by_key, all_members, all_elements, unwrap}
-use Rattle.sj_step.specs.Walk.{walk_left}
+use Rattle.sj_step.specs.Reach.{reach, by_key, all_members, all_elements}
+use Rattle.sj_walk.specs.Walk.{walk_left}
 use Rattle.sj_method.specs.Methods.{method_of, sign_of}
 use Rattle.sj_method.specs.Pairs.{pairs_left}
 use Rattle.sj_cursor.specs.Meaning.{Env, variable, takes_arrays}
 use Rattle.sj_step.specs.Literals.{literal_item}
-use Rattle.sj_cursor.specs.Pairings.{ItemTruth}
 use Rattle.sj_cursor.specs.declared.env.Env.{Env as EnvHeld}
-use Rattle.sj_cursor.specs.declared.pairing.Beside.{Beside}
-use Rattle.sj_cursor.specs.declared.pairing.Beside.TheVariants as besides
 use Rattle.sj_cursor.specs.declared.cells.Source.{Source}
 use Rattle.sj_cursor.specs.declared.cells.Source.TheVariants as sources
 use Rattle.sj_cursor.specs.declared.cells.One.{One as OneCell}
-use Rattle.sj_cursor.specs.declared.cells.Opening.{Opening}
-use Rattle.sj_cursor.specs.declared.cells.Opening.TheVariants.{AsItIs, Unwrapped}
+use Rattle.sj_plain_path.specs.declared.opening.Opening.{Opening}
+use Rattle.sj_plain_path.specs.declared.opening.Opening.TheVariants.{AsItIs, Unwrapped}
 use Rattle.sj_cursor.specs.declared.cells.Simple.{Simple}
 use Rattle.sj_cursor.specs.declared.cells.Simple.TheVariants as simples
 use Rattle.sj_cursor.specs.declared.cells.Results.{Results}
@@ -59,24 +52,7 @@ abbrev pub is_lax : Mode → Bool
 is_lax Lax = true
 is_lax Strict = false
 
-abbrev pub beside_truth : Beside → ItemTruth
-beside_truth (besides.Left op x) = items_compare op (item_value x.now)
-beside_truth (besides.Right op y) = λ x. items_compare op x (item_value y.now)
-beside_truth (besides.Initial i) = λ x. item_starts_with x (item_value i.now)
-
--- the truth where a true pair was found or not, and a doubt
-abbrev pub decided_truth : Bool → Bool → Truth
-decided_truth found doubt = if doubt then Unknown else truth_of found
-
--- the same, where a true pair decides before a doubt
-abbrev pub pairing_truth : Bool → Bool → Bool → Truth
-pairing_truth early found doubt = if early && found then True else decided_truth found doubt
-
 -- ---- acts
-
-abbrev pub opened : Opening → Mode → ItemValue → Trace
-opened AsItIs mode x = only x
-opened Unwrapped mode x = unwrap mode x
 
 abbrev pub results : Simple → Mode → ItemValue → Trace
 results (simples.Member key) mode x = reach (by_key key.now) mode x

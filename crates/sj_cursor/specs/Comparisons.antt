@@ -1,5 +1,5 @@
 -- A comparison of the items of two traces. It looks at the pairs of a left and a right item that stand before any fault.
-use Rattle.std.specs.Prelude.{ℕ, suc, ◌+◌, ◌*◌, max, Bool, true, false, ◌||◌, if◌then◌else◌, List, [], ◌∷◌, Option, Some, None}
+use Rattle.std.specs.Prelude.{ℕ, suc, ◌+◌, ◌*◌, max, Bool, true, ◌||◌, if◌then◌else◌, List, [], ◌∷◌, Option, Some, None}
 use Rattle.std.specs.List.{list_any}
 use Rattle.sj_path_tree.specs.declared.parts.Mode.{Mode}
 use Rattle.sj_path_tree.specs.declared.parts.Mode.TheVariants.{Lax, Strict}
@@ -8,16 +8,12 @@ use Rattle.sj_item.specs.Truths.{truth_of}
 use Rattle.sj_item.specs.declared.truth.Truth.{Truth}
 use Rattle.sj_item.specs.declared.truth.Truth.TheVariants.{True, False, Unknown}
 use Rattle.sj_step.specs.Trace.{Trace, items, count, visits, visits_before}
-use Rattle.sj_cursor.specs.Verdicts.{Verdict, is_faulty, is_unknown}
+use Rattle.sj_cursor.specs.Verdicts.{Verdict, is_faulty}
+use Rattle.sj_plain_path.specs.Truths.{is_true, is_unknown}
 
 -- the truth of a pair of items
 abbrev pub PairTruth : Type 0
 PairTruth = ItemValue → ItemValue → Truth
-
-abbrev pub is_true : Truth → Bool
-is_true True = true
-is_true False = false
-is_true Unknown = false
 
 -- some pair has such a truth
 abbrev pub some_pair : (Truth → Bool) → PairTruth → List ItemValue → List ItemValue → Bool

@@ -9,7 +9,7 @@ use Rattle.sj_item.specs.Items.{ItemValue, item_value, made_number}
 use Rattle.sj_path_tree.specs.Nodes.{pred_nodes, subs_nodes}
 use Rattle.sj_step.specs.Trace.{Trace, stop, fail, only, join, each}
 use Rattle.sj_step.specs.Reach.{reach, by_range, last}
-use Rattle.sj_step.specs.Walk.{walk_left}
+use Rattle.sj_walk.specs.Walk.{walk_left}
 use Rattle.sj_cursor.specs.Meaning.{Env, at_item, at_last, where_array, meaning, parts, part, verdict}
 use Rattle.sj_item.specs.Truths.{truth_of}
 use Rattle.sj_item.specs.declared.truth.Truth.{Truth}
@@ -18,11 +18,13 @@ use Rattle.sj_step.specs.declared.answer.Answer.{Answer}
 use Rattle.sj_step.specs.declared.answer.Answer.TheVariants as answers
 use Rattle.sj_method.specs.Numbers.{binary_of}
 use Rattle.sj_cursor.specs.Numbers.{followed}
-use Rattle.sj_cursor.specs.Verdicts.{filtered, is_unknown}
-use Rattle.sj_cursor.specs.Cells.{source_expr, one_left, opened, results, simple_opening, simple_on, results_left}
+use Rattle.sj_cursor.specs.Verdicts.{filtered}
+use Rattle.sj_plain_path.specs.Truths.{is_unknown}
+use Rattle.sj_cursor.specs.Cells.{source_expr, one_left, results, simple_opening, simple_on, results_left}
+use Rattle.sj_plain_path.specs.Openings.{opened}
 use Rattle.sj_cursor.specs.declared.cells.Simple.{Simple}
-use Rattle.sj_cursor.specs.declared.cells.Opening.{Opening}
-use Rattle.sj_cursor.specs.declared.cells.Opening.TheVariants.{AsItIs, Unwrapped}
+use Rattle.sj_plain_path.specs.declared.opening.Opening.{Opening}
+use Rattle.sj_plain_path.specs.declared.opening.Opening.TheVariants.{AsItIs, Unwrapped}
 use Rattle.sj_cursor.specs.declared.cells.Cell.{Cell}
 use Rattle.sj_cursor.specs.declared.cells.Cell.TheVariants as cells
 use Rattle.sj_cursor.specs.declared.cells.Operand.{Operand}

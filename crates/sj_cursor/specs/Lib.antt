@@ -5,7 +5,6 @@ pub mod Comparisons
 pub mod Pairings
 pub mod PairingsSeen
 pub mod Meaning
-pub mod FaultFree
 pub mod Draws
 pub mod Decides
 pub mod Looks
@@ -14,7 +13,6 @@ pub mod Asked
 pub mod Cells
 pub mod Left
 pub mod Ends
-pub mod Takers
-pub mod Chains
+pub mod LaxNodes
 pub mod Standing
 pub mod Sequel

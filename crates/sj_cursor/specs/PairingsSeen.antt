@@ -4,16 +4,10 @@ use Rattle.sj_base.specs.Count.{raised}
 use Rattle.sj_step.specs.Trace.{Trace}
 use Rattle.sj_cursor.specs.Comparisons.{PairTruth}
 use Rattle.sj_cursor.specs.Verdicts.{has_item}
-use Rattle.sj_cursor.specs.Pairings.{ItemTruth, pairing_true, pairing_doubt, pairing_cost, pairings_true, pairings_doubt, pairings_cost}
+use Rattle.sj_cursor.specs.Pairings.{pairings_true, pairings_doubt, pairings_cost}
 
--- All items of a trace were seen, or those up to the first one that passes the test where `early` is set: there is such a one, or
--- there is a doubt.
-pub record PairingSeen (early : Bool) (test : ItemTruth) (t : Trace) (found doubt : Bool) (steps later : ℕ) : Type 0 where
-  pub finds : found ≡ pairing_true test t
-  pub doubts : early && found ≡ false → doubt ≡ pairing_doubt test t
-  pub costs : later ≤ raised steps (pairing_cost early test t)
-
--- The same of all pairs, and whether there is a left item.
+-- All pairs were seen, or those up to the first true one where `early` is set: there is such a one, or there is a doubt; and there is a left
+-- item or not.
 pub record PairingsSeen (early : Bool) (pair : PairTruth) (left right : Trace) (found doubt some : Bool) (steps later : ℕ) : Type 0 where
   pub finds : found ≡ pairings_true pair left right
   pub doubts : early && found ≡ false → doubt ≡ pairings_doubt pair left right

@@ -2,10 +2,10 @@
 use Rattle.std.specs.Prelude.{◌≡◌, Option, IfSome}
 use Rattle.sj_path_tree.specs.Tree as t
 use Rattle.sj_step.specs.Trace.{Trace}
-use Rattle.sj_cursor.specs.Chains.{IsChainOf}
+use Rattle.sj_plain_path.specs.Chains.{IsChainOf}
 use Rattle.sj_cursor.specs.Left.{core}
 use Rattle.sj_cursor.specs.declared.cells.Cell.{Cell}
-use Rattle.sj_cursor.specs.declared.chain.Chain.{Chain}
+use Rattle.sj_plain_path.specs.declared.chain.Chain.{Chain}
 use Rattle.sj_cursor.specs.declared.cursor.Stands.{Stands}
 use Rattle.sj_cursor.specs.declared.cursor.Stands.TheVariants as stands
 

@@ -1,5 +1,5 @@
 -- The truth of a predicate, and the visits that finding it may take.
-use Rattle.std.specs.Prelude.{ℕ, ◌+◌, Bool, true, false, nat_lt, is_some, if◌then◌else◌}
+use Rattle.std.specs.Prelude.{ℕ, ◌+◌, Bool, true, nat_lt, is_some, if◌then◌else◌}
 use Rattle.sj_path_tree.specs.declared.parts.Mode.{Mode}
 use Rattle.sj_path_tree.specs.declared.parts.Mode.TheVariants.{Lax, Strict}
 use Rattle.sj_item.specs.Items.{ItemValue}
@@ -7,6 +7,7 @@ use Rattle.sj_item.specs.Truths.{conjunction, disjunction, negation, truth_of}
 use Rattle.sj_item.specs.declared.truth.Truth.{Truth}
 use Rattle.sj_item.specs.declared.truth.Truth.TheVariants.{True, False, Unknown}
 use Rattle.sj_step.specs.Trace.{Trace, stop, only, after_visits, count, fault_of}
+use Rattle.sj_plain_path.specs.Truths.{is_unknown}
 use Rattle.sj_cursor.specs.Single.{need}
 
 pub record Verdict : Type 0 where
@@ -39,11 +40,6 @@ or_verdict p q = record { truth = disjunction p.truth q.truth; allow = p.allow +
 
 unfoldable pub not_verdict : Verdict → Verdict
 not_verdict p = record { truth = negation p.truth; allow = p.allow }
-
-abbrev pub is_unknown : Truth → Bool
-is_unknown True = false
-is_unknown False = false
-is_unknown Unknown = true
 
 unfoldable pub unknown_verdict : Verdict → Verdict
 unknown_verdict p = record { truth = truth_of (is_unknown p.truth); allow = p.allow }

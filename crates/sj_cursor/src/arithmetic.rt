@@ -1,7 +1,7 @@
 // Two operands, and what is made of them.
 ghost use Rattle.std.specs.Prelude.{◌≡◌};
 ghost use Rattle.sj_step.specs.Answers.{answer_value};
-ghost use Rattle.sj_step.specs.Walk.{walk_left};
+ghost use Rattle.sj_walk.specs.Walk.{walk_left};
 ghost use Rattle.sj_cursor.specs.Cells.{env_value};
 ghost use Rattle.sj_cursor.specs.Draws.{Draws, Approaches};
 ghost use Rattle.sj_cursor.specs.Left as left_of;
@@ -14,7 +14,8 @@ use sj_decimal::Decimal;
 use sj_item::{Exact, Item};
 use sj_method::binary;
 use sj_path_tree::Arith;
-use sj_step::{Answer, Walk};
+use sj_step::Answer;
+use sj_walk::Walk;
 
 // A result of arithmetic, or its fault.
 fn computed<'d>(op: Arith, left: Decimal, right: Result<Decimal, State>) -> Walk<'d>

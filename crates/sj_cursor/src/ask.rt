@@ -2,13 +2,14 @@
 ghost use Rattle.std.specs.Prelude.{◌≡◌, ◌≤◌};
 ghost use Rattle.sj_base.specs.Count.{raised};
 ghost use Rattle.sj_cursor.specs.Answers.{exists_answer, single_value, answer_in};
-ghost use Rattle.sj_cursor.specs.Looks.{Finds, look_value, single_in};
+ghost use Rattle.sj_plain_path.specs.Looks.{Finds, look_value};
+ghost use Rattle.sj_cursor.specs.Looks.{single_in};
 ghost use Rattle.sj_cursor.specs.Single.{need, single};
 
 use crate::cursor::{Cursor, Stands};
-use crate::look::{Found, Limit, Look};
 use sj_base::{Ledger, State, Steps};
 use sj_item::Item;
+use sj_plain_path::{Found, Limit, Look};
 use sj_step::Answer;
 
 impl<'d> Cursor<'d> {
@@ -24,8 +25,8 @@ impl<'d> Cursor<'d> {
         ensures vars { self.new.vars ≡ self.old.vars }
         ensures root { self.new.root ≡ self.old.root }
     {
-        self.look(Limit::of_exists(self.mode()), steps)
-            .exists_or_fault()
+        let look = self.look(Limit::of_exists(self.mode()), steps);
+        exists_or_fault(look)
     }
 
     /// The only item that the path gives, from where the cursor stands, and `None` where it gives none. In lax mode a second item
@@ -46,8 +47,8 @@ impl<'d> Cursor<'d> {
         ensures vars { self.new.vars ≡ self.old.vars }
         ensures root { self.new.root ≡ self.old.root }
     {
-        self.look(Limit::of_single(self.mode()), steps)
-            .single_or_fault(several)
+        let look = self.look(Limit::of_single(self.mode()), steps);
+        single_or_fault(look, several)
     }
 
     // Goes on until enough was found. A plain path is gone through without cells, from its beginning on.
@@ -94,27 +95,25 @@ impl<'d> Cursor<'d> {
     }
 }
 
-impl<'d> Look<'d> {
-    // Whether there is an item, unless a fault leaves that open.
-    fn exists_or_fault(self) -> Result<bool, State>
-        ensures { result ≡ answer_in (look_value self.entry) }
-    {
-        match (self.fault, self.found) {
-            (Some(state), _) => Err(state),
-            (None, Found::Nothing) => Ok(false),
-            (None, _) => Ok(true),
-        }
+// Whether there is an item, unless a fault leaves that open.
+fn exists_or_fault(look: Look<'_>) -> Result<bool, State>
+    ensures { result ≡ answer_in (look_value look.entry) }
+{
+    match (look.fault, look.found) {
+        (Some(state), _) => Err(state),
+        (None, Found::Nothing) => Ok(false),
+        (None, _) => Ok(true),
     }
+}
 
-    // The only item, unless there are several or a fault comes.
-    fn single_or_fault(self, several: State) -> Result<Option<Item<'d>>, State>
-        ensures { single_value result ≡ single_in several (look_value self.entry) }
-    {
-        match (self.fault, self.found) {
-            (Some(state), _) => Err(state),
-            (None, Found::Nothing) => Ok(None),
-            (None, Found::One(item)) => Ok(Some(item)),
-            (None, Found::Several) => Err(several),
-        }
+// The only item, unless there are several or a fault comes.
+fn single_or_fault<'d>(look: Look<'d>, several: State) -> Result<Option<Item<'d>>, State>
+    ensures { single_value result ≡ single_in several (look_value look.entry) }
+{
+    match (look.fault, look.found) {
+        (Some(state), _) => Err(state),
+        (None, Found::Nothing) => Ok(None),
+        (None, Found::One(item)) => Ok(Some(item)),
+        (None, Found::Several) => Err(several),
     }
 }

@@ -15,7 +15,7 @@ use crate::cells::{
 };
 use sj_base::{Memory, boxed};
 use sj_path_tree::{Arith, Compare, Expr, Initial, Pred, Step, Sub, Subs};
-use sj_step::Walk;
+use sj_walk::Walk;
 use std::alloc::Global;
 
 /// The cells of the subscripts of one part.

@@ -7,7 +7,7 @@ use sj_base::State;
 use sj_item::Item;
 use sj_method::PairWalk;
 use sj_path_tree::{Arith, Compare, Initial, Literal, Method};
-use sj_step::Walk;
+use sj_walk::Walk;
 
 /// A cell of an expression.
 #[cycle(cells)]
@@ -64,15 +64,6 @@ pub(crate) enum Source<'d> {
 pub(crate) struct Operand<'d> {
     pub(crate) cell: Box<Cell<'d>>,
     pub(crate) opened: Walk<'d>,
-}
-
-/// How the items of an expression are taken.
-#[derive(Clone, Copy)]
-pub(crate) enum Opening {
-    /// Each as it is.
-    AsItIs,
-    /// In lax mode arrays are unwrapped.
-    Unwrapped,
 }
 
 /// Something that is done with each item.

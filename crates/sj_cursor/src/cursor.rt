@@ -11,11 +11,11 @@ ghost use Rattle.sj_cursor.specs.Standing.{standing_left};
 
 use crate::build::expr_cell;
 use crate::cells::Cell;
-use crate::chain::Chain;
 use crate::env::Env;
 use sj_base::{Ledger, Memory, Steps};
 use sj_item::{Item, Pull};
 use sj_path_tree::{Mode, Path, Vars};
+use sj_plain_path::Chain;
 use sj_step::Answer;
 use std::alloc::Global;
 use std::marker::Model;

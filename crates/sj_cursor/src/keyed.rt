@@ -2,24 +2,22 @@
 ghost use Rattle.std.specs.Prelude.{◌≡◌, [], ◌∷◌, IfSome};
 ghost use Rattle.sj_path_tree.specs.Tree as tree;
 ghost use Rattle.sj_item.specs.Items.{item_value};
-ghost use Rattle.sj_cursor.specs.Cells.{env_value, source_value, beside_truth};
-ghost use Rattle.sj_cursor.specs.Chains.{node_value, below, IsLaxNode};
+ghost use Rattle.sj_cursor.specs.Cells.{env_value, source_value};
+ghost use Rattle.sj_plain_path.specs.Pairings.{beside_truth, PairingSeen};
+ghost use Rattle.sj_plain_path.specs.Chains.{node_value, below};
+ghost use Rattle.sj_cursor.specs.LaxNodes.{IsLaxNode};
 ghost use Rattle.sj_cursor.specs.Left as left_of;
 ghost use Rattle.sj_cursor.specs.Left.{operand_whole, operand_core};
-ghost use Rattle.sj_cursor.specs.Looks.{Finds, look_value};
-ghost use Rattle.sj_cursor.specs.PairingsSeen.{PairingSeen};
-ghost use Rattle.sj_cursor.specs.declared.cells.Opening.{Opening as HowOpened};
+ghost use Rattle.sj_plain_path.specs.Looks.{Finds, look_value};
+ghost use Rattle.sj_plain_path.specs.declared.opening.Opening.{Opening as HowOpened};
 
-use crate::cells::{Cell, Each, Opening, Operand, Operator, Simple, Source};
-use crate::chain::{Link, look_below, seek};
+use crate::cells::{Cell, Each, Operand, Operator, Simple, Source};
 use crate::env::Env;
-use crate::look::{Limit, Look};
-use crate::pairing::{Beside, Pairing};
-use crate::take::{Aim, Gathered};
 use sj_base::{Ledger, Steps};
 use sj_doc::NodeRef;
 use sj_item::Item;
 use sj_path_tree::Mode;
+use sj_plain_path::{Beside, Limit, Link, Look, Opening, Pairing, look_below, see_below};
 
 /// The members of a node under a key.
 #[derive(Clone, Copy)]
@@ -50,18 +48,8 @@ impl<'d> Keyed<'d> {
     ) -> Pairing
         ensures { PairingSeen early (beside_truth beside.entry) (below Opening.Unwrapped (Link.Member self.entry.key ∷ []) (node_value self.entry.node)) result.found result.doubt steps.old steps.new }
     {
-        let mut gathered = Gathered::nothing();
-        let aim = Aim::Pairs(early, beside);
         let links = [Link::Member(self.key)];
-        seek(
-            Opening::Unwrapped,
-            &aim,
-            &links,
-            self.node,
-            &mut gathered,
-            steps,
-        );
-        gathered.pairing
+        see_below(Opening::Unwrapped, &links, self.node, early, beside, steps)
     }
 }
 

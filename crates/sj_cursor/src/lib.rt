@@ -3,8 +3,7 @@
 //! `specs/Meaning.antt` says which trace a path has (ISO/IEC 9075-2, SQL/JSON path language): its items in order, how it
 //! ends, and which children of nodes are handed out on the way. `specs/Verdicts.antt` and `specs/Comparisons.antt` say what
 //! predicates are, and what finding their truth may take; `specs/Single.antt` and `specs/Numbers.antt` what operands and
-//! subscripts are. `specs/FaultFree.antt` says which paths cannot have a fault, by their form alone, and the law
-//! [`fault_free_paths_end_well`] that each of them ends well on every item.
+//! subscripts are.
 //!
 //! A [`Cursor`] has a cell for each part of its path, made in `Cursor::new`, which takes all memory. A cell asks the cells
 //! below it for one item at a time and holds where it stands, and no list. `specs/Left.antt` says which expression a cell is
@@ -41,13 +40,13 @@
 //! cursor serves the items of one row after another, of one line after another. The cells go back when they are first asked.
 //!
 //! **A plain path**, `lax $` and behind it accessors of members, `[*]` and subscripts such as `[0]`, needs no cells where a cursor is
-//! asked at its beginning whether there is an item, or which is the only one. `chain.rt` then goes down the document from accessor to
-//! accessor. `specs/Chains.antt` says what is found so.
+//! asked at its beginning whether there is an item, or which is the only one. A `Chain` of `sj_plain_path` then goes down the document from
+//! accessor to accessor.
 //! An operand that is one member of `@` or `$`, as `@.qty` above, is read in the same way for each item that the filter tests: its
 //! cells are asked in strict mode and where the item is no node.
 //!
-//! The crate stands on `sj_path_tree` for paths and variables, on `sj_step` for accessors and traces, and on `sj_method` for
-//! methods and arithmetic. It promises that each call of `Cursor::next` gives the first item that the meaning has left, or
+//! The crate stands on `sj_path_tree` for paths and variables, on `sj_step` for traces, on `sj_walk` for accessors, on `sj_plain_path` for
+//! plain paths, and on `sj_method` for methods and arithmetic. It promises that each call of `Cursor::next` gives the first item that the meaning has left, or
 //! its end, takes no memory, and raises the counter by no more than the visits that stand before that item or end.
 #![tactic(auto)]
 
@@ -55,13 +54,10 @@ mod arithmetic;
 mod ask;
 mod build;
 mod cells;
-mod chain;
 mod cursor;
 mod env;
-mod fault_free;
 mod held;
 mod keyed;
-mod law;
 mod look;
 mod next;
 mod one;
@@ -70,8 +66,5 @@ mod predicates;
 mod rewind;
 mod simple;
 mod subscripts;
-mod take;
 
 pub use cursor::Cursor;
-pub use fault_free::is_fault_free;
-pub use law::fault_free_paths_end_well;

@@ -6,24 +6,27 @@ ghost use Rattle.sj_item.specs.Items.{item_value};
 ghost use Rattle.sj_step.specs.Answers.{answer_value};
 ghost use Rattle.sj_step.specs.Reach.{unwrap};
 ghost use Rattle.sj_step.specs.Trace.{stop, only};
-ghost use Rattle.sj_step.specs.Walk.{walk_left};
-ghost use Rattle.sj_cursor.specs.Cells.{env_value, opened};
+ghost use Rattle.sj_walk.specs.Walk.{walk_left};
+ghost use Rattle.sj_cursor.specs.Cells.{env_value};
+ghost use Rattle.sj_plain_path.specs.Openings.{opened};
 ghost use Rattle.sj_cursor.specs.Draws.{Draws};
 ghost use Rattle.sj_cursor.specs.Left as left_of;
 ghost use Rattle.sj_cursor.specs.Left.{operand_whole, operand_core, operand_left, done, doing};
-ghost use Rattle.sj_cursor.specs.Looks.{Finds, look_value};
+ghost use Rattle.sj_plain_path.specs.Looks.{Finds, look_value};
 ghost use Rattle.sj_cursor.specs.Numbers.{operand_in, subscript_in};
 ghost use Rattle.sj_cursor.specs.Single.{need, single};
 
-use crate::cells::{Cell, Each, Filter, Opening, Operand, Operator};
+use crate::cells::{Cell, Each, Filter, Operand, Operator};
 use crate::env::Env;
-use crate::look::{Found, Limit, Look};
+use crate::look::{single_operand, single_subscript};
 use sj_base::{Ledger, State, Steps};
 use sj_decimal::Decimal;
 use sj_doc::Kind;
 use sj_item::{Item, Truth};
 use sj_path_tree::Mode;
-use sj_step::{Answer, Reach, Walk};
+use sj_plain_path::{Found, Limit, Look, Opening};
+use sj_step::{Answer, Reach};
+use sj_walk::Walk;
 
 impl<'d> Cell<'d> {
     /// The next item of the cell's trace, or its end.
@@ -56,7 +59,7 @@ fn may_open(how: Opening, item: &Item<'_>) -> bool
     }
 }
 
-#[tactic(auto, using(crate::proofs::NotUnwrapped::unopened, crate::proofs::NotUnwrapped::made_unopened))]
+#[tactic(auto, using(sj_plain_path::proofs::NotUnwrapped::unopened, sj_plain_path::proofs::NotUnwrapped::made_unopened))]
 pub(crate) fn is_array(item: &Item<'_>) -> bool
     ensures { result ≡ false → (mode : PathMode) → unwrap mode (item_value item.now) ≡ only (item_value item.now) }
 {
@@ -165,8 +168,8 @@ impl<'d> Operand<'d> {
         ensures costs { steps.new ≤ raised steps.old (need env.now.mode 2 (operand_whole Opening.Unwrapped (operand_core self.old) (env_value env.now))) }
         ensures same { operand_core self.new ≡ operand_core self.old }
     {
-        self.look(Opening::Unwrapped, Limit::of_single(env.mode), env, steps)
-            .operand()
+        let look = self.look(Opening::Unwrapped, Limit::of_single(env.mode), env, steps);
+        single_operand(look)
     }
 
     // The subscript.
@@ -180,8 +183,8 @@ impl<'d> Operand<'d> {
         ensures costs { steps.new ≤ raised steps.old (need env.now.mode 2 (operand_whole Opening.AsItIs (operand_core self.old) (env_value env.now))) }
         ensures same { operand_core self.new ≡ operand_core self.old }
     {
-        self.look(Opening::AsItIs, Limit::of_single(env.mode), env, steps)
-            .subscript()
+        let look = self.look(Opening::AsItIs, Limit::of_single(env.mode), env, steps);
+        single_subscript(look)
     }
 }
 

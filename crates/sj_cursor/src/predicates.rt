@@ -3,23 +3,24 @@ ghost use Rattle.std.specs.Prelude.{◌≡◌, ℕ, Bool, true, IfSome};
 ghost use Rattle.sj_item.specs.Items.{item_value};
 ghost use Rattle.sj_item.specs.Pairs.{items_compare};
 ghost use Rattle.sj_step.specs.Trace.{only};
-ghost use Rattle.sj_cursor.specs.Cells.{env_value, beside_truth};
+ghost use Rattle.sj_cursor.specs.Cells.{env_value};
+ghost use Rattle.sj_plain_path.specs.Pairings.{beside_truth, PairingSeen};
 ghost use Rattle.sj_cursor.specs.Decides.{Decides};
 ghost use Rattle.sj_cursor.specs.Left as left_of;
 ghost use Rattle.sj_cursor.specs.Left.{operand_whole, operand_core};
 ghost use Rattle.sj_cursor.specs.Meaning.{verdict};
-ghost use Rattle.sj_cursor.specs.PairingsSeen.{PairingSeen, PairingsSeen};
+ghost use Rattle.sj_cursor.specs.PairingsSeen.{PairingsSeen};
 ghost use Rattle.sj_cursor.specs.Asked.{Asked};
 ghost use Rattle.sj_path_tree.specs.Tree.{Exists as exists_of};
 
-use crate::cells::{Both, Cell, Comparison, Opening, Operand, Start, Test};
+use crate::cells::{Both, Cell, Comparison, Operand, Start, Test};
 use crate::env::Env;
-use crate::look::Limit;
 use crate::next::is_array;
 use crate::one::initial_item;
-use crate::pairing::{Beside, Pairing, Pairings, is_early};
+use crate::pairing::{Pairings, is_early};
 use sj_base::{Ledger, Steps};
 use sj_item::{Item, Truth};
+use sj_plain_path::{Beside, Limit, Opening, Pairing};
 use sj_step::Answer;
 
 impl<'d> Test<'d> {

@@ -5,10 +5,10 @@ ghost use Rattle.sj_cursor.specs.Left as left_of;
 ghost use Rattle.sj_cursor.specs.Left.{operand_whole, operand_core, operand_left, doing};
 ghost use Rattle.sj_cursor.specs.Meaning.{Env as Surroundings};
 ghost use Rattle.sj_cursor.specs.Meaning.{meaning};
-ghost use Rattle.sj_cursor.specs.declared.cells.Opening.{Opening as HowOpened};
+ghost use Rattle.sj_plain_path.specs.declared.opening.Opening.{Opening as HowOpened};
 
 use crate::cells::{At, Cell, Each, Operand, Operator, Reached};
-use sj_step::Walk;
+use sj_walk::Walk;
 
 impl<'d> Cell<'d> {
     /// Back to the beginning, wherever the cell stands.

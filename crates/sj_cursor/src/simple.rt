@@ -6,17 +6,19 @@ ghost use Rattle.sj_step.specs.Answers.{answer_value};
 ghost use Rattle.sj_step.specs.Reach.{reach_value, reach as reach_of};
 ghost use Rattle.sj_step.specs.Takes.{Takes};
 ghost use Rattle.sj_step.specs.Trace.{stop};
-ghost use Rattle.sj_step.specs.Walk.{walk_left};
+ghost use Rattle.sj_walk.specs.Walk.{walk_left};
 ghost use Rattle.sj_method.specs.Methods.{outcome, method_of, sign_of};
 ghost use Rattle.sj_method.specs.Pairs.{key_values, pair_pull, pairs_left};
 ghost use Rattle.sj_cursor.specs.Cells.{results, results_left, simple_opening};
 
-use crate::cells::{Applied, Opening, Results, Simple};
+use crate::cells::{Applied, Results, Simple};
 use sj_base::{Ledger, State, Steps};
 use sj_item::{Item, Pair};
 use sj_method::{PairWalk, apply, pairs, sign};
 use sj_path_tree::{Method, Mode};
-use sj_step::{Answer, Reach, Walk};
+use sj_plain_path::Opening;
+use sj_step::{Answer, Reach};
+use sj_walk::Walk;
 
 impl<'d> Simple<'d> {
     /// Whether the items are unwrapped before.

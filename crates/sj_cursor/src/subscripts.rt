@@ -2,7 +2,7 @@
 ghost use Rattle.std.specs.Prelude.{◌≡◌};
 ghost use Rattle.sj_item.specs.Items.{ItemValue, item_value};
 ghost use Rattle.sj_step.specs.Answers.{answer_value};
-ghost use Rattle.sj_step.specs.Walk.{walk_left};
+ghost use Rattle.sj_walk.specs.Walk.{walk_left};
 ghost use Rattle.sj_cursor.specs.Cells.{env_value};
 ghost use Rattle.sj_cursor.specs.Draws.{Draws, Approaches};
 ghost use Rattle.sj_cursor.specs.Left as left_of;
@@ -18,7 +18,8 @@ use crate::env::Env;
 use sj_base::{Ledger, State, Steps};
 use sj_item::Item;
 use sj_path_tree::Mode;
-use sj_step::{Answer, Reach, Walk, last_index};
+use sj_step::{Answer, Reach, last_index};
+use sj_walk::Walk;
 
 // Where a list of subscripts stands on an item.
 fn spot<'d>(mode: Mode, item: Item<'d>) -> At<'d>

@@ -1,10 +1,10 @@
 // The children of a node, one after another.
-ghost use Rattle.std.specs.Prelude.{◌≡◌, ◌-◌, [], ◌∷◌, length, true, Some, MatchOption, is_some, option_map, if◌then◌else◌};
+ghost use Rattle.std.specs.Prelude.{◌≡◌, ◌-◌, [], ◌∷◌, length, true, Some, MatchOption, is_some, option_map, IfSome, if◌then◌else◌};
 ghost use Rattle.sj_base.specs.Count.{raised};
 ghost use Rattle.sj_doc.specs.Children.{children_left, IsChildren};
 ghost use Rattle.sj_doc.specs.Keyed.{is_key, from_key};
 ghost use Rattle.sj_doc.specs.FoundMembers.{left_behind, Finds};
-ghost use Rattle.sj_doc.specs.Listed.{member_of, node_id, node_tree};
+ghost use Rattle.sj_doc.specs.Listed.{member_of, node_id, node_tree, node_key};
 
 use crate::doc::{Doc, Member, NodeRef, text_at};
 use sj_base::{Ledger, Steps};
@@ -99,6 +99,7 @@ impl<'d> Children<'d> {
     /// and stays as it is at the end.
     pub fn next<L: Ledger>(&mut self, steps: &mut Steps<L>) -> Option<Member<'d>>
         ensures child { MatchOption result ((self.old ≡ []) × (self.new ≡ [])) (λ m. self.old ≡ member_of m ∷ self.new) }
+        ensures key { IfSome result (λ m. node_key m.node ≡ option_map (λ s. s.now) m.key) }
         ensures step { steps.new ≡ (if is_some result then raised steps.old 1 else steps.old) }
     {
         match self.advance() {
@@ -134,7 +135,8 @@ impl<'d> Children<'d> {
 
     // The next child, for the crate's own walks. They count no steps.
     pub(crate) fn advance(&mut self) -> Option<Member<'d>>
-        ensures { MatchOption result ((self.old ≡ []) × (self.new ≡ [])) (λ m. self.old ≡ member_of m ∷ self.new) }
+        ensures child { MatchOption result ((self.old ≡ []) × (self.new ≡ [])) (λ m. self.old ≡ member_of m ∷ self.new) }
+        ensures key { IfSome result (λ m. node_key m.node ≡ option_map (λ s. s.now) m.key) }
     {
         if self.left == 0 {
             return None;

@@ -173,7 +173,7 @@ impl Doc {
 }
 
 impl<'d> NodeRef<'d> {
-    ghost use Rattle.sj_doc.specs.Listed.{node_id, node_tree};
+    ghost use Rattle.sj_doc.specs.Listed.{node_id, node_tree, node_key};
 
     /// Its number: the root has 0, and the nodes follow in preorder. It is below 2^25.
     pub fn id(self) -> u64
@@ -181,6 +181,15 @@ impl<'d> NodeRef<'d> {
         ensures small { result < most_nodes }
     {
         u64::from(self.at)
+    }
+
+    /// Its key, which is there exactly where its parent is an object.
+    #[tactic(auto, unfolding(crate::specs::Listed::node_key))]
+    pub fn key(self) -> Option<&'d str>
+        ensures { option_map (λ s. s.now) result ≡ node_key self.entry }
+    {
+        let doc: &Doc = self.doc;
+        doc.key_at(self.at)
     }
 
     /// What it is.

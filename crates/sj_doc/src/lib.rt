@@ -7,7 +7,7 @@
 //! Every contract sees a `Doc` as one tree, a `NodeRef` as its number in preorder and the tree that begins
 //! there, `Children` as the list of the children that are left, a `Tour` as the list of the visits that are
 //! left, and a `DocBuilder` as the containers that are open and the line that it holds. The words over a `NodeRef` are in
-//! `specs/Listed.antt`: `node_tree`, `node_id` and `member_of`.
+//! `specs/Listed.antt`: `node_tree`, `node_id`, `node_key` and `member_of`.
 //!
 //! `Children::next`, `Children::next_under` and `Tour::next` alone hand out the children of a node, and raise
 //! the counter by one for each.

@@ -4,7 +4,7 @@ use crate::cases::expect;
 use sj_base::{Steps, Tally};
 use sj_decimal::{Decimal, NumFault, Parsed, is_number};
 use sj_doc::Doc;
-use sj_read::{ReadRefusal, read, read_over};
+use sj_read::{LineRead, ReadRefusal, read, read_over};
 use std::alloc::Global;
 use std::cmp::Ordering;
 use std::process::Abort;
@@ -74,7 +74,9 @@ fn size(doc: &Doc) -> u64 {
 fn expect_lines(rt: &impl Abort, alloc: Global) -> Result<(), Fail> {
     let first = read(alloc, b"{\"a\":1,\"a\":2}")?;
     assert!(rt; size(&first) == 2);
-    let second = read_over(alloc, Some(first), b"[1, 2, 3]")?;
+    let LineRead::Json(second) = read_over(alloc, first.recycle(), b"[1, 2, 3]")? else {
+        return Err("the line is JSON".into());
+    };
     assert!(rt; size(&second) == 3);
     Ok(())
 }

@@ -2,7 +2,7 @@
 // is in `checks/rows/json.txt`.
 use sj_base::{Steps, Tally};
 use sj_doc::{Kind, Visit};
-use sj_read::{ReadRefusal, read, read_over};
+use sj_read::{LineRead, ReadRefusal, read, read_over};
 use std::alloc::Global;
 use std::process::Abort;
 use std::test::Fail;
@@ -72,7 +72,13 @@ fn keeps_members_in_order(rt: HostRuntime) -> Result<(), Fail> {
     assert!(rt; children.next(&mut steps).is_none());
     assert_eq!(rt; steps.ledger().count(), 3);
     assert!(rt; !first.unique_keys(rt.alloc())?);
-    let second = read_over(rt.alloc(), Some(first), b" [ ] ")?;
+    let LineRead::NotJson(builder) = read_over(rt.alloc(), first.recycle(), b"[1, {\"a\": 2}")?
+    else {
+        return Err("the line is not JSON".into());
+    };
+    let LineRead::Json(second) = read_over(rt.alloc(), builder, b" [ ] ")? else {
+        return Err("the line is JSON".into());
+    };
     assert_eq!(rt; second.root().kind(), Kind::Array);
     assert!(rt; second.unique_keys(rt.alloc())?);
     Ok(())

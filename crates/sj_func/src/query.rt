@@ -7,7 +7,7 @@ ghost use Rattle.sj_func.specs.Functions.{context_value, trace_on, single_on, qu
 
 use crate::context::{Context, Outcome};
 use crate::single::single_item;
-use crate::texts::{closed, rest_text, single_value, stays};
+use crate::texts::{closed, empty_text, rest_text, single_value, stays};
 use sj_base::{Bytes, Ledger, Memory, State, Steps};
 use sj_cursor::Cursor;
 use sj_item::{Item, Pull, kind};
@@ -134,7 +134,7 @@ fn query_some<'d, L: Ledger>(
     ensures path { cursor.new.path ≡ cursor.old.path }
     ensures vars { cursor.new.vars ≡ cursor.old.vars }
 {
-    let mut text = Bytes::new(alloc);
+    let mut text = empty_text(alloc)?;
     text.push(b"[")?;
     item_text(first, &mut text, steps)?;
     let rest = rest_text(cursor, &mut text, steps)?;

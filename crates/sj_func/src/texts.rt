@@ -1,5 +1,5 @@
 // The texts of items.
-ghost use Rattle.std.specs.Prelude.{◌≡◌, ◌≤◌, ◌<◌, ◌+◌, ◌++◌, ◌∷◌, [], length, option_map, remove, IfOk, OnOk, if◌then◌else◌};
+ghost use Rattle.std.specs.Prelude.{◌≡◌, ◌≤◌, ◌<◌, ◌+◌, ◌++◌, ◌∷◌, [], length, Some, remove, IfOk, OnOk, if◌then◌else◌};
 ghost use Rattle.sj_base.specs.Count.{raised};
 ghost use Rattle.sj_json.specs.Printing.{printed, printed_more_items};
 ghost use Rattle.sj_item.specs.Items.{item_value, item_tree, nodes_below};
@@ -15,6 +15,16 @@ use sj_text::item_text;
 use sj_value::{SqlValue, Wrapper};
 use std::alloc::Global;
 
+// The room of a text when it begins, in bytes. Most texts are no longer, and take memory once.
+const FIRST_ROOM: usize = 64;
+
+// A text of nothing yet, with room for what most have.
+pub(crate) fn empty_text(alloc: Global) -> Result<Bytes, Memory>
+    ensures { IfOk result (λ text. text ≡ []) }
+{
+    Ok(Bytes::from_vec(Vec::with_capacity(alloc, FIRST_ROOM)?))
+}
+
 // A single item as a JSON value; with OMIT QUOTES a string as its text.
 pub(crate) fn single_value<'d, L: Ledger>(
     alloc: Global,
@@ -26,27 +36,34 @@ pub(crate) fn single_value<'d, L: Ledger>(
     ensures costs { steps.new ≤ raised steps.old (nodes_below (item_value item.entry)) }
 {
     if omit_quotes {
-        if let Some(string) = as_string(&item) {
-            return Ok(SqlValue::Text(Text::from_str(alloc, string)?));
+        if let Some(string) = unquoted(alloc, item)? {
+            return Ok(SqlValue::Text(string));
         }
     }
-    let mut text = Bytes::new(alloc);
+    let mut text = empty_text(alloc)?;
     item_text(item, &mut text, steps)?;
     Ok(SqlValue::Json(text))
 }
 
-fn as_string<'a>(item: &'a Item<'_>) -> Option<&'a str>
-    ensures { option_map (λ s. s.now) result ≡ string_of (item_tree (item_value item.now)) }
+// The text of an item that is a string.
+fn unquoted(alloc: Global, item: Item<'_>) -> Result<Option<Text>, Memory>
+    ensures { IfOk result (λ t. t ≡ string_of (item_tree (item_value item.entry))) }
 {
     match item {
         Item::Node(node) => match node.kind() {
-            Kind::String => Some(node.text()),
-            _ => None,
+            Kind::String => some_text(alloc, node.text()),
+            _ => Ok(None),
         },
-        Item::Text(text) => Some(text),
-        Item::Short(text) => Some(text.as_str()),
-        Item::Num(_) | Item::Bool(_) | Item::Null | Item::Pair(_) => None,
+        Item::Text(text) => some_text(alloc, text),
+        Item::NumberText(number) => some_text(alloc, number.value().text().as_str()),
+        Item::Num(_) | Item::Bool(_) | Item::Null | Item::Pair(_) => Ok(None),
     }
+}
+
+fn some_text(alloc: Global, text: &str) -> Result<Option<Text>, Memory>
+    ensures { IfOk result (λ t. t ≡ Some text.now) }
+{
+    Ok(Some(Text::from_str(alloc, text)?))
 }
 
 // What came behind the first item.

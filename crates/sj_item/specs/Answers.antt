@@ -19,7 +19,7 @@ abbrev pub IsText : Item → Type 0
 IsText (items.Node n) = ⊥
 IsText (items.Num n) = ⊥
 IsText (items.Text s) = ⊤
-IsText (items.Short s) = ⊤
+IsText (items.NumberText n) = ⊤
 IsText (items.Bool b) = ⊥
 IsText items.Null = ⊥
 IsText (items.Pair p) = ⊥

@@ -1,12 +1,18 @@
 -- Items: what a path gives, without the pointers by which the code holds them.
-use Rattle.std.specs.Prelude.{ℕ, List, length, Bool, codes, ℤ}
+use Rattle.std.specs.Prelude.{ℕ, List, [], length, Bool, codes, unwrap_or, ℤ, pos, negsuc}
 use Rattle.sj_json.specs.Tree.{exact, Tree, null, truth, string, number, array, object, no_members, member, item_list, below}
-use Rattle.sj_doc.specs.Listed.{node_id, node_tree}
-use Rattle.sj_item.specs.MadeValues.{exact_value, short_text}
+use Rattle.sj_decimal.specs.Text.{decimal_text}
+use Rattle.sj_doc.specs.Listed.{node_id, node_tree, node_key}
+use Rattle.sj_item.specs.MadeValues.{exact_value}
 use Rattle.sj_item.specs.declared.item.Item.{Item}
 use Rattle.sj_item.specs.declared.item.Item.TheVariants as items
-use Rattle.sj_item.specs.declared.item.PairValue.{PairValue}
-use Rattle.sj_item.specs.declared.item.PairValue.TheVariants as pair_values
+use Rattle.sj_item.specs.declared.pair.Pair.{Pair}
+use Rattle.sj_item.specs.declared.pair.Name.{Name}
+use Rattle.sj_item.specs.declared.pair.Name.TheVariants as names
+use Rattle.sj_item.specs.declared.pair.Value.{Value}
+use Rattle.sj_item.specs.declared.pair.Value.TheVariants as held_values
+use Rattle.sj_item.specs.declared.pair.PairValue.{PairValue}
+use Rattle.sj_item.specs.declared.pair.PairValue.TheVariants as pair_values
 use Rattle.sj_item.specs.declared.item.Pull.{Pull}
 use Rattle.sj_item.specs.declared.item.Pull.TheVariants as pulls
 use Rattle.sj_base.specs.declared.state.State.{State}
@@ -24,19 +30,51 @@ pub data ItemValue : Type 0 where
 
 -- ---- what the code holds
 
+-- what is said of the member of a pair: a name, and the id of a pair that has it
+abbrev pub named_text : Pair → Name → List ℕ
+named_text p names.OfMember = unwrap_or (node_key p.member) []
+named_text p names.NameWord = codes "name"
+named_text p names.ValueWord = codes "value"
+named_text p names.IdWord = codes "id"
+
+abbrev pub named_id : Pair → Name → ℤ
+named_id p names.OfMember = pos p.object
+named_id p names.NameWord = negsuc 0
+named_id p names.ValueWord = negsuc 0
+named_id p names.IdWord = negsuc 0
+
+abbrev pub value_held : Pair → Value → ItemValue
+value_held p held_values.Member = node (node_id p.member) (node_tree p.member)
+value_held p (held_values.NameOf name) = made_text (named_text p name)
+value_held p (held_values.IdOf name) = made_number (named_id p name, 0)
+
+-- the name, the value and the id of a pair
+abbrev pub pair_name : Pair → List ℕ
+pair_name p = named_text p p.name
+
+abbrev pub pair_held : Pair → ItemValue
+pair_held p = value_held p p.value
+
+abbrev pub pair_id : Pair → ℤ
+pair_id p = named_id p p.name
+
+abbrev pub pair_item : Pair → ItemValue
+pair_item p = made_pair (pair_name p) (pair_held p) (pair_id p)
+
+-- a value of a pair, as it is read
 abbrev pub pair_value : PairValue → ItemValue
 pair_value (pair_values.Node n) = node (node_id n) (node_tree n)
 pair_value (pair_values.Text s) = made_text s.now
-pair_value (pair_values.Num n) = made_number (exact_value n)
+pair_value (pair_values.Num n) = made_number (n, 0)
 
 abbrev pub item_value : Item → ItemValue
 item_value (items.Node n) = node (node_id n) (node_tree n)
 item_value (items.Num n) = made_number (exact_value n)
 item_value (items.Text s) = made_text s.now
-item_value (items.Short s) = made_text (short_text s)
+item_value (items.NumberText n) = made_text (decimal_text (exact_value n))
 item_value (items.Bool b) = made_truth b
 item_value items.Null = made_null
-item_value (items.Pair p) = made_pair p.name.now (pair_value p.value) p.id
+item_value (items.Pair p) = pair_item p
 
 -- one answer of a sequence
 pub data PullValue : Type 0 where

@@ -5,14 +5,13 @@ ghost use Rattle.sj_decimal.specs.Text.{decimal_text};
 ghost use Rattle.sj_json.specs.Numbers.{number_of};
 ghost use Rattle.sj_json.specs.Printing.{truth_text};
 ghost use Rattle.sj_doc.specs.Listed.{node_tree};
-ghost use Rattle.sj_item.specs.MadeValues.{short_text};
-ghost use Rattle.sj_item.specs.Items.{item_value, item_tree};
+ghost use Rattle.sj_item.specs.Items.{item_value, item_tree, made_text};
 ghost use Rattle.sj_item.specs.Scalars.{spelled_number, number_cast, whole_within, whole_cast, word_truth, truth_cast, text_cast};
 ghost use Rattle.sj_item.specs.Operands.{CastsAs};
 ghost use Rattle.sj_item.specs.Answers.{IsText, values, made_texts};
 
 use crate::item::Item;
-use crate::made::ShortText;
+use crate::made::Exact;
 use sj_base::State;
 use sj_decimal::{Decimal, MAX_DIGITS, Parsed};
 use sj_doc::{Kind, NodeRef, Num};
@@ -35,7 +34,7 @@ pub fn to_number<'d>(item: Item<'d>) -> Result<Decimal, State>
         Operand::Num(number) => Ok(number),
         Operand::Wide(_) => Err(State::S22003),
         Operand::Text(text) => spelled(text),
-        Operand::Short(text) => spelled(text.as_str()),
+        Operand::NumberText(number) => spelled(number.text().as_str()),
         Operand::Structured => Err(State::S2203F),
     }
 }
@@ -67,13 +66,14 @@ pub fn to_truth<'d>(item: Item<'d>) -> Result<bool, State>
         Operand::Num(_) => Err(State::S2203G),
         Operand::Wide(_) => Err(State::S2203G),
         Operand::Text(text) => word_truth(text),
-        Operand::Short(text) => word_truth(text.as_str()),
+        Operand::NumberText(number) => word_truth(number.text().as_str()),
         Operand::Structured => Err(State::S2203F),
     }
 }
 
 /// An item as a text: a string as it is, an exact number by its text, another number by its spelling, and a truth value
-/// as `true` or `false`. The text is lent where it lies, or is short enough to be held, so no memory is taken.
+/// as `true` or `false`. The text is lent where it lies, and that of an exact number is
+/// written where it is read, so no memory is taken.
 ///
 /// # Errors
 /// 2203G on a null. 2203F on an array or an object.
@@ -85,10 +85,10 @@ pub fn to_text<'d>(item: Item<'d>) -> Result<Item<'d>, State>
     match as_operand(item) {
         Operand::Null => Err(State::S2203G),
         Operand::Bool(truth) => Ok(Item::Text(word(truth))),
-        Operand::Num(number) => Ok(Item::Short(number_text(number))),
+        Operand::Num(number) => Ok(number_text(number)),
         Operand::Wide(spelling) => Ok(Item::Text(spelling)),
         Operand::Text(text) => Ok(Item::Text(text)),
-        Operand::Short(text) => Ok(Item::Short(text)),
+        Operand::NumberText(number) => Ok(number_text(number)),
         Operand::Structured => Err(State::S2203F),
     }
 }
@@ -102,7 +102,8 @@ enum Operand<'d> {
     // a number that is not exact, by its spelling
     Wide(&'d str),
     Text(&'d str),
-    Short(ShortText),
+    // the text of an exact number
+    NumberText(Decimal),
     // an array or an object
     Structured,
 }
@@ -115,7 +116,7 @@ fn as_operand<'d>(item: Item<'d>) -> Operand<'d>
         Item::Node(node) => node_operand(node),
         Item::Num(number) => Operand::Num(number.value()),
         Item::Text(text) => Operand::Text(text),
-        Item::Short(text) => Operand::Short(text),
+        Item::NumberText(number) => Operand::NumberText(number.value()),
         Item::Bool(truth) => Operand::Bool(truth),
         Item::Null => Operand::Null,
         Item::Pair(_) => Operand::Structured,
@@ -191,9 +192,10 @@ fn word(truth: bool) -> &'static str
     if truth { "true" } else { "false" }
 }
 
-// The text of an exact number, which has at most 41 bytes.
-fn number_text(number: Decimal) -> ShortText
-    ensures { short_text result ≡ decimal_text number }
+// The text of an exact number, as an item.
+fn number_text<'d>(number: Decimal) -> Item<'d>
+    ensures value { item_value result ≡ made_text (decimal_text number) }
+    ensures text { IsText result }
 {
-    ShortText::new(number.text().as_str())
+    Item::NumberText(Exact::new(number))
 }

@@ -6,7 +6,7 @@ ghost use Rattle.sj_item.specs.Truths.{truth_of};
 ghost use Rattle.sj_item.specs.Orders.{holds};
 ghost use Rattle.sj_item.specs.Items.{item_value, item_tree};
 ghost use Rattle.sj_item.specs.Pairs.{null_and_other, items_compare, item_starts_with};
-ghost use Rattle.sj_item.specs.Comparands.{ComparesAs, comparands_compare, comparand_starts_with};
+ghost use Rattle.sj_item.specs.Comparands.{ComparesAs, text_compares, comparands_compare, text_starts_with, comparand_starts_with};
 
 use crate::item::Item;
 use crate::made::Exact;
@@ -89,6 +89,8 @@ enum Comparand<'a> {
     Null,
     Num(Exact),
     Text(&'a str),
+    // the text of an exact number
+    NumberText(Exact),
     Bool(bool),
     // a number that is not exact, an array or an object
     Other,
@@ -101,7 +103,7 @@ fn as_comparand<'a>(item: &'a Item<'_>) -> Comparand<'a>
         Item::Node(node) => node_comparand(*node),
         Item::Num(number) => Comparand::Num(*number),
         Item::Text(text) => Comparand::Text(text),
-        Item::Short(text) => Comparand::Text(text.as_str()),
+        Item::NumberText(number) => Comparand::NumberText(*number),
         Item::Bool(truth) => Comparand::Bool(*truth),
         Item::Null => Comparand::Null,
         Item::Pair(_) => Comparand::Other,
@@ -136,11 +138,8 @@ fn compare_as(op: Compare, left: Comparand<'_>, right: Comparand<'_>) -> Truth
             Comparand::Num(y) => decided(op, x.value().cmp(y.value())),
             _ => Truth::Unknown,
         },
-        Comparand::Text(x) => match right {
-            Comparand::Null => against_null(op),
-            Comparand::Text(y) => decided(op, order_of_texts(x, y)),
-            _ => Truth::Unknown,
-        },
+        Comparand::Text(x) => text_compares(op, x, right),
+        Comparand::NumberText(x) => text_compares(op, x.value().text().as_str(), right),
         Comparand::Bool(x) => match right {
             Comparand::Null => against_null(op),
             Comparand::Bool(y) => decided(op, x.cmp(&y)),
@@ -153,14 +152,38 @@ fn compare_as(op: Compare, left: Comparand<'_>, right: Comparand<'_>) -> Truth
     }
 }
 
+// The comparison of a text with what stands at its right.
+fn text_compares(op: Compare, left: &str, right: Comparand<'_>) -> Truth
+    ensures { result ≡ text_compares op left.now right.entry }
+{
+    match right {
+        Comparand::Null => against_null(op),
+        Comparand::Text(right) => decided(op, order_of_texts(left, right)),
+        Comparand::NumberText(right) => {
+            decided(op, order_of_texts(left, right.value().text().as_str()))
+        }
+        _ => Truth::Unknown,
+    }
+}
+
 fn starts_with_as(text: Comparand<'_>, start: Comparand<'_>) -> Truth
     ensures { result ≡ comparand_starts_with text.entry start.entry }
 {
     match text {
-        Comparand::Text(text) => match start {
-            Comparand::Text(start) => Truth::from_bool(text_begins_with(text, start)),
-            _ => Truth::Unknown,
-        },
+        Comparand::Text(text) => text_starts_with(text, start),
+        Comparand::NumberText(number) => text_starts_with(number.value().text().as_str(), start),
+        _ => Truth::Unknown,
+    }
+}
+
+fn text_starts_with(text: &str, start: Comparand<'_>) -> Truth
+    ensures { result ≡ text_starts_with text.now start.entry }
+{
+    match start {
+        Comparand::Text(start) => Truth::from_bool(text_begins_with(text, start)),
+        Comparand::NumberText(number) => {
+            Truth::from_bool(text_begins_with(text, number.value().text().as_str()))
+        }
         _ => Truth::Unknown,
     }
 }

@@ -3,7 +3,8 @@ ghost use Rattle.std.specs.Prelude.{◌≡◌};
 ghost use Rattle.sj_doc.specs.Kinds.{kind_of};
 ghost use Rattle.sj_item.specs.Items.{item_value, item_tree, size_of};
 
-use crate::made::{Exact, ShortText};
+use crate::made::Exact;
+use crate::pair::Pair;
 use sj_base::State;
 use sj_doc::{Kind, NodeRef};
 
@@ -20,8 +21,8 @@ pub enum Item<'d> {
     Num(Exact),
     /// A made text, which lies elsewhere.
     Text(&'d str),
-    /// A made text of at most `ShortText::MAX_LEN` bytes.
-    Short(ShortText),
+    /// The text of an exact number, which is written where it is read.
+    NumberText(Exact),
     /// A made truth value.
     Bool(bool),
     /// A made null.
@@ -30,27 +31,8 @@ pub enum Item<'d> {
     Pair(Pair<'d>),
 }
 
-/// What the method `keyvalue` makes of a member: it stands for an object with the members `name`, `value` and `id`.
-#[derive(Clone, Copy)]
-pub struct Pair<'d> {
-    /// The key of the member.
-    pub name: &'d str,
-    /// Its value.
-    pub value: PairValue<'d>,
-    /// The number of the object in preorder, or -1 where the object is itself a made pair.
-    pub id: i64,
-}
-
-/// The value of a pair.
-#[derive(Clone, Copy)]
-pub enum PairValue<'d> {
-    /// A node of the document.
-    Node(NodeRef<'d>),
-    /// The name of a made pair.
-    Text(&'d str),
-    /// The id of a made pair.
-    Num(Exact),
-}
+// An item is copied at each step of an evaluation, so its size is kept small.
+const _: () = prove!(size_of::<Item<'static>>() == 32);
 
 /// The next answer of a sequence of items.
 #[derive(Clone, Copy)]
@@ -82,7 +64,7 @@ pub fn kind(item: Item<'_>) -> Kind
     match item {
         Item::Node(node) => node.kind(),
         Item::Num(_) => Kind::Number,
-        Item::Text(_) | Item::Short(_) => Kind::String,
+        Item::Text(_) | Item::NumberText(_) => Kind::String,
         Item::Bool(_) => Kind::Truth,
         Item::Null => Kind::Null,
         Item::Pair(_) => Kind::Object,

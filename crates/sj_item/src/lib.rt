@@ -18,13 +18,15 @@ mod casts;
 mod comparison;
 mod item;
 mod made;
+mod pair;
 mod texts;
 mod truth;
 
 pub use bounds::{BIGINT_HIGH, BIGINT_LOW, INTEGER_HIGH, INTEGER_LOW};
 pub use casts::{to_number, to_text, to_truth, to_whole};
 pub use comparison::{compare, starts_with};
-pub use item::{Item, Pair, PairValue, Pull, kind, size};
-pub use made::{Exact, ShortText};
+pub use item::{Item, Pull, kind, size};
+pub use made::Exact;
+pub use pair::{Pair, PairValue};
 pub use sj_decimal::Compare;
 pub use truth::Truth;

@@ -1,11 +1,10 @@
-// What an item holds in itself.
-ghost use Rattle.std.specs.Prelude.{◌≡◌, ◌+◌, ◌*◌, ◌^◌, ◌<◌, ◌≤◌, length, take, IsUtf8};
+// A number as an item holds it.
+ghost use Rattle.std.specs.Prelude.{◌≡◌, ◌+◌, ◌*◌, ◌^◌, ◌<◌};
 ghost use Rattle.sj_decimal.specs.Limits.{magnitude_limit};
 ghost use Rattle.sj_decimal.specs.Signed.{signed};
 ghost use Rattle.sj_decimal.specs.Normal.{IsDecimal};
-ghost use Rattle.sj_decimal.specs.declared.text.TheConstants.{MAX_TEXT_LEN};
 
-use sj_decimal::{Decimal, MAX_TEXT_LEN};
+use sj_decimal::Decimal;
 
 /// How much one of the upper half of a magnitude is.
 const UPPER: u128 = 1 << 64;
@@ -53,39 +52,4 @@ fn coefficient(negative: bool, magnitude: u128) -> i128
 {
     let magnitude = magnitude as i128;
     if negative { -magnitude } else { magnitude }
-}
-
-/// A text as long as that of a decimal may be, as an item holds it. Contracts see its bytes, `short_text`, which are
-/// always UTF-8.
-#[derive(Clone, Copy)]
-pub struct ShortText {
-    bytes: [u8; ShortText::MAX_LEN],
-    len: usize,
-    ghost fits: { len ≤ MAX_TEXT_LEN },
-    ghost text: { ∥ IsUtf8 (take len bytes) ∥₁ },
-}
-
-impl ShortText {
-    ghost use Rattle.sj_item.specs.MadeValues.{short_text};
-
-    /// The greatest length, in bytes.
-    pub const MAX_LEN: usize = MAX_TEXT_LEN;
-
-    /// Holds a copy of the text.
-    pub fn new(text: &str) -> ShortText
-        requires { length text.now ≤ ShortText.MAX_LEN }
-        ensures { short_text result ≡ text.now }
-    {
-        let mut bytes = [0; ShortText::MAX_LEN];
-        let len = text.len();
-        bytes[..len].copy_from_slice(text.as_bytes());
-        ShortText { bytes, len }
-    }
-
-    /// Lends the text.
-    pub fn as_str(&self) -> &str
-        ensures { result.now ≡ short_text self.now }
-    {
-        unsafe { std::str::from_utf8_unchecked(&self.bytes[..self.len]) }
-    }
 }

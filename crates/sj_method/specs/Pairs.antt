@@ -3,13 +3,14 @@ use Rattle.std.specs.Prelude.{[], map, unwrap_or, Option, Some, None, Result, Ok
 use Rattle.sj_base.specs.declared.state.State.{State}
 use Rattle.sj_base.specs.declared.state.State.TheVariants.{S2203C}
 use Rattle.sj_doc.specs.Kinds.{kind_of}
+use Rattle.sj_doc.specs.Listed.{node_id}
 use Rattle.sj_doc.specs.declared.node.Kind.{Kind}
 use Rattle.sj_doc.specs.declared.node.Kind.TheVariants as kinds
-use Rattle.sj_item.specs.Items.{ItemValue, node, made_number, made_text, made_truth, made_null, made_pair, item_tree, pair_value, PullValue, gives, ends}
-use Rattle.sj_item.specs.declared.item.Pair.{Pair}
+use Rattle.sj_item.specs.Items.{ItemValue, node, made_number, made_text, made_truth, made_null, made_pair, item_tree, pair_item, PullValue, gives, ends}
+use Rattle.sj_item.specs.declared.pair.Pair.{Pair}
 use Rattle.sj_step.specs.Trace.{Trace, fail}
 use Rattle.sj_step.specs.Reach.{Child, child_item, children_of, child_visits, every}
-use Rattle.sj_step.specs.Walk.{from_part}
+use Rattle.sj_step.specs.PairParts.{from_part}
 use Rattle.sj_method.specs.declared.keyvalue.PairWalk.{PairWalk}
 use Rattle.sj_method.specs.declared.keyvalue.Members.{Members}
 use Rattle.sj_method.specs.declared.keyvalue.Made.{Made}
@@ -51,16 +52,13 @@ key_values x = or_fault (pairs_of x)
 
 -- ---- what a walk has left
 
-abbrev pub pair_item : Pair → ItemValue
-pair_item p = made_pair p.name.now (pair_value p.value) p.id
-
 -- one answer of a walk
 abbrev pub pair_pull : Option Pair → PullValue
 pair_pull None = ends
 pair_pull (Some p) = gives (pair_item p)
 
 abbrev pub members_left : Members → Trace
-members_left m = every 1 (map (pair_of m.id) (map child_item m.left))
+members_left m = every 1 (map (pair_of (pos (node_id m.object))) (map child_item m.left))
 
 abbrev pub made_left : Made → Trace
 made_left m = every 0 (from_part m.part (map (pair_of (negsuc 0)) (children_of (pair_item m.pair))))

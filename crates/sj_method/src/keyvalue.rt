@@ -1,16 +1,16 @@
 // The pairs of an object.
-ghost use Rattle.std.specs.Prelude.{◌≡◌, [], map, pos, negsuc, unwrap_or, option_map};
+ghost use Rattle.std.specs.Prelude.{◌≡◌, map, pos, negsuc};
 ghost use Rattle.sj_doc.specs.Listed.{node_id, node_tree};
-ghost use Rattle.sj_item.specs.Items.{item_value, pair_value, node as node_value, made_pair};
+ghost use Rattle.sj_item.specs.Items.{item_value, pair_item, node as node_value};
 ghost use Rattle.sj_step.specs.Reach.{children_of, every};
 ghost use Rattle.sj_step.specs.Takes.{Takes};
 ghost use Rattle.sj_step.specs.Trace.{first, rest};
-ghost use Rattle.sj_method.specs.Pairs.{pairs_of, pairs_left, pair_pull, pair_item, pair_of, started, members_left, made_left};
+ghost use Rattle.sj_method.specs.Pairs.{pairs_of, pairs_left, pair_pull, pair_of, started, members_left, made_left};
 
 use sj_base::{Ledger, State, Steps};
 use sj_doc::{Children, Kind, NodeRef};
-use sj_item::{Item, Pair, PairValue};
-use sj_step::{PairPart, whole_number};
+use sj_item::{Item, Pair};
+use sj_step::PairPart;
 
 /// What the method `keyvalue` has left to give of one object. Contracts see the trace that is left, `pairs_left`.
 #[derive(Drop)]
@@ -24,10 +24,10 @@ enum Left<'d> {
     Made(Made<'d>),
 }
 
-/// The members of a node that are left, and its number.
+/// The members of a node that are left, and the node.
 #[derive(Drop)]
 struct Members<'d> {
-    id: i64,
+    object: NodeRef<'d>,
     left: Children<'d>,
 }
 
@@ -72,7 +72,7 @@ impl<'d> PairWalk<'d> {
     {
         PairWalk {
             left: Left::Members(Members {
-                id: node.id() as i64,
+                object: node,
                 left: node.children(),
             }),
         }
@@ -95,23 +95,9 @@ impl<'d> Members<'d> {
         ensures { Takes (members_left self.old) (pair_pull result) (members_left self.new) steps.old steps.new }
     {
         match self.left.next(steps) {
-            Some(member) => Some(Pair {
-                name: name_of(member.key),
-                value: PairValue::Node(member.node),
-                id: self.id,
-            }),
+            Some(member) => Some(Pair::of_member(member.node, self.object)),
             None => None,
         }
-    }
-}
-
-// The key of a member, which is there since its parent is an object.
-fn name_of<'d>(key: Option<&'d str>) -> &'d str
-    ensures { result.now ≡ unwrap_or (option_map (λ s. s.now) key.entry) [] }
-{
-    match key {
-        Some(name) => name,
-        None => "",
     }
 }
 
@@ -123,27 +109,17 @@ impl<'d> Made<'d> {
         match self.part {
             PairPart::Name => {
                 self.part = PairPart::Value;
-                Some(pair_with("name", PairValue::Text(self.pair.name)))
+                Some(self.pair.of_name())
             }
             PairPart::Value => {
                 self.part = PairPart::Id;
-                Some(pair_with("value", self.pair.value))
+                Some(self.pair.of_value())
             }
             PairPart::Id => {
                 self.part = PairPart::Nothing;
-                Some(pair_with("id", PairValue::Num(whole_number(self.pair.id as i128))))
+                Some(self.pair.of_id())
             }
             PairPart::Nothing => None,
         }
-    }
-}
-
-fn pair_with<'d>(name: &'d str, value: PairValue<'d>) -> Pair<'d>
-    ensures { pair_item result ≡ made_pair name.entry.now (pair_value value.entry) (negsuc 0) }
-{
-    Pair {
-        name,
-        value,
-        id: -1,
     }
 }

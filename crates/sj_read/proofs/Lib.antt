@@ -11,7 +11,7 @@ pub mod Numerals
 pub mod Escapes
 -- for `unescape`
 pub mod Unescaping
--- for `read_into`
+-- for `read_over`
 pub mod Ends
 -- for `high_in_32`, `others_in_16`, `stops_in_16`, `stops_in_32` and `stops_in_8`
 pub mod Lanes

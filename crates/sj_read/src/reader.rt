@@ -8,6 +8,7 @@ ghost use Rattle.sj_json.specs.Building.{State};
 ghost use Rattle.sj_json.specs.Spelling.{SpellsText, IsJson};
 ghost use Rattle.sj_json.specs.Machine.{value as value_mode, key as key_mode, colon as colon_mode, after_value as after_mode};
 ghost use Rattle.sj_doc.specs.Builders.{node_total};
+ghost use Rattle.sj_read.specs.LinesRead.{IsReadAs};
 ghost use Rattle.sj_read.specs.Scans.{EndsPlain};
 ghost use Rattle.sj_read.specs.Turns.{mode_of, closes_at, Ready, TakesOneKey, Turns};
 
@@ -628,6 +629,15 @@ fn turn(
     }
 }
 
+/// What a line was read as.
+#[derive(Drop)]
+pub enum LineRead {
+    /// The document that it spells.
+    Json(Doc),
+    /// It is no JSON text within the limits. The builder has the memory that was to hold its document.
+    NotJson(DocBuilder),
+}
+
 /// The document that the line spells (RFC 8259). Equal keys of an object are kept, in their order.
 ///
 /// The answer is `NotJson` exactly where the line is not well-formed UTF-8, has more than `MAX_LENGTH`
@@ -638,52 +648,45 @@ pub fn read(alloc: Global, line: &[u8]) -> Result<Doc, ReadRefusal>
     ensures ok { IfOk result (λ doc. SpellsText doc line.now × IsJson line.now) }
     ensures refused { result ≡ Err ReadRefusal.NotJson → IsJson line.now → ⊥ }
 {
-    read_over(alloc, None, line)
+    match read_over(alloc, DocBuilder::new(alloc), line) {
+        Ok(LineRead::Json(doc)) => Ok(doc),
+        Ok(LineRead::NotJson(_)) => Err(ReadRefusal::NotJson),
+        Err(Memory) => Err(ReadRefusal::Memory),
+    }
 }
 
-/// The same, in the memory of an earlier document, where there is one. A refusal gives that memory back to the
-/// allocator.
+/// The same, in the memory of a builder, whatever it holds: that of an earlier document, by `Doc::recycle`, or of an
+/// earlier line that is not JSON.
+///
+/// # Errors
+/// [`Memory`] where memory runs out. The memory of the builder is given back to the allocator then.
 ///
 /// Example: `[1, 2, 3]` is read in the memory of the document before (`sj_document_tests::examples::lines_are_read`).
-pub fn read_over(alloc: Global, earlier: Option<Doc>, line: &[u8]) -> Result<Doc, ReadRefusal>
-    ensures ok { IfOk result (λ doc. SpellsText doc line.now × IsJson line.now) }
-    ensures refused { result ≡ Err ReadRefusal.NotJson → IsJson line.now → ⊥ }
-{
-    let builder = match earlier {
-        Some(doc) => doc.recycle(),
-        None => DocBuilder::new(alloc),
-    };
-    read_into(alloc, builder, line)
-}
-
-// The same, over the memory of a builder.
-fn read_into(alloc: Global, builder: DocBuilder, line: &[u8]) -> Result<Doc, ReadRefusal>
-    ensures ok { IfOk result (λ doc. SpellsText doc line.now × IsJson line.now) }
-    ensures refused { result ≡ Err ReadRefusal.NotJson → IsJson line.now → ⊥ }
+pub fn read_over(alloc: Global, builder: DocBuilder, line: &[u8]) -> Result<LineRead, Memory>
+    ensures { IfOk result (IsReadAs line.now) }
 {
     if line.len() > MAX_LENGTH {
-        return Err(ReadRefusal::NotJson);
+        return Ok(LineRead::NotJson(builder));
     }
     let Some(text) = text_of(line) else {
-        return Err(ReadRefusal::NotJson);
+        return Ok(LineRead::NotJson(builder));
     };
-    let Ok(mut builder) = builder.holding(text) else {
-        return Err(ReadRefusal::Memory);
-    };
+    let mut builder = builder.holding(text)?;
     let mut buffer = String::new(alloc);
     let mut mode = Mode::Value;
     let mut at = 0;
     while at < text.len() {
         match turn(&mut builder, &mut buffer, &mut mode, text, at) {
             Ok(to) => at = to,
-            Err(refusal) => return Err(refusal),
+            Err(ReadRefusal::NotJson) => return Ok(LineRead::NotJson(builder)),
+            Err(ReadRefusal::Memory) => return Err(Memory),
         }
     }
     match mode {
         Mode::AfterValue => match builder.wants() {
-            Want::Nothing => Ok(builder.finish()),
-            _ => Err(ReadRefusal::NotJson),
+            Want::Nothing => Ok(LineRead::Json(builder.finish())),
+            _ => Ok(LineRead::NotJson(builder)),
         },
-        _ => Err(ReadRefusal::NotJson),
+        _ => Ok(LineRead::NotJson(builder)),
     }
 }

@@ -1,11 +1,22 @@
 // The text of a string with escapes.
-ghost use Rattle.std.specs.Prelude.{◌≡◌, ◌-◌, ◌<◌, ◌≤◌, length, slice_index, IfOk, MatchOption};
+ghost use Rattle.std.specs.Prelude.{◌≡◌, ◌++◌, ◌-◌, ◌<◌, ◌≤◌, length, slice_index, IfOk, OnOk, MatchOption};
 ghost use Rattle.std.specs.String.{string_bytes};
 ghost use Rattle.sj_read.specs.Strings.{FindsString, NoString};
 
 use crate::escape::escaped_char;
 use crate::plain::plain_end;
 use sj_base::Memory;
+
+// Puts plain text at the end of the buffer. Between two escapes there is often none.
+#[inline(always)]
+fn push_plain(buffer: &mut String, plain: &str) -> Result<(), Memory>
+    ensures { OnOk result (string_bytes buffer.new ≡ string_bytes buffer.old ++ plain.now) }
+{
+    if !plain.is_empty() {
+        buffer.push_str(plain)?;
+    }
+    Ok(())
+}
 
 // Puts the text of the string that begins at `from`, behind its quotation mark, in place of what the buffer
 // had. The answer is where the string ends.
@@ -23,7 +34,7 @@ pub(crate) fn unescape(
     let mut at = from;
     while at < text.len() {
         let end = plain_end(bytes, at);
-        buffer.push_str(&text[at..end])?;
+        push_plain(buffer, &text[at..end])?;
         if end == text.len() {
             return Ok(None);
         }

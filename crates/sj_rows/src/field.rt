@@ -1,28 +1,45 @@
-// The text of a field.
-ghost use Rattle.std.specs.Prelude.{◌≡◌, ◌++◌, ◌<◌, ◌≤◌, length, take, slice_index, true, false, OnOk, OnErr};
+// The texts of fields.
+ghost use Rattle.std.specs.Prelude.{◌≡◌, ◌++◌, ◌<◌, ◌≤◌, length, take, slice_index, true, false, codes, OnOk, OnErr};
 ghost use Rattle.std.specs.List.{flat_map};
 ghost use Rattle.sj_text.specs.Prefixes.{AppendsPrefix};
 ghost use Rattle.sj_value.specs.Values.{IsPrintable};
-ghost use Rattle.sj_rows.specs.RowText.{has_escape, escaped_byte, escaped, number_field, field};
+ghost use Rattle.sj_rows.specs.RowText.{has_escape, escaped_byte, escaped, number_field, tabbed};
 
 use sj_base::{Bytes, Memory};
 use sj_decimal::Decimal;
 use sj_value::SqlValue;
 
-// Appends a field.
-pub(crate) fn field_text(out: &mut Bytes, value: &SqlValue) -> Result<(), Memory>
+// Appends a TAB and a field. What has few bytes comes with its TAB at once.
+pub(crate) fn tabbed_text(out: &mut Bytes, value: &SqlValue) -> Result<(), Memory>
     requires { IsPrintable value.now }
-    ensures ok { OnOk result (out.new ≡ out.old ++ field value.now) }
-    ensures err { OnErr result (AppendsPrefix out.old (field value.now) out.new) }
+    ensures ok { OnOk result (out.new ≡ out.old ++ tabbed value.now) }
+    ensures err { OnErr result (AppendsPrefix out.old (tabbed value.now) out.new) }
 {
     match value {
-        SqlValue::Null => out.push(b"\\N"),
-        SqlValue::Text(text) => push_escaped(out, text.as_str().as_bytes()),
-        SqlValue::Num(number, places) => number_text(out, *number, *places),
-        SqlValue::Bool(true) => out.push(b"TRUE"),
-        SqlValue::Bool(false) => out.push(b"FALSE"),
-        SqlValue::Json(text) => push_escaped(out, text.as_slice()),
+        SqlValue::Null => out.push(b"\t\\N"),
+        SqlValue::Text(text) => tabbed_bytes(out, text.as_str().as_bytes()),
+        SqlValue::Num(number, places) => tabbed_number(out, *number, *places),
+        SqlValue::Bool(true) => out.push(b"\tTRUE"),
+        SqlValue::Bool(false) => out.push(b"\tFALSE"),
+        SqlValue::Json(text) => tabbed_bytes(out, text.as_slice()),
     }
+}
+
+fn tabbed_bytes(out: &mut Bytes, bytes: &[u8]) -> Result<(), Memory>
+    ensures ok { OnOk result (out.new ≡ out.old ++ (codes "\t" ++ escaped bytes.now)) }
+    ensures err { OnErr result (AppendsPrefix out.old (codes "\t" ++ escaped bytes.now) out.new) }
+{
+    out.push(b"\t")?;
+    push_escaped(out, bytes)
+}
+
+fn tabbed_number(out: &mut Bytes, number: Decimal, places: u32) -> Result<(), Memory>
+    requires { IsPrintable (SqlValue.Num number places) }
+    ensures ok { OnOk result (out.new ≡ out.old ++ (codes "\t" ++ number_field number places)) }
+    ensures err { OnErr result (AppendsPrefix out.old (codes "\t" ++ number_field number places) out.new) }
+{
+    out.push(b"\t")?;
+    number_text(out, number, places)
 }
 
 fn number_text(out: &mut Bytes, number: Decimal, places: u32) -> Result<(), Memory>

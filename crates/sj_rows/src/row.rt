@@ -5,7 +5,7 @@ ghost use Rattle.sj_text.specs.Prefixes.{AppendsPrefix};
 ghost use Rattle.sj_value.specs.Values.{IsPrintable};
 ghost use Rattle.sj_rows.specs.RowText.{row_head, tabbed, row_bytes, error_bytes};
 
-use crate::field::field_text;
+use crate::field::tabbed_text;
 use itoa::write_digits;
 use sj_base::{Bytes, Memory, State};
 use sj_value::SqlValue;
@@ -75,13 +75,4 @@ fn fields_text(out: &mut Bytes, fields: &[SqlValue]) -> Result<(), Memory>
         tabbed_text(out, value)?;
     }
     Ok(())
-}
-
-fn tabbed_text(out: &mut Bytes, value: &SqlValue) -> Result<(), Memory>
-    requires { IsPrintable value.now }
-    ensures ok { OnOk result (out.new ≡ out.old ++ tabbed value.now) }
-    ensures err { OnErr result (AppendsPrefix out.old (tabbed value.now) out.new) }
-{
-    out.push(b"\t")?;
-    field_text(out, value)
 }

@@ -1,5 +1,7 @@
 -- for `TableRows::new`
 mod SoundColumns
+-- for `columns_of`
+mod MadeColumns
 -- for `find_listed`
 mod Listing
 -- for `RowSource::find`

@@ -40,6 +40,11 @@ out_of_memory (Ok f) due e =
     absurd no
 out_of_memory (Err m) due e = refl
 
+-- ---- where no row comes, nothing more is due
+
+pub end_spends : (due others m n : ℕ) → Spends due 0 m n → Spends (due + others) 0 m n
+end_spends due others m n spends = record { falls = omega arith; costs = omega (arith, spends.costs) }
+
 -- ---- a row
 
 module _ (line : Line) (table : b.Table) (list : List b.Value) where

@@ -1,14 +1,17 @@
 -- The aggregates over rows of which one comes behind the others.
-use Rattle.std.proofs.Common.{◌≡◌, ◌<◌, ℕ, zero, suc, Bool, length, get_or, arith, Option, List, [], ◌∷◌, ◌++◌, None, Result, Ok, Err, ◌+◌, map, drop, append_assoc, refl, sym, ap, subst, ◌∙◌}
+use Rattle.std.proofs.Common.{◌≡◌, ◌<◌, ℕ, zero, suc, Bool, length, get_or, arith, Option, List, [], ◌∷◌, ◌++◌, None, Result, Ok, Err, OnOk, IfErr, MatchResult, ◌+◌, map, drop, append_assoc, refl, sym, ap, subst, ◌∙◌}
 use Rattle.sj_base.specs.declared.state.State.{State}
 use Rattle.sj_value.specs.declared.clauses.Nulls.{Nulls}
 use Rattle.sj_value.specs.declared.value.SqlValue.{SqlValue}
 use Rattle.sj_value.specs.declared.value.SqlValue.TheVariants.{Null, Json}
 use Rattle.sj_func.specs.declared.context.Outcome.{Outcome}
 use Rattle.sj_func.specs.declared.context.Outcome.TheVariants.{Value, Raised}
+use Rattle.sj_build.specs.Answers.{RefusesAs}
 use Rattle.sj_build.specs.Constructors.{object_aggregate, object_value, object_text, first_refusal, unless_refused}
 use Rattle.sj_build.specs.SoFar.{StandsForValues, StandsForFields}
 use Rattle.sj_build.specs.declared.field.Field.{Field}
+use Rattle.sj_build.specs.declared.refusal.BuildRefusal.{BuildRefusal}
+use Rattle.sj_build.specs.declared.refusal.BuildRefusal.TheVariants as refusal
 use Rattle.sj_bound.specs.Bound as b
 use Rattle.std.specs.List.{All}
 use Rattle.std.proofs.lemmas.List.{drop_more, map-append}
@@ -17,7 +20,7 @@ use Rattle.sj_bound.specs.View.{value_of, item_of, items_of}
 use Rattle.sj_bound.specs.declared.bound.BoundItem.{BoundItem}
 use Rattle.sj_select_list.specs.Aggregates.{Aggregate, aggregates_in, array_over, object_over, values_over, members_over, aggregate, aggregates}
 use Rattle.sj_select_list.specs.Line.{Line}
-use Rattle.sj_select_list.specs.Taking.{CanTake, array_call, object_call, aggregate_of, IsObjectReady, IsReady, HasTakenValues, HasTakenMembers, HasTaken}
+use Rattle.sj_select_list.specs.Taking.{CanTake, array_call, object_call, aggregate_of, IsObjectReady, IsReady, HasTakenValues, HasTakenMembers, HasTaken, Raises}
 use Rattle.sj_select_list.specs.Values.{given, value_before, member_before, outcome_of, each_value}
 use Rattle.sj_select_list.specs.declared.aggregate.Aggregate.{Aggregate as AggregateHeld}
 use Rattle.sj_select_list.specs.declared.aggregate.Aggregate.TheVariants as held
@@ -150,8 +153,14 @@ array_taken line rows columns v old new same is stands h =
       stands = stands h.values h.stands;
     }
 
+-- a value that raises a state behind others
+pub array_raises : (line : Line) (rows : List (List SqlValue)) (columns : List SqlValue) (c : ArrayCall) (r : BuildRefusal) → Raises (given line columns (value_of c.value.value.now)) r
+    → HasTakenValues line rows c → Raises (aggregate line (rows ++ columns ∷ []) (array_call c)) r
+array_raises line rows columns c (refusal.State s) is h = ap (array_over c.nulls) (values-raised (λ row. given line row (value_of c.value.value.now)) rows columns h.values s h.given is)
+array_raises line rows columns c refusal.Memory is h = tt
+
 -- a member that is taken behind others
-pub object_taken : (line : Line) (rows : List (List SqlValue)) (columns : List SqlValue) (k v : SqlValue) (old new : ObjectCall) → new.key.value ≡ old.key.value → new.value.value ≡ old.value.value
+object_taken : (line : Line) (rows : List (List SqlValue)) (columns : List SqlValue) (k v : SqlValue) (old new : ObjectCall) → new.key.value ≡ old.key.value → new.value.value ≡ old.value.value
     → given line columns (value_of old.key.value.now) ≡ Value k → given line columns (value_of old.value.value.now) ≡ Value v
     → ((fields : List Field) → StandsForFields fields old.object → StandsForFields (fields ++ record { key = k; value = v } ∷ []) new.object) → HasTakenMembers line rows old → HasTakenMembers line (rows ++ columns ∷ []) new
 object_taken line rows columns k v old new same_key same is_key is stands h =
@@ -163,7 +172,7 @@ object_taken line rows columns k v old new same_key same is_key is stands h =
     }
 
 -- a member that is refused behind others
-pub object_refused : (line : Line) (rows : List (List SqlValue)) (columns : List SqlValue) (k v : SqlValue) (s : State) (c : ObjectCall) → IsObjectReady c
+object_refused : (line : Line) (rows : List (List SqlValue)) (columns : List SqlValue) (k v : SqlValue) (s : State) (c : ObjectCall) → IsObjectReady c
     → given line columns (value_of c.key.value.now) ≡ Value k → given line columns (value_of c.value.value.now) ≡ Value v
     → ((fields : List Field) → StandsForFields fields c.object → object_value c.object.nulls c.object.unique (fields ++ record { key = k; value = v } ∷ []) ≡ Err s)
     → HasTakenMembers line rows c → aggregate line (rows ++ columns ∷ []) (object_call c) ≡ Raised s
@@ -172,6 +181,33 @@ object_refused line rows columns k v s c ready is_key is refused h =
     ∙ ap outcome_of (object_more c.nulls c.unique h.fields (record { key = k; value = v })
     ∙ ap (λ (n : Nulls). object_value n c.unique (h.fields ++ record { key = k; value = v } ∷ [])) (sym ready.nulls)
     ∙ ap (λ (u : Bool). object_value c.object.nulls u (h.fields ++ record { key = k; value = v } ∷ [])) (sym ready.unique) ∙ refused h.fields h.stands)
+
+-- a key that raises a state behind others
+pub key_raises : (line : Line) (rows : List (List SqlValue)) (columns : List SqlValue) (c : ObjectCall) (r : BuildRefusal) → Raises (given line columns (value_of c.key.value.now)) r
+    → HasTakenMembers line rows c → Raises (aggregate line (rows ++ columns ∷ []) (object_call c)) r
+key_raises line rows columns c (refusal.State s) is h =
+    ap (object_over c.nulls c.unique) (members-raised line (value_of c.key.value.now) (value_of c.value.value.now) rows columns h.fields s h.given
+    (key_raised line (value_of c.key.value.now) (value_of c.value.value.now) columns s is))
+key_raises line rows columns c refusal.Memory is h = tt
+
+-- a value behind its key
+pub value_raises : (line : Line) (rows : List (List SqlValue)) (columns : List SqlValue) (c : ObjectCall) (k : SqlValue) (r : BuildRefusal) → given line columns (value_of c.key.value.now) ≡ Value k
+    → Raises (given line columns (value_of c.value.value.now)) r → HasTakenMembers line rows c → Raises (aggregate line (rows ++ columns ∷ []) (object_call c)) r
+value_raises line rows columns c k (refusal.State s) is_key is h =
+    ap (object_over c.nulls c.unique) (members-raised line (value_of c.key.value.now) (value_of c.value.value.now) rows columns h.fields s h.given
+    (value_raised line (value_of c.key.value.now) (value_of c.value.value.now) columns k s is_key is))
+value_raises line rows columns c k refusal.Memory is_key is h = tt
+
+-- a member that is there, behind others
+pub member_taken : (line : Line) (rows : List (List SqlValue)) (columns : List SqlValue) (k v : SqlValue) (old new : ObjectCall) (r : Result Unit BuildRefusal) → IsObjectReady old
+    → new.key.value ≡ old.key.value → new.value.value ≡ old.value.value
+    → given line columns (value_of old.key.value.now) ≡ Value k → given line columns (value_of old.value.value.now) ≡ Value v
+    → ((fields : List Field) → StandsForFields fields old.object → OnOk r (StandsForFields (fields ++ record { key = k; value = v } ∷ []) new.object))
+    → ((fields : List Field) → StandsForFields fields old.object → IfErr r (RefusesAs (object_value old.object.nulls old.object.unique (fields ++ record { key = k; value = v } ∷ []))))
+    → HasTakenMembers line rows old → MatchResult r (λ _. HasTakenMembers line (rows ++ columns ∷ []) new) (Raises (aggregate line (rows ++ columns ∷ []) (object_call old)))
+member_taken line rows columns k v old new (Ok u) ready same_key same is_key is stands refuses h = object_taken line rows columns k v old new same_key same is_key is stands h
+member_taken line rows columns k v old new (Err (refusal.State s)) ready same_key same is_key is stands refuses h = object_refused line rows columns k v s old ready is_key is refuses h
+member_taken line rows columns k v old new (Err refusal.Memory) ready same_key same is_key is stands refuses h = tt
 
 -- ---- the items of a list
 

@@ -1,5 +1,7 @@
 -- for `ArrayCall::take`, `ObjectCall::take`, `aggregates_of` and `take_all`, and for crates above
 pub mod Aggregating
+-- for `push_value`
+mod Appending
 -- for `find`, `find_list` and `Finder::find`
 mod FoundValues
 -- for `finish_all` and `take_all`, and for crates above

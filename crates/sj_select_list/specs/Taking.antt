@@ -1,11 +1,13 @@
 -- How the aggregates of a SELECT list are held, and what they have taken.
-use Rattle.std.specs.Prelude.{◌≡◌, List, Option, Some, None, Result, Ok, Err, All as Each}
+use Rattle.std.specs.Prelude.{◌≡◌, List, Option, Some, None, Result, Ok, Err, ⊤, All as Each}
 use Rattle.sj_base.specs.declared.state.State.{State}
 use Rattle.sj_value.specs.declared.value.SqlValue.{SqlValue}
 use Rattle.sj_func.specs.declared.context.Outcome.{Outcome}
-use Rattle.sj_func.specs.declared.context.Outcome.TheVariants.{Value, Raised}
+use Rattle.sj_func.specs.declared.context.Outcome.TheVariants.{Raised}
 use Rattle.sj_build.specs.SoFar.{StandsForValues, StandsForFields}
 use Rattle.sj_build.specs.declared.field.Field.{Field}
+use Rattle.sj_build.specs.declared.refusal.BuildRefusal.{BuildRefusal}
+use Rattle.sj_build.specs.declared.refusal.BuildRefusal.TheVariants as refusal
 use Rattle.sj_bound.specs.Bound as b
 use Rattle.sj_bound.specs.View.{value_of}
 use Rattle.sj_select_list.specs.Aggregates.{Aggregate, array_of, object_of, values_over, members_over}
@@ -25,11 +27,15 @@ pub record IsFinder (f : Finder) : Type 0 where
   pub finds : steps_of f.operations.items ≡ steps_to (value_of f.value.now)
   pub given : Each CanBeGiven (steps_of f.operations.items)
 
--- what was found, wherever it stands
-abbrev pub lent_outcome : Lent → Outcome
-lent_outcome (lent.Column v) = Value v.now
-lent_outcome (lent.Made v) = Value v
-lent_outcome (lent.Raised s) = Raised s
+-- the value that was found, wherever it stands
+abbrev pub lent_value : Lent → SqlValue
+lent_value (lent.Column v) = v.now
+lent_value (lent.Made v) = v
+
+-- a refusal with a state is for the state that is raised; being out of memory has no cause
+abbrev pub Raises : Outcome → BuildRefusal → Type 0
+Raises outcome (refusal.State s) = outcome ≡ Raised s
+Raises outcome refusal.Memory = ⊤
 
 -- the clauses of what an aggregate takes can be given
 abbrev pub CanTake : b.Item → Type 0
@@ -81,12 +87,7 @@ HasTaken line rows (held.Object c) = HasTakenMembers line rows c
 
 -- ---- taking one row more
 
--- it was taken, or the aggregate over all rows with it raises this state
-abbrev pub Takes : Outcome → Type 0 → Option State → Type 0
-Takes over taken None = taken
-Takes over taken (Some s) = over ≡ Raised s
-
--- the same of all aggregates, the first that raises a state deciding
+-- all aggregates have taken it, or the list of all over all rows with it raises this state
 abbrev pub AllTake : Result (List SqlValue) State → Type 0 → Option State → Type 0
 AllTake over taken None = taken
 AllTake over taken (Some s) = over ≡ Err s

@@ -1,5 +1,5 @@
 // The aggregates of a SELECT list, while they take one row after another.
-ghost use Rattle.std.specs.Prelude.{◌≡◌, ◌≤◌, ◌++◌, ◌∷◌, [], List, All, IfOk, map};
+ghost use Rattle.std.specs.Prelude.{◌≡◌, ◌≤◌, ◌++◌, ◌∷◌, [], List, All, IfOk, MatchResult, map};
 ghost use Rattle.sj_base.specs.Count.{raised};
 ghost use Rattle.sj_value.specs.Values.{IsPrintable};
 ghost use Rattle.sj_value.specs.declared.value.SqlValue.{SqlValue as Value};
@@ -8,12 +8,12 @@ ghost use Rattle.sj_bound.specs.View.{items_of};
 ghost use Rattle.sj_select_list.specs.Aggregates.{aggregate, aggregates, aggregates_in, input_cost, inputs_cost};
 ghost use Rattle.sj_select_list.specs.Gathers.{Gathers};
 ghost use Rattle.sj_select_list.specs.Line.{Line, line_of};
-ghost use Rattle.sj_select_list.specs.Taking.{CanTake, array_call, object_call, aggregate_of, IsArrayReady, IsObjectReady, IsReady, HasTakenValues, HasTakenMembers, HasTaken, Takes, AllTake};
+ghost use Rattle.sj_select_list.specs.Taking.{CanTake, array_call, object_call, aggregate_of, IsArrayReady, IsObjectReady, IsReady, HasTakenValues, HasTakenMembers, HasTaken, Raises, AllTake};
 
 use crate::finder::Finder;
 use crate::line::LineDoc;
 use crate::stack::Stack;
-use sj_base::{Ledger, Memory, State, Steps};
+use sj_base::{Ledger, Memory, State, Steps, push};
 use sj_bound::BoundItem;
 use sj_build::{ArrayAgg, BuildRefusal, ObjectAgg};
 use sj_value::{Nulls, SqlValue};
@@ -97,24 +97,19 @@ impl<'d> ArrayCall<'d> {
         columns: &[SqlValue],
         stack: &mut Stack,
         steps: &mut Steps<L>,
-    ) -> Result<Option<State>, Memory>
+    ) -> Result<(), BuildRefusal>
         requires ready { IsArrayReady self.old }
         requires columns { All IsPrintable columns.now }
-        ensures takes { (rows : List (List Value)) → HasTakenValues (line_of line.entry) rows self.old → IfOk result (λ raised.
-            Takes (aggregate (line_of line.entry) (rows ++ columns.now ∷ []) (array_call self.old)) (HasTakenValues (line_of line.entry) (rows ++ columns.now ∷ []) self.new) raised) }
+        ensures takes { (rows : List (List Value)) → HasTakenValues (line_of line.entry) rows self.old → MatchResult result
+            (λ _. HasTakenValues (line_of line.entry) (rows ++ columns.now ∷ []) self.new) (Raises (aggregate (line_of line.entry) (rows ++ columns.now ∷ []) (array_call self.old))) }
         ensures costs { steps.new ≤ raised steps.old (input_cost (line_of line.entry) columns.now (array_call self.old)) }
         ensures call { array_call self.new ≡ array_call self.old }
         ensures ready { IsArrayReady self.new }
         ensures printable { All IsPrintable stack.new.values.items }
     {
-        let found = self.value.lend(alloc, line, columns, stack, steps)?;
-        match found.value() {
-            Ok(value) => {
-                self.array.add(value)?;
-                Ok(None)
-            }
-            Err(state) => Ok(Some(state)),
-        }
+        let value = self.value.lend(alloc, line, columns, stack, steps)?;
+        self.array.add(value.value())?;
+        Ok(())
     }
 
     /// The array of all values that were taken, or NULL where there was no row.
@@ -148,31 +143,19 @@ impl<'d> ObjectCall<'d> {
         columns: &[SqlValue],
         stack: &mut Stack,
         steps: &mut Steps<L>,
-    ) -> Result<Option<State>, Memory>
+    ) -> Result<(), BuildRefusal>
         requires ready { IsObjectReady self.old }
         requires columns { All IsPrintable columns.now }
-        ensures takes { (rows : List (List Value)) → HasTakenMembers (line_of line.entry) rows self.old → IfOk result (λ raised.
-            Takes (aggregate (line_of line.entry) (rows ++ columns.now ∷ []) (object_call self.old)) (HasTakenMembers (line_of line.entry) (rows ++ columns.now ∷ []) self.new) raised) }
+        ensures takes { (rows : List (List Value)) → HasTakenMembers (line_of line.entry) rows self.old → MatchResult result
+            (λ _. HasTakenMembers (line_of line.entry) (rows ++ columns.now ∷ []) self.new) (Raises (aggregate (line_of line.entry) (rows ++ columns.now ∷ []) (object_call self.old))) }
         ensures costs { steps.new ≤ raised steps.old (input_cost (line_of line.entry) columns.now (object_call self.old)) }
         ensures call { object_call self.new ≡ object_call self.old }
         ensures ready { IsObjectReady self.new }
         ensures printable { All IsPrintable stack.new.values.items }
     {
-        let found_key = self.key.lend(alloc, line, columns, stack, steps)?;
-        let key = match found_key.value() {
-            Ok(key) => key,
-            Err(state) => return Ok(Some(state)),
-        };
-        let found_value = self.value.lend(alloc, line, columns, stack, steps)?;
-        let value = match found_value.value() {
-            Ok(value) => value,
-            Err(state) => return Ok(Some(state)),
-        };
-        match self.object.add(key, value) {
-            Ok(()) => Ok(None),
-            Err(BuildRefusal::State(state)) => Ok(Some(state)),
-            Err(BuildRefusal::Memory) => Err(Memory),
-        }
+        let key = self.key.lend(alloc, line, columns, stack, steps)?;
+        let value = self.value.lend(alloc, line, columns, stack, steps)?;
+        self.object.add(key.value(), value.value())
     }
 
     /// The object of all members that were taken, or NULL where there was no row.
@@ -211,11 +194,11 @@ impl<'d> Aggregate<'d> {
         columns: &[SqlValue],
         stack: &mut Stack,
         steps: &mut Steps<L>,
-    ) -> Result<Option<State>, Memory>
+    ) -> Result<(), BuildRefusal>
         requires ready { IsReady self.old }
         requires columns { All IsPrintable columns.now }
-        ensures takes { (rows : List (List Value)) → HasTaken (line_of line.entry) rows self.old → IfOk result (λ raised.
-            Takes (aggregate (line_of line.entry) (rows ++ columns.now ∷ []) (aggregate_of self.old)) (HasTaken (line_of line.entry) (rows ++ columns.now ∷ []) self.new) raised) }
+        ensures takes { (rows : List (List Value)) → HasTaken (line_of line.entry) rows self.old → MatchResult result
+            (λ _. HasTaken (line_of line.entry) (rows ++ columns.now ∷ []) self.new) (Raises (aggregate (line_of line.entry) (rows ++ columns.now ∷ []) (aggregate_of self.old))) }
         ensures costs { steps.new ≤ raised steps.old (input_cost (line_of line.entry) columns.now (aggregate_of self.old)) }
         ensures call { aggregate_of self.new ≡ aggregate_of self.old }
         ensures ready { IsReady self.new }
@@ -259,22 +242,24 @@ pub fn aggregates_of<'d>(
             BoundItem::Value(_) => {}
             BoundItem::ArrayAgg(value, nulls) => {
                 let value = Finder::new(alloc, value)?;
-                all.push(Aggregate::Array(ArrayCall {
+                let call = ArrayCall {
                     value,
                     nulls: *nulls,
                     array: ArrayAgg::new(alloc, *nulls),
-                }))?;
+                };
+                push(&mut all, Aggregate::Array(call))?;
             }
             BoundItem::ObjectAgg(key, value, nulls, unique) => {
                 let key = Finder::new(alloc, key)?;
                 let value = Finder::new(alloc, value)?;
-                all.push(Aggregate::Object(ObjectCall {
+                let call = ObjectCall {
                     key,
                     value,
                     nulls: *nulls,
                     unique: *unique,
                     object: ObjectAgg::new(alloc, *nulls, *unique),
-                }))?;
+                };
+                push(&mut all, Aggregate::Object(call))?;
             }
         }
     }
@@ -318,8 +303,10 @@ pub fn take_all<'d, L: Ledger>(
     ensures printable { All IsPrintable stack.new.values.items }
 {
     for aggregate in all.iter_mut() {
-        if let Some(state) = aggregate.take(alloc, line, columns, stack, steps)? {
-            return Ok(Some(state));
+        match aggregate.take(alloc, line, columns, stack, steps) {
+            Ok(()) => {}
+            Err(BuildRefusal::State(state)) => return Ok(Some(state)),
+            Err(BuildRefusal::Memory) => return Err(Memory),
         }
     }
     Ok(None)

@@ -85,39 +85,30 @@ fn push_value<'d>(
     ensures steps { OnOk result (steps_of operations.new.items ≡ steps_of operations.old.items ++ steps_to (value_of value.now)) }
     ensures grows { OnOk result (length operations.old.items < length operations.new.items) }
 {
-    match value {
-        BoundValue::Lit(literal) => push(operations, Operation::Literal(literal)),
-        BoundValue::Column(number) => push(operations, Operation::Column(*number)),
-        BoundValue::Exists(path, on_error) => {
-            let cursor = cursor_of(alloc, path)?;
-            let call = ExistsCall {
-                cursor,
-                on_error: *on_error,
-            };
-            push(operations, Operation::Exists(call))
-        }
-        BoundValue::Value(path, clauses) => {
-            let cursor = cursor_of(alloc, path)?;
-            push(operations, Operation::Value(ValueCall { cursor, clauses }))
-        }
-        BoundValue::Query(path, clauses) => {
-            let cursor = cursor_of(alloc, path)?;
-            let call = QueryCall {
-                cursor,
-                clauses: *clauses,
-            };
-            push(operations, Operation::Query(call))
-        }
-        BoundValue::IsJson(call) => push(operations, Operation::IsJson(*call)),
+    let operation = match value {
+        BoundValue::Lit(literal) => Operation::Literal(literal),
+        BoundValue::Column(number) => Operation::Column(*number),
+        BoundValue::Exists(path, on_error) => Operation::Exists(ExistsCall {
+            cursor: cursor_of(alloc, path)?,
+            on_error: *on_error,
+        }),
+        BoundValue::Value(path, clauses) => Operation::Value(ValueCall {
+            cursor: cursor_of(alloc, path)?,
+            clauses,
+        }),
+        BoundValue::Query(path, clauses) => Operation::Query(QueryCall {
+            cursor: cursor_of(alloc, path)?,
+            clauses: *clauses,
+        }),
+        BoundValue::IsJson(call) => Operation::IsJson(*call),
         BoundValue::Object(members, nulls, unique) => {
-            let count = push_members(alloc, members, operations)?;
-            push(operations, Operation::Object(count, *nulls, *unique))
+            Operation::Object(push_members(alloc, members, operations)?, *nulls, *unique)
         }
         BoundValue::Array(values, nulls) => {
-            let count = push_values(alloc, values, operations)?;
-            push(operations, Operation::Array(count, *nulls))
+            Operation::Array(push_values(alloc, values, operations)?, *nulls)
         }
-    }
+    };
+    push(operations, operation)
 }
 
 // The same for the values of an array, and how many they are.

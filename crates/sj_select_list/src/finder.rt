@@ -2,13 +2,12 @@
 ghost use Rattle.std.specs.Prelude.{◌≡◌, ◌≤◌, All, IfOk, IfSome, MatchResult};
 ghost use Rattle.sj_base.specs.Count.{raised};
 ghost use Rattle.sj_value.specs.Values.{IsPrintable};
-ghost use Rattle.sj_func.specs.Functions.{IsPrinted};
 ghost use Rattle.sj_func.specs.declared.context.Outcome.TheVariants as outcome;
 ghost use Rattle.sj_bound.specs.View.{value_of};
 ghost use Rattle.sj_select_list.specs.Line.{Line, line_of};
 ghost use Rattle.sj_select_list.specs.Operations.{steps_to};
 ghost use Rattle.sj_select_list.specs.Performing.{CanBeGiven};
-ghost use Rattle.sj_select_list.specs.Taking.{IsFinder, lent_outcome};
+ghost use Rattle.sj_select_list.specs.Taking.{IsFinder, Raises, lent_value};
 ghost use Rattle.sj_select_list.specs.Values.{given, cost};
 
 use crate::build::operations_to;
@@ -16,9 +15,9 @@ use crate::find::find;
 use crate::line::LineDoc;
 use crate::operation::Operation;
 use crate::stack::Stack;
-use sj_base::{Ledger, Memory, State, Steps};
+use sj_base::{Ledger, Memory, Steps};
 use sj_bound::BoundValue;
-use sj_func::Outcome;
+use sj_build::BuildRefusal;
 use sj_value::SqlValue;
 use std::alloc::Global;
 
@@ -37,29 +36,23 @@ impl<'d> Drop for Finder<'d> {
     }
 }
 
-/// A value that was found, or the state that was raised in its place.
+/// A value that was found.
 #[derive(Drop)]
 pub(crate) enum Lent<'c> {
     /// The value of a column, where it stands. It is not copied.
     Column(&'c SqlValue),
     /// A value that was made.
     Made(SqlValue),
-    Raised(State),
 }
 
 impl<'c> Lent<'c> {
-    /// The value.
-    ///
-    /// # Errors
-    /// The state that was raised in its place.
     #[inline(always)]
-    pub(crate) fn value(&self) -> Result<&SqlValue, State>
-        ensures { MatchResult result (λ v. lent_outcome self.now ≡ outcome.Value v.now) (λ state. lent_outcome self.now ≡ outcome.Raised state) }
+    pub(crate) fn value(&self) -> &SqlValue
+        ensures { result.now ≡ lent_value self.now }
     {
         match self {
-            Lent::Column(value) => Ok(value),
-            Lent::Made(value) => Ok(value),
-            Lent::Raised(state) => Err(*state),
+            Lent::Column(value) => value,
+            Lent::Made(value) => value,
         }
     }
 }
@@ -78,10 +71,10 @@ impl<'d> Finder<'d> {
         Ok(Finder { value, operations })
     }
 
-    /// The value for a line, beside columns with these values, or the state that it raises. The stack is used meanwhile.
+    /// The value for a line, beside columns with these values. The stack is used meanwhile.
     ///
     /// # Errors
-    /// [`Memory`] where memory runs out. What is said of the counter holds then too.
+    /// `State` with the state that it raises, `Memory` where memory runs out. What is said of the counter holds then too.
     pub(crate) fn lend<'c, L: Ledger>(
         &mut self,
         alloc: Global,
@@ -89,10 +82,10 @@ impl<'d> Finder<'d> {
         columns: &'c [SqlValue],
         stack: &mut Stack,
         steps: &mut Steps<L>,
-    ) -> Result<Lent<'c>, Memory>
+    ) -> Result<Lent<'c>, BuildRefusal>
         requires ready { IsFinder self.old }
         requires columns { All IsPrintable columns.now }
-        ensures outcome { IfOk result (λ found. lent_outcome found ≡ given (line_of line.entry) columns.now (value_of self.old.value.now)) }
+        ensures outcome { let o = given (line_of line.entry) columns.now (value_of self.old.value.now) in MatchResult result (λ found. o ≡ outcome.Value (lent_value found)) (Raises o) }
         ensures costs { steps.new ≤ raised steps.old (cost (line_of line.entry) columns.now (value_of self.old.value.now)) }
         ensures value { self.new.value ≡ self.old.value }
         ensures ready { IsFinder self.new }
@@ -102,10 +95,8 @@ impl<'d> Finder<'d> {
             stack.clear();
             return Ok(Lent::Column(value));
         }
-        match self.find(alloc, line, columns, stack, steps)? {
-            Outcome::Value(value) => Ok(Lent::Made(value)),
-            Outcome::Raised(state) => Ok(Lent::Raised(state)),
-        }
+        let value = self.find(alloc, line, columns, stack, steps)?;
+        Ok(Lent::Made(value))
     }
 
     // The column whose value it is, where it is that of a column.
@@ -127,11 +118,10 @@ impl<'d> Finder<'d> {
         columns: &[SqlValue],
         stack: &mut Stack,
         steps: &mut Steps<L>,
-    ) -> Result<Outcome, Memory>
+    ) -> Result<SqlValue, BuildRefusal>
         requires ready { IsFinder self.old }
         requires columns { All IsPrintable columns.now }
-        ensures outcome { IfOk result (λ o. o ≡ given (line_of line.entry) columns.now (value_of self.old.value.now)) }
-        ensures printed { IfOk result IsPrinted }
+        ensures outcome { let o = given (line_of line.entry) columns.now (value_of self.old.value.now) in MatchResult result (λ v. o ≡ outcome.Value v) (Raises o) }
         ensures costs { steps.new ≤ raised steps.old (cost (line_of line.entry) columns.now (value_of self.old.value.now)) }
         ensures value { self.new.value ≡ self.old.value }
         ensures ready { IsFinder self.new }
@@ -140,10 +130,10 @@ impl<'d> Finder<'d> {
         stack.clear();
         let operations = self.operations.as_mut_slice();
         if let Some(state) = find(alloc, operations, line, columns, stack, steps)? {
-            return Ok(Outcome::Raised(state));
+            return Err(BuildRefusal::State(state));
         }
         match stack.values.pop() {
-            Some(value) => Ok(Outcome::Value(value)),
+            Some(value) => Ok(value),
             None => unreachable!(),
         }
     }

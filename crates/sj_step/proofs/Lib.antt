@@ -4,15 +4,13 @@ pub mod Spreads
 pub mod Traces
 -- examples of the definitions, which no proof needs
 mod Examples
--- for `Walk::elements`, `Walk::lax_range` and `Walk::strict_range`
+-- for crates above
 pub mod Ranges
 -- for `whole_number`
 pub mod Wholes
--- for `Elements::next`
-pub mod Walking
--- for `Elements::next`, and for other lemmas
+-- for the lemmas of `Ranges`, and for crates above
 pub mod Runs
--- for `last_index`, and for other lemmas
+-- for `last_index`, for other lemmas, and for crates above
 pub mod Lasts
--- for `Members::next`, and for crates above
+-- for crates above
 pub mod Keyed

@@ -2,6 +2,6 @@ pub mod Trace
 pub mod Takes
 pub mod Answers
 pub mod Reach
-pub mod Walk
+pub mod PairParts
 pub mod Coding
 pub mod Literals

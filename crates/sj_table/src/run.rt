@@ -5,12 +5,13 @@ ghost use Rattle.sj_item.specs.Items.{item_value, pull_value};
 ghost use Rattle.sj_path_tree.specs.View.{path_of};
 ghost use Rattle.sj_step.specs.Trace.{visits, fault_of};
 ghost use Rattle.sj_cursor.specs.Draws.{Draws};
-ghost use Rattle.sj_cursor.specs.FaultFree.{fault_free};
+ghost use Rattle.sj_fault_free.specs.FaultFree.{fault_free};
 ghost use Rattle.sj_cursor.specs.Meaning.{path_trace};
 ghost use Rattle.sj_table.specs.declared.run.Faults.TheVariants.{Never};
 
 use sj_base::{Ledger, Memory, State, Steps, boxed};
-use sj_cursor::{Cursor, is_fault_free};
+use sj_cursor::Cursor;
+use sj_fault_free::is_fault_free;
 use sj_item::{Item, Pull};
 use sj_path_tree::{Path, Vars};
 use std::alloc::Global;

@@ -3,7 +3,7 @@ ghost use Rattle.std.specs.Prelude.{◌≡◌, ◌++◌, ◌≤◌, OnOk, OnErr,
 ghost use Rattle.sj_base.specs.Count.{raised};
 ghost use Rattle.sj_json.specs.Printing.{printed, printed_string};
 ghost use Rattle.sj_decimal.specs.Text.{decimal_text as decimal_printed};
-ghost use Rattle.sj_item.specs.Items.{item_value, pair_value, item_tree, nodes_below};
+ghost use Rattle.sj_item.specs.Items.{item_value, pair_name, pair_held, pair_id, item_tree, nodes_below};
 ghost use Rattle.sj_text.specs.Prefixes.{AppendsPrefix};
 
 use crate::node::node_text;
@@ -30,7 +30,7 @@ pub fn item_text<'d, L: Ledger>(
         Item::Node(node) => node_text(node, out, steps),
         Item::Num(number) => decimal_text(number.value(), out),
         Item::Text(text) => string_text(text, out),
-        Item::Short(text) => string_text(text.as_str(), out),
+        Item::NumberText(number) => string_text(number.value().text().as_str(), out),
         Item::Bool(truth) => truth_text(truth, out),
         Item::Null => out.push(b"null"),
         Item::Pair(pair) => pair_text(pair, out, steps),
@@ -44,45 +44,45 @@ fn pair_text<L: Ledger>(pair: Pair<'_>, out: &mut Bytes, steps: &mut Steps<L>) -
     ensures steps { OnOk result (steps.new ≡ raised steps.old (nodes_below (item_value (Item.Pair pair.entry)))) }
     ensures at_most { OnErr result (steps.new ≤ raised steps.old (nodes_below (item_value (Item.Pair pair.entry)))) }
 {
-    name_text(pair.name, out)?;
-    value_text(pair.value, out, steps)?;
-    id_text(pair.id, out)
+    name_text(pair, out)?;
+    value_text(pair, out, steps)?;
+    id_text(pair, out)
 }
 
 // Appends the first member of a pair, and the brace before it.
-fn name_text(name: &str, out: &mut Bytes) -> Result<(), Memory>
-    ensures ok { OnOk result (out.new ≡ out.old ++ (codes "{\"name\":" ++ printed_string name.now)) }
-    ensures err { OnErr result (AppendsPrefix out.old (codes "{\"name\":" ++ printed_string name.now) out.new) }
+fn name_text(pair: Pair<'_>, out: &mut Bytes) -> Result<(), Memory>
+    ensures ok { OnOk result (out.new ≡ out.old ++ (codes "{\"name\":" ++ printed_string (pair_name pair.entry))) }
+    ensures err { OnErr result (AppendsPrefix out.old (codes "{\"name\":" ++ printed_string (pair_name pair.entry)) out.new) }
 {
     out.push(b"{\"name\":")?;
-    string_text(name, out)
+    string_text(pair.name(), out)
 }
 
 // Appends the second member.
 fn value_text<L: Ledger>(
-    value: PairValue<'_>,
+    pair: Pair<'_>,
     out: &mut Bytes,
     steps: &mut Steps<L>,
 ) -> Result<(), Memory>
-    ensures ok { OnOk result (out.new ≡ out.old ++ (codes ",\"value\":" ++ printed (item_tree (pair_value value.entry)))) }
-    ensures err { OnErr result (AppendsPrefix out.old (codes ",\"value\":" ++ printed (item_tree (pair_value value.entry))) out.new) }
-    ensures steps { OnOk result (steps.new ≡ raised steps.old (nodes_below (pair_value value.entry))) }
-    ensures at_most { OnErr result (steps.new ≤ raised steps.old (nodes_below (pair_value value.entry))) }
+    ensures ok { OnOk result (out.new ≡ out.old ++ (codes ",\"value\":" ++ printed (item_tree (pair_held pair.entry)))) }
+    ensures err { OnErr result (AppendsPrefix out.old (codes ",\"value\":" ++ printed (item_tree (pair_held pair.entry))) out.new) }
+    ensures steps { OnOk result (steps.new ≡ raised steps.old (nodes_below (pair_held pair.entry))) }
+    ensures at_most { OnErr result (steps.new ≤ raised steps.old (nodes_below (pair_held pair.entry))) }
 {
     out.push(b",\"value\":")?;
-    match value {
+    match pair.value() {
         PairValue::Node(node) => node_text(node, out, steps),
         PairValue::Text(text) => string_text(text, out),
-        PairValue::Num(number) => decimal_text(number.value(), out),
+        PairValue::Num(number) => whole_text(number, out),
     }
 }
 
 // Appends the third member, and the brace behind it.
-fn id_text(id: i64, out: &mut Bytes) -> Result<(), Memory>
-    ensures ok { OnOk result (out.new ≡ out.old ++ (codes ",\"id\":" ++ (decimal_printed (id, 0) ++ codes "}"))) }
-    ensures err { OnErr result (AppendsPrefix out.old (codes ",\"id\":" ++ (decimal_printed (id, 0) ++ codes "}")) out.new) }
+fn id_text(pair: Pair<'_>, out: &mut Bytes) -> Result<(), Memory>
+    ensures ok { OnOk result (out.new ≡ out.old ++ (codes ",\"id\":" ++ (decimal_printed (pair_id pair.entry, 0) ++ codes "}"))) }
+    ensures err { OnErr result (AppendsPrefix out.old (codes ",\"id\":" ++ (decimal_printed (pair_id pair.entry, 0) ++ codes "}")) out.new) }
 {
     out.push(b",\"id\":")?;
-    whole_text(id, out)?;
+    whole_text(pair.id(), out)?;
     out.push(b"}")
 }

@@ -2,8 +2,7 @@
 ghost use Rattle.std.specs.Prelude.{◌≡◌, nat_le, min, length, Ok, IfOk};
 ghost use Rattle.std.specs.Str.{chars};
 ghost use Rattle.sj_decimal.specs.Rounding.{rounded_within};
-ghost use Rattle.sj_item.specs.Answers.{IsText};
-ghost use Rattle.sj_item.specs.Items.{item_value, item_tree, made_text};
+ghost use Rattle.sj_item.specs.Items.{item_value, item_tree};
 ghost use Rattle.sj_item.specs.Scalars.{text_cast};
 ghost use Rattle.sj_value.specs.Types.{AreDigits, IsCastType};
 ghost use Rattle.sj_value.specs.Values.{IsPrintable};
@@ -71,7 +70,9 @@ fn any_text(alloc: Global, item: Item<'_>) -> Result<SqlValue, CastRefusal>
     ensures printable { IfOk result IsPrintable }
 {
     match to_text(item) {
-        Ok(text) => text_value(alloc, text_of(&text)),
+        Ok(Item::Text(text)) => text_value(alloc, text),
+        Ok(Item::NumberText(number)) => text_value(alloc, number.value().text().as_str()),
+        Ok(_) => unreachable!(),
         Err(state) => refused(state),
     }
 }
@@ -82,7 +83,9 @@ fn limited_text(alloc: Global, item: Item<'_>, n: u32) -> Result<SqlValue, CastR
     ensures printable { IfOk result IsPrintable }
 {
     match to_text(item) {
-        Ok(text) => short_text(alloc, text_of(&text), n),
+        Ok(Item::Text(text)) => short_text(alloc, text, n),
+        Ok(Item::NumberText(number)) => short_text(alloc, number.value().text().as_str(), n),
+        Ok(_) => unreachable!(),
         Err(state) => refused(state),
     }
 }
@@ -128,18 +131,6 @@ fn truth_value(cell: Result<bool, State>) -> Result<SqlValue, CastRefusal>
     match cell {
         Ok(truth) => Ok(SqlValue::Bool(truth)),
         Err(state) => refused(state),
-    }
-}
-
-// The text that an item holds as a text.
-fn text_of<'a>(text: &'a Item<'_>) -> &'a str
-    requires { IsText text.now }
-    ensures { item_value text.now ≡ made_text result.now }
-{
-    match text {
-        Item::Text(text) => text,
-        Item::Short(text) => text.as_str(),
-        _ => unreachable!(),
     }
 }
 

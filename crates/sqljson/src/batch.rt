@@ -4,10 +4,10 @@ ghost use Rattle.sj_rows.specs.Line.{line_seen};
 ghost use Rattle.sj_json.specs.Document.{document};
 ghost use Rattle.sqljson.specs.Batch.{reading, read_line, ReadOn};
 
-use sj_base::Memory;
-use sj_doc::Doc;
+use sj_base::{Memory, push};
+use sj_doc::{Doc, DocBuilder};
 use sj_file::Keys;
-use sj_read::{ReadRefusal, read_over};
+use sj_read::{LineRead, read_over};
 use sj_rows::{Line, Lines, is_blank};
 use std::alloc::Global;
 
@@ -48,11 +48,11 @@ pub(crate) enum Behind {
     Perhaps,
 }
 
-/// The lines that were read last, and documents of earlier lines whose memory the next ones take.
+/// The lines that were read last, and the memory of earlier ones, which the next ones take.
 #[derive(Drop)]
 pub(crate) struct Batch {
     lines: Vec<ReadLine>,
-    spare: Vec<Doc>,
+    spare: Vec<DocBuilder>,
 }
 
 impl Batch {
@@ -101,7 +101,7 @@ impl Batch {
     {
         while let Some(line) = self.lines.pop() {
             if let Some(doc) = line.reading.into_doc() {
-                self.spare.push(doc)?;
+                push(&mut self.spare, doc.recycle())?;
             }
         }
         Ok(())
@@ -123,7 +123,7 @@ impl Batch {
                 if is_blank(bytes) {
                     return Ok(());
                 }
-                reading_of(alloc, keys, bytes, self.spare.pop())?
+                reading_of(alloc, keys, bytes, &mut self.spare)?
             }
         };
         self.lines.push(ReadLine { number, reading })?;
@@ -131,19 +131,26 @@ impl Batch {
     }
 }
 
-/// What a line is read as. Its document is made in the memory of an earlier one.
+/// What a line is read as, in the memory of an earlier one where some is spare. A line that is not JSON leaves it for the next.
 fn reading_of(
     alloc: Global,
     keys: Keys,
     line: &[u8],
-    earlier: Option<Doc>,
+    spare: &mut Vec<DocBuilder>,
 ) -> Result<Reading, Memory>
     ensures { IfOk result (λ r. r ≡ reading keys (document line.now)) }
 {
-    match read_over(alloc, earlier, line) {
-        Ok(doc) => judged(alloc, keys, doc),
-        Err(ReadRefusal::NotJson) => Ok(Reading::NotJson),
-        Err(ReadRefusal::Memory) => Err(Memory),
+    let builder = match spare.pop() {
+        Some(builder) => builder,
+        None => DocBuilder::new(alloc),
+    };
+    match read_over(alloc, builder, line) {
+        Ok(LineRead::Json(doc)) => judged(alloc, keys, doc),
+        Ok(LineRead::NotJson(builder)) => {
+            push(spare, builder)?;
+            Ok(Reading::NotJson)
+        }
+        Err(memory) => Err(memory),
     }
 }
 

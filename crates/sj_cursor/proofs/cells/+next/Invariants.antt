@@ -2,11 +2,12 @@ use Rattle.std.proofs.Common.{◌≡◌, ◌+◌, ◌*◌}
 use Rattle.sj_item.specs.Pairs.{items_compare}
 use Rattle.sj_path_tree.specs.Nodes.{expr_nodes, sub_nodes, subs_nodes, pred_nodes}
 use Rattle.sj_step.specs.Trace.{count}
-use Rattle.sj_cursor.specs.Cells.{env_value, beside_truth}
+use Rattle.sj_cursor.specs.Cells.{env_value}
+use Rattle.sj_plain_path.specs.Pairings.{beside_truth}
 use Rattle.sj_cursor.specs.Draws.{Approaches}
-use Rattle.sj_cursor.specs.Looks.{found_value}
+use Rattle.sj_plain_path.specs.Looks.{found_value}
 use Rattle.sj_cursor.specs.Left.{core, left, doing, doing_nodes, operand_core, operand_left, operand_whole, each_core, each_left, doing_opening, binary_core, filter_core, elements_core, parts_core, more_core, part_core, bounds_core, range_core, test_core, comparison_core, start_core, both_and, both_or}
-use Rattle.sj_cursor.specs.declared.cells.Opening.TheVariants.{Unwrapped}
+use Rattle.sj_plain_path.specs.declared.opening.Opening.TheVariants.{Unwrapped}
 use Rattle.sj_cursor.proofs.Looks.{Looking}
 use Rattle.sj_cursor.proofs.Pairs.{PairingLeft, PairingsLeft}
 use Rattle.sj_cursor.proofs.cells.+next.Given as goal

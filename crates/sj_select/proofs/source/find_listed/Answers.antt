@@ -6,11 +6,23 @@ use Rattle.sj_bound.specs.View.{table_of}
 use Rattle.sj_bound.specs.declared.bound.BoundTable.{BoundTable}
 use Rattle.sj_select_list.specs.Line.{line_of}
 use Rattle.sj_select.specs.Columns.{columns_of, columns_given, columns_cost}
-use Rattle.sj_select.specs.Rows.{listed_cost}
+use Rattle.sj_select.specs.Rows.{listed, listed_cost}
 use Rattle.sj_select.specs.Sources.{listed_due}
 use Rattle.sj_select.specs.Tables.{plan_left, plan_due}
-use Rattle.sj_select.proofs.Listing.{out_of_memory, listed_row, listed_stop, listed_raised, column_spends, value_spends, row_spends}
+use Rattle.sj_select.proofs.Listing.{out_of_memory, end_spends, listed_row, listed_stop, listed_raised, column_spends, value_spends, row_spends}
 use Rattle.sj_select.proofs.source.find_listed.Goals as goal
+
+pub returns-in-End-clause-finds : goal.returns-in-End-clause-finds
+returns-in-End-clause-finds g c list finds = ap (listed (line_of c.args.line) (table_of c.args.table.now.table.now) list) c.in-End.ensures.takes.answers
+
+pub returns-in-End-clause-costs : goal.returns-in-End-clause-costs
+returns-in-End-clause-costs g c list finds = end_spends _ _ _ _ c.in-End.ensures.takes.spends
+
+pub returns-in-Raised-clause-finds : goal.returns-in-Raised-clause-finds
+returns-in-Raised-clause-finds g c list finds = ap (listed (line_of c.args.line) (table_of c.args.table.now.table.now) list) c.in-Raised.ensures.takes.answers
+
+pub returns-in-Raised-clause-costs : goal.returns-in-Raised-clause-costs
+returns-in-Raised-clause-costs g c list finds = end_spends _ _ _ _ c.in-Raised.ensures.takes.spends
 
 pub returns-in_err-state-clause-costs : goal.returns-in_err-state-clause-costs
 returns-in_err-state-clause-costs g c list finds =

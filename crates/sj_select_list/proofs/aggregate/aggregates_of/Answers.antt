@@ -50,7 +50,7 @@ loop-item-preserved c =
           }
       | in-ArrayAgg+in_ok-value-in-ArrayAgg+in_ok-push-in-ArrayAgg w ↦
           let a : AggregateHeld = held.Array (record { value = w.in_ok-value-in-ArrayAgg.value; nulls = w.in-ArrayAgg.nulls; array = w.new-in-ArrayAgg.result }) in
-          let more : c.match-item.all.items ≡ old ++ a ∷ [] = ap (λ (v : Vec AggregateHeld Global). v.items) w.all-is ∙ w.in_ok-push-in-ArrayAgg.ensures.items in
+          let more : c.match-item.all.items ≡ old ++ a ∷ [] = ap (λ (v : Vec AggregateHeld Global). v.items) w.all-is ∙ w.in_ok-push-in-ArrayAgg.ensures.ok in
           record {
             aggregates = collect_step xs i d _ old c.match-item.all.items (a ∷ []) whole c.loop-item-test.true (sym c.item-item.is ∙ w.in-ArrayAgg.is) more
                 (ap (λ (v : BoundValue). array_of (value_of v) w.in-ArrayAgg.nulls ∷ []) (w.in_ok-value-in-ArrayAgg.ensures.value ∙ w.deref.ensures)) inv.aggregates;
@@ -61,7 +61,7 @@ loop-item-preserved c =
           let nulls = w.in-ObjectAgg.nulls in
           let unique = w.in-ObjectAgg.unique in
           let a : AggregateHeld = held.Object (record { key = key; value = w.in_ok-value-in-ObjectAgg.value; nulls = nulls; unique = unique; object = w.new-in-ObjectAgg-3.result }) in
-          let more : c.match-item.all.items ≡ old ++ a ∷ [] = ap (λ (v : Vec AggregateHeld Global). v.items) w.all-is ∙ w.in_ok-push-in-ObjectAgg.ensures.items in
+          let more : c.match-item.all.items ≡ old ++ a ∷ [] = ap (λ (v : Vec AggregateHeld Global). v.items) w.all-is ∙ w.in_ok-push-in-ObjectAgg.ensures.ok in
           record {
             aggregates = collect_step xs i d _ old c.match-item.all.items (a ∷ []) whole c.loop-item-test.true (sym c.item-item.is ∙ w.in-ObjectAgg.is) more
                 (ap (λ (v : BoundValue). object_of (value_of key.value.now) (value_of v) nulls unique ∷ []) (w.in_ok-value-in-ObjectAgg.ensures.value ∙ w.deref-in-ObjectAgg-2.ensures)

@@ -12,8 +12,8 @@ use Rattle.sj_select_list.proofs.aggregate.take_all.Goals as goal
 pub take-requires-clause-ready : goal.take-requires-clause-ready
 take-requires-clause-ready g c = c.loop-aggregate.invariant.ready _ _ (omega arith)
 
-pub returns-in_err-state-clause-costs : goal.returns-in_err-state-clause-costs
-returns-in_err-state-clause-costs g c rows h =
+pub returns-in-Err-Memory-clause-costs : goal.returns-in-Err-Memory-clause-costs
+returns-in-Err-Memory-clause-costs g c rows h =
     let inv = c.loop-aggregate.invariant in
     let i = c.loop-aggregate.aggregate-index in
     let d = c.aggregate-item.result in
@@ -24,12 +24,12 @@ returns-in_err-state-clause-costs g c rows h =
     cost_stop (aggregate line (rows ++ columns ∷ [])) (input_cost line columns) all i (aggregate_of (get_or c.loop-aggregate.all i d)) c.loop-aggregate.steps c.take.new.steps _
     (place aggregate_of c.loop-aggregate.all all i d within inv.calls) c.take.ensures.costs (inv.costs rows h)
 
-pub returns-in_err-state-clause-calls : goal.returns-in_err-state-clause-calls
-returns-in_err-state-clause-calls g c =
+pub returns-in-Err-Memory-clause-calls : goal.returns-in-Err-Memory-clause-calls
+returns-in-Err-Memory-clause-calls g c =
     map-set_same aggregate_of c.loop-aggregate.all c.loop-aggregate.aggregate-index c.take.new.self c.aggregate-item.result c.take.ensures.call ∙ c.loop-aggregate.invariant.calls
 
-pub returns-in-Some-clause-takes : goal.returns-in-Some-clause-takes
-returns-in-Some-clause-takes g c rows h =
+pub returns-in-Err-State-clause-takes : goal.returns-in-Err-State-clause-takes
+returns-in-Err-State-clause-takes g c rows h =
     let inv = c.loop-aggregate.invariant in
     let i = c.loop-aggregate.aggregate-index in
     let d = c.aggregate-item.result in
@@ -38,12 +38,12 @@ returns-in-Some-clause-takes g c rows h =
     let all = map aggregate_of c.args.all.now in
     let within : i < length c.loop-aggregate.all = omega arith in
     let was : HasTaken line rows (get_or c.loop-aggregate.all i d) = subst (λ x. HasTaken line rows x) (sym (left_at c.loop-aggregate.all c.args.all.now i d inv.left)) (h i d (omega arith)) in
-    inv.raises rows h c.in-Some.state
-    (state_here (aggregate line (rows ++ columns ∷ [])) all i (aggregate_of (get_or c.loop-aggregate.all i d)) c.in-Some.state
-    (place aggregate_of c.loop-aggregate.all all i d within inv.calls) (rw c.in-Some.is at (c.in_ok-state.ensures.takes rows was)))
+    rw c.in-Err-State.field-0-is (inv.raises rows h c.in-Err-State.state
+    (state_here (aggregate line (rows ++ columns ∷ [])) all i (aggregate_of (get_or c.loop-aggregate.all i d)) c.in-Err-State.state
+    (place aggregate_of c.loop-aggregate.all all i d within inv.calls) (rw c.in-Err-State.field-0-is at (c.in-Err-State.ensures.takes rows was))))
 
-pub returns-in-Some-clause-costs : goal.returns-in-Some-clause-costs
-returns-in-Some-clause-costs g c rows h =
+pub returns-in-Err-State-clause-costs : goal.returns-in-Err-State-clause-costs
+returns-in-Err-State-clause-costs g c rows h =
     let inv = c.loop-aggregate.invariant in
     let i = c.loop-aggregate.aggregate-index in
     let d = c.aggregate-item.result in
@@ -54,8 +54,8 @@ returns-in-Some-clause-costs g c rows h =
     cost_stop (aggregate line (rows ++ columns ∷ [])) (input_cost line columns) all i (aggregate_of (get_or c.loop-aggregate.all i d)) c.loop-aggregate.steps c.take.new.steps _
     (place aggregate_of c.loop-aggregate.all all i d within inv.calls) c.take.ensures.costs (inv.costs rows h)
 
-pub returns-in-Some-clause-calls : goal.returns-in-Some-clause-calls
-returns-in-Some-clause-calls g c =
+pub returns-in-Err-State-clause-calls : goal.returns-in-Err-State-clause-calls
+returns-in-Err-State-clause-calls g c =
     map-set_same aggregate_of c.loop-aggregate.all c.loop-aggregate.aggregate-index c.take.new.self c.aggregate-item.result c.take.ensures.call ∙ c.loop-aggregate.invariant.calls
 
 pub loop-aggregate-preserved : goal.loop-aggregate-preserved
@@ -73,7 +73,7 @@ loop-aggregate-preserved g c =
     let was : (rows : _) → All (HasTaken line rows) c.args.all.now → HasTaken line rows (get_or held i d) =
     λ rows h. subst (λ y. HasTaken line rows y) (sym (left_at held c.args.all.now i d inv.left)) (h i d (omega arith)) in
     let takes : (rows : _) → All (HasTaken line rows) c.args.all.now → HasTaken line (rows ++ columns ∷ []) c.take.new.self =
-    λ rows h. rw c.in_default.is at (c.in_ok-state.ensures.takes rows (was rows h)) in
+    λ rows h. c.in-Ok.ensures.takes rows (was rows h) in
     record {
       calls = map-set_same aggregate_of held i c.take.new.self d c.take.ensures.call ∙ inv.calls;
       ready = All-set IsReady held i c.take.new.self c.take.ensures.ready inv.ready;

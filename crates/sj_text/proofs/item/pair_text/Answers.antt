@@ -1,6 +1,5 @@
-use Rattle.std.proofs.Common.{◌≡◌, List, ℕ, ◌++◌, OnErr, sym, subst, rules, to_z, of_z}
-use Rattle.std.specs.Int.{w64}
-use Rattle.sj_item.specs.Items.{item_tree, pair_value}
+use Rattle.std.proofs.Common.{List, ℕ, ◌++◌, OnErr, sym, subst}
+use Rattle.sj_item.specs.Items.{item_tree, pair_name, pair_held, pair_id}
 use Rattle.sj_text.specs.Prefixes.{AppendsPrefix}
 use Rattle.sj_text.proofs.Appends.{first_stopped, second_stopped}
 use Rattle.sj_text.proofs.PairTexts.{name_part, value_part, id_part, printed_pair}
@@ -8,17 +7,17 @@ use Rattle.sj_text.proofs.item.pair_text.Goals as goal
 
 pub returns-in_err-name_text-clause-err : goal.returns-in_err-name_text-clause-err
 returns-in_err-name_text-clause-err g c =
-    let name = c.args.pair.name.now in
-    let value = item_tree (pair_value c.args.pair.value) in
-    let id = c.args.pair.id in
+    let name = pair_name c.args.pair in
+    let value = item_tree (pair_held c.args.pair) in
+    let id = pair_id c.args.pair in
     subst (λ (l : List ℕ). OnErr c.from_residual.result (AppendsPrefix c.args.out.now l c.name_text.new.out)) (sym (printed_pair name value id))
     (first_stopped c.from_residual.result c.args.out.now (name_part name) (value_part value ++ id_part id) c.name_text.new.out c.in_err-name_text.ensures.err)
 
 pub returns-in_err-value_text-clause-err : goal.returns-in_err-value_text-clause-err
 returns-in_err-value_text-clause-err g c =
-    let name = c.args.pair.name.now in
-    let value = item_tree (pair_value c.args.pair.value) in
-    let id = c.args.pair.id in
+    let name = pair_name c.args.pair in
+    let value = item_tree (pair_held c.args.pair) in
+    let id = pair_id c.args.pair in
     let r = c.from_residual-in_err-value_text.result in
     subst (λ (l : List ℕ). OnErr r (AppendsPrefix c.args.out.now l c.value_text.new.out)) (sym (printed_pair name value id))
     (second_stopped r c.args.out.now (name_part name) (value_part value ++ id_part id) c.name_text.new.out c.value_text.new.out c.in_ok-name_text.ensures.ok
@@ -26,12 +25,11 @@ returns-in_err-value_text-clause-err g c =
 
 pub returns-clause-err : goal.returns-clause-err
 returns-clause-err g c =
-    let name = c.args.pair.name.now in
-    let value = item_tree (pair_value c.args.pair.value) in
-    let id = c.args.pair.id in
+    let name = pair_name c.args.pair in
+    let value = item_tree (pair_held c.args.pair) in
+    let id = pair_id c.args.pair in
     let r = c.id_text.result in
-    let read : to_z w64 (of_z w64 id) ≡ id = search rules in
     subst (λ (l : List ℕ). OnErr r (AppendsPrefix c.args.out.now l c.id_text.new.out)) (sym (printed_pair name value id))
     (second_stopped r c.args.out.now (name_part name) (value_part value ++ id_part id) c.name_text.new.out c.id_text.new.out c.in_ok-name_text.ensures.ok
     (second_stopped r c.name_text.new.out (value_part value) (id_part id) c.value_text.new.out c.id_text.new.out c.in_ok-value_text.ensures.ok
-    (subst (λ z. OnErr r (AppendsPrefix c.value_text.new.out (id_part z) c.id_text.new.out)) read c.id_text.ensures.err)))
+    c.id_text.ensures.err))

@@ -1,10 +1,16 @@
-use Rattle.std.proofs.Common.{sym, ◌∙◌, ap, Err}
+use Rattle.std.proofs.Common.{sym, ap, subst}
 use Rattle.sj_json.proofs.Documents.{document_gives, document_refused}
+use Rattle.sj_read.specs.LinesRead.{IsReadAs}
+use Rattle.sj_read.specs.declared.reader.LineRead.TheVariants.{Json, NotJson}
 use Rattle.sqljson.specs.Batch.{reading}
 use Rattle.sqljson.proofs.batch.reading_of.Goals as goal
 
-pub returns-in-Ok : goal.returns-in-Ok
-returns-in-Ok c = rw (document_gives c.args.line.now c.in-Ok.doc c.in-Ok.ensures.ok.1 c.in-Ok.ensures.ok.0) c.judged.ensures
+pub returns-in-Ok-Json : goal.returns-in-Ok-Json
+returns-in-Ok-Json c =
+    let read : IsReadAs c.args.line.now (Json c.in-Ok-Json.doc) = subst (IsReadAs c.args.line.now) c.in-Ok-Json.field-0-is c.in-Ok-Json.ensures in
+    rw (document_gives c.args.line.now c.in-Ok-Json.doc read.1 read.0) c.judged.ensures
 
-pub returns-in-Err-NotJson : goal.returns-in-Err-NotJson
-returns-in-Err-NotJson c = ap (reading c.args.keys) (sym (document_refused c.args.line.now (c.read_over.ensures.refused (c.in-Err-NotJson.is ∙ ap Err c.in-Err-NotJson.field-0-is))))
+pub returns-in_ok-push-in-Ok-NotJson : goal.returns-in_ok-push-in-Ok-NotJson
+returns-in_ok-push-in-Ok-NotJson c =
+    let read : IsReadAs c.args.line.now (NotJson c.in-Ok-NotJson.builder) = subst (IsReadAs c.args.line.now) c.in-Ok-NotJson.field-0-is c.in-Ok-NotJson.ensures in
+    ap (reading c.args.keys) (sym (document_refused c.args.line.now read))

@@ -1,9 +1,9 @@
 use Rattle.std.proofs.Common.{ap, sym, ◌∙◌}
 use Rattle.sj_cursor.specs.Cells.{env_value}
-use Rattle.sj_cursor.specs.Chains.{IsLaxNode}
+use Rattle.sj_cursor.specs.LaxNodes.{IsLaxNode}
 use Rattle.sj_cursor.specs.Left.{core, operand_core}
-use Rattle.sj_cursor.specs.declared.chain.Link.TheVariants as links
-use Rattle.sj_cursor.proofs.Chains.{keyed_below}
+use Rattle.sj_plain_path.specs.declared.chain.Link.TheVariants as links
+use Rattle.sj_cursor.proofs.PlainPaths.{keyed_below}
 use Rattle.sj_cursor.proofs.cells.Operand.keyed.Goals as goal
 
 pub returns : goal.returns

@@ -1,4 +1,4 @@
-use Rattle.sj_cursor.proofs.Chains.{plain_finds}
+use Rattle.sj_cursor.proofs.PlainPaths.{plain_finds}
 use Rattle.sj_cursor.proofs.cursor.Cursor.look.Goals as goal
 
 pub returns-in-AtTheBeginning-Some-Node-clause-finds : goal.returns-in-AtTheBeginning-Some-Node-clause-finds

@@ -1,6 +1,6 @@
 use Rattle.std.proofs.Common.{◌≡◌}
 use Rattle.sj_step.specs.Trace.{count}
-use Rattle.sj_cursor.specs.Looks.{found_value}
+use Rattle.sj_plain_path.specs.Looks.{found_value}
 use Rattle.sj_cursor.proofs.Looks.{Looking}
 use Rattle.sj_cursor.proofs.cursor.Cursor.look_on.Given as goal
 

@@ -3,7 +3,7 @@ use Rattle.sj_cursor.proofs.Looks.{single_answer, single_price}
 use Rattle.sj_cursor.proofs.cursor.Cursor.single.Goals as goal
 
 pub returns-clause-answers : goal.returns-clause-answers
-returns-clause-answers g c = c.single_or_fault.ensures ∙ single_answer _ _ _ _ _ _ (rw (c.of_single.ensures, c.mode.ensures) at c.look.ensures.finds)
+returns-clause-answers g c = c.single_or_fault.ensures ∙ single_answer _ _ _ _ _ _ (rw (c.of_single.ensures, c.mode.ensures) at c.look-look.ensures.finds)
 
 pub returns-clause-costs : goal.returns-clause-costs
-returns-clause-costs g c = single_price _ _ _ _ _ (rw (c.of_single.ensures, c.mode.ensures) at c.look.ensures.finds)
+returns-clause-costs g c = single_price _ _ _ _ _ (rw (c.of_single.ensures, c.mode.ensures) at c.look-look.ensures.finds)

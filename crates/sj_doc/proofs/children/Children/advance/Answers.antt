@@ -1,11 +1,14 @@
-use Rattle.std.proofs.Common.{◌≡◌, ◌+◌, ◌-◌, ◌≤◌, ℕ, List, ◌∷◌, Option, Some, option_map, IfSome, arith, sym, ap, ◌∙◌, subst}
+use Rattle.std.proofs.Common.{◌≡◌, ◌+◌, ◌-◌, ◌≤◌, ℕ, List, ◌∷◌, ◌++◌, Option, Some, option_map, IfSome, arith, sym, ap, ◌∙◌, subst}
 use Rattle.sj_json.specs.Tree.{Tree, below, subtree}
+use Rattle.sj_json.specs.Cells.{layout}
 use Rattle.sj_doc.specs.Limits.{most_nodes}
 use Rattle.sj_doc.specs.declared.node.Span.{Span}
 use Rattle.sj_doc.specs.Nodes.{IsSpan, text_in}
 use Rattle.sj_doc.specs.Children.{children_left, IsChildren}
+use Rattle.sj_doc.specs.Listed.{node_key}
 use Rattle.sj_doc.proofs.Docs.{count}
-use Rattle.sj_doc.proofs.Listing.{NextChild, next_kid, node_key, node_below, node_fits}
+use Rattle.sj_doc.proofs.Listing.{NextChild, next_kid, node_key as node_key_laid, node_below, node_fits}
+use Rattle.sj_doc.proofs.Touring.{key_read}
 use Rattle.sj_doc.proofs.children.Children.advance.Goals as goal
 use Rattle.sj_doc.proofs.children.Children.advance.Goals.{After-doc, After-below, in-Some, in-None}
 
@@ -65,13 +68,26 @@ key_is c =
       | in-None w ↦ ap (option_map (λ s. s.now)) w.key-is ∙ ap (option_map (text_in c.doc.inside.arena.items)) (sym w.in-None.is)
     ]
 
-pub returns : goal.returns
-returns c =
+-- which is that of the child
+key_here : (c : After-below) → option_map (λ s. s.now) c.match-node.key ≡ (first (goal.at-After-below c).After-doc).kid.0
+key_here c =
     let d = c.doc.inside in
     let a = c.self.inside in
-    let f = first (goal.at.returns c).After-doc in
-    let k = key_is (goal.at.returns c).After-below ∙ node_key d.arena.items d.nodes.items a.doc.now c.doc.invariant c.doc.view_is a.at a.left f c.index-node.result.now c.index-node.ensures in
+    key_is c ∙ node_key_laid d.arena.items d.nodes.items a.doc.now c.doc.invariant c.doc.view_is a.at a.left (first (goal.at-After-below c).After-doc) c.index-node.result.now c.index-node.ensures
+
+pub returns-clause-child : goal.returns-clause-child
+returns-clause-child c =
+    let a = c.self.inside in
+    let f = first (goal.at.returns-clause-child c).After-doc in
     sym c.self.view_is ∙ f.splits
-    ∙ ap (λ (x : Option (List ℕ)). (x, a.at, f.kid.1) ∷ children_left a.doc.now (a.at + 1 + below f.kid.1) (a.left - 1)) (sym k)
+    ∙ ap (λ (x : Option (List ℕ)). (x, a.at, f.kid.1) ∷ children_left a.doc.now (a.at + 1 + below f.kid.1) (a.left - 1)) (sym (key_here (goal.at.returns-clause-child c).After-below))
     ∙ ap (λ (x : Tree). (option_map (λ s. s.now) c.match-node.key, a.at, x) ∷ children_left a.doc.now (a.at + 1 + below f.kid.1) (a.left - 1)) (sym f.tree)
-    ∙ ap (λ (i : ℕ). (option_map (λ s. s.now) c.match-node.key, a.at, subtree a.doc.now a.at) ∷ children_left a.doc.now i (a.left - 1)) (later (goal.at.returns c).After-below)
+    ∙ ap (λ (i : ℕ). (option_map (λ s. s.now) c.match-node.key, a.at, subtree a.doc.now a.at) ∷ children_left a.doc.now i (a.left - 1)) (later (goal.at.returns-clause-child c).After-below)
+
+pub returns-clause-key : goal.returns-clause-key
+unfolding node_key
+returns-clause-key c =
+    let a = c.self.inside in
+    let f = first (goal.at.returns-clause-key c).After-doc in
+    key_read a.doc.now a.at f.within f.kid.0 f.rest (f.lie ∙ ap (λ (u : Tree). layout f.kid.0 u ++ f.rest) (sym f.tree))
+    ∙ sym (key_here (goal.at.returns-clause-key c).After-below)

@@ -17,7 +17,7 @@ pub returns-in-Some-clause-outcome : goal.returns-in-Some-clause-outcome
 returns-in-Some-clause-outcome g c =
     let finds = ap steps_of c.as_mut_slice-operations.ensures.value ∙ c.requires.ready.finds in
     let empty = empty_held c.clear.new.self c.clear.ensures.values c.clear.ensures.members in
-    sym (value_raised (line_of c.args.line) c.args.columns.now (steps_of c.as_mut_slice-operations.result.now) (held c.clear.new.self) empty (value_of c.args.self.now.value.now) finds c.in-Some.state (rw c.in-Some.is at c.in_ok-state.ensures.finds))
+    value_raised (line_of c.args.line) c.args.columns.now (steps_of c.as_mut_slice-operations.result.now) (held c.clear.new.self) empty (value_of c.args.self.now.value.now) finds c.in-Some.state (rw c.in-Some.is at c.in_ok-state.ensures.finds)
 
 pub returns-in-Some-clause-costs : goal.returns-in-Some-clause-costs
 returns-in-Some-clause-costs g c =
@@ -37,7 +37,7 @@ returns-clause-outcome g c =
     let finds = ap steps_of c.as_mut_slice-operations.ensures.value ∙ c.requires.ready.finds in
     let empty = empty_held c.clear.new.self c.clear.ensures.values c.clear.ensures.members in
     let found = value_found (line_of c.args.line) c.args.columns.now (steps_of c.as_mut_slice-operations.result.now) (held c.clear.new.self) empty (value_of c.args.self.now.value.now) finds (held c.find.new.stack) (rw c.in_default.is at c.in_ok-state.ensures.finds) in
-    ap outcome.Value (only_last c.find.new.stack.values.items found.0 c.in-Some-pop.value c.pop.new.self.items found.2 c.in-Some-pop.ensures.items) ∙ sym found.1
+    found.1 ∙ sym (ap outcome.Value (only_last c.find.new.stack.values.items found.0 c.in-Some-pop.value c.pop.new.self.items found.2 c.in-Some-pop.ensures.items))
 
 pub returns-clause-costs : goal.returns-clause-costs
 returns-clause-costs g c =

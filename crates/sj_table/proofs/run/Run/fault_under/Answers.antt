@@ -1,5 +1,5 @@
 use Rattle.std.proofs.Common.{sym}
-use Rattle.sj_cursor.proofs.WithoutFaults.{path_well}
+use Rattle.sj_fault_free.proofs.WithoutFaults.{path_well}
 use Rattle.sj_table.proofs.run.Run.fault_under.Goals as goal
 
 pub returns-in-Never-clause-fault : goal.returns-in-Never-clause-fault

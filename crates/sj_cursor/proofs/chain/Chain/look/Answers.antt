@@ -1,4 +1,0 @@
-use Rattle.sj_cursor.proofs.chain.Chain.look.Goals as goal
-
-pub returns : goal.returns
-returns g c = rw c.deref.ensures.value at c.look_below.ensures

@@ -1,5 +1,0 @@
-use Rattle.sj_cursor.proofs.Takers.{look_sought}
-use Rattle.sj_cursor.proofs.chain.look_below.Goals as goal
-
-pub returns : goal.returns
-returns g c = look_sought _ _ _ _ _ _ _ c.nothing-gathered.ensures.found c.seek.ensures

@@ -1,0 +1,6 @@
+-- for the lemmas of `Chains`, and for `is_array` of the crate above
+pub mod NotUnwrapped
+-- for `look_below` and `see_below`, and for the lemmas of `Chains`
+mod Takers
+-- for `collect`, `seek` and for other functions of plain paths
+mod Chains

@@ -1,0 +1,60 @@
+// What the items of a path are taken for, and what was taken of them.
+ghost use Rattle.std.specs.Prelude.{◌≡◌, false};
+ghost use Rattle.sj_plain_path.specs.Chains.{node_value};
+ghost use Rattle.sj_plain_path.specs.Looks as looks;
+ghost use Rattle.sj_plain_path.specs.Takers.{taken_value, with_item, suffices};
+
+use crate::look::{Found, Limit};
+use crate::pairing::{Beside, Pairing};
+use sj_doc::NodeRef;
+use sj_item::Item;
+
+/// What items are taken for.
+#[derive(Clone, Copy)]
+pub(crate) enum Aim<'a, 'd> {
+    /// They are looked for, up to a limit.
+    Look(Limit),
+    /// Their pairs with what stands beside them are seen; where it is set, up to the first true one.
+    Pairs(bool, Beside<'a, 'd>),
+}
+
+/// What was taken so far. Of the two an aim needs one.
+#[derive(Clone, Copy)]
+pub(crate) struct Gathered<'d> {
+    pub(crate) found: Found<'d>,
+    pub(crate) pairing: Pairing,
+}
+
+impl<'d> Gathered<'d> {
+    /// Nothing so far.
+    pub(crate) fn nothing() -> Gathered<'d>
+        ensures found { looks.found_value result.found ≡ looks.none_found }
+        ensures pairing { result.pairing ≡ record { found = false; doubt = false } }
+    {
+        Gathered {
+            found: Found::Nothing,
+            pairing: Pairing {
+                found: false,
+                doubt: false,
+            },
+        }
+    }
+
+    /// One more item, a node. It tells whether this is enough.
+    pub(crate) fn take(&mut self, aim: &Aim<'_, 'd>, node: NodeRef<'d>) -> bool
+        ensures more { taken_value aim.now self.new ≡ with_item (taken_value aim.now self.old) (node_value node.entry) }
+        ensures enough { result ≡ suffices (taken_value aim.now self.new) }
+    {
+        let item = Item::Node(node);
+        match aim {
+            Aim::Look(limit) => {
+                self.found = self.found.more(item);
+                self.found.is_enough(*limit)
+            }
+            Aim::Pairs(early, beside) => {
+                self.pairing = self.pairing.saw(beside.truth(&item));
+                self.pairing.halts(*early)
+            }
+        }
+    }
+}

@@ -1,9 +1,0 @@
-use Rattle.sj_step.specs.Takes.{Onward}
-use Rattle.sj_step.specs.Walk.{elements_left}
-use Rattle.sj_step.proofs.elements.Elements.next.Given as goal
-
-abbrev pub invariant-skipping : goal.invariant-skipping
-invariant-skipping g l = Onward (elements_left l.initial.self) l.initial.steps (elements_left l.self) l.steps
-
-abbrev pub decreases-skipping : goal.decreases-skipping
-decreases-skipping g l = l.self.skip

@@ -1,0 +1,2 @@
+-- for `Elements::next`
+mod Walking
