@@ -31,9 +31,9 @@ impl Decimal {
         ensures decimal { IfOk result IsDecimal }
     {
         let Some((left, right, scale)) = magnitudes(
-            self.magnitude,
+            self.magnitude.value(),
             self.scale,
-            other.magnitude,
+            other.magnitude.value(),
             other.scale,
         ) else {
             return Err(NumFault::Range);
@@ -54,9 +54,9 @@ impl Decimal {
         ensures decimal { IfOk result IsDecimal }
     {
         let Some((left, right, scale)) = magnitudes(
-            self.magnitude,
+            self.magnitude.value(),
             self.scale,
-            other.magnitude,
+            other.magnitude.value(),
             other.scale,
         ) else {
             return Err(NumFault::Range);
@@ -76,7 +76,7 @@ impl Decimal {
         ensures value { result ≡ product self other }
         ensures decimal { IfOk result IsDecimal }
     {
-        let Some(magnitude) = self.magnitude.checked_mul(other.magnitude) else {
+        let Some(magnitude) = self.magnitude.value().checked_mul(other.magnitude.value()) else {
             return Err(NumFault::Range);
         };
         Decimal::limited(
@@ -98,13 +98,13 @@ impl Decimal {
         ensures value { result ≡ remainder self other }
         ensures decimal { IfOk result IsDecimal }
     {
-        if other.magnitude == 0 {
+        if other.magnitude.value() == 0 {
             return Err(NumFault::ZeroDivide);
         }
         let Some((left, right, scale)) = magnitudes(
-            self.magnitude,
+            self.magnitude.value(),
             self.scale,
-            other.magnitude,
+            other.magnitude.value(),
             other.scale,
         ) else {
             return Err(NumFault::Range);
@@ -119,7 +119,7 @@ impl Decimal {
         ensures value { result ≡ (neg_ℤ self.0, self.1) }
         ensures decimal { IsDecimal result }
     {
-        Decimal::exact(!self.negative, self.magnitude, self.scale)
+        Decimal::exact(!self.negative, self.magnitude.value(), self.scale)
     }
 
     /// The number without its sign.
@@ -129,7 +129,7 @@ impl Decimal {
         ensures value { result ≡ (pos (unsigned_abs self.0), self.1) }
         ensures decimal { IsDecimal result }
     {
-        Decimal::exact(false, self.magnitude, self.scale)
+        Decimal::exact(false, self.magnitude.value(), self.scale)
     }
 
     /// The decimal that stands for `magnitude / 10^scale` with this sign, where `magnitude` is below the limit before

@@ -50,7 +50,12 @@ impl Decimal {
                 Ordering::Greater
             };
         }
-        let order = compare_magnitudes(self.magnitude, self.scale, other.magnitude, other.scale);
+        let order = compare_magnitudes(
+            self.magnitude.value(),
+            self.scale,
+            other.magnitude.value(),
+            other.scale,
+        );
         if self.negative {
             order.reverse()
         } else {

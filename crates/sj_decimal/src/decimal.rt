@@ -5,6 +5,7 @@ ghost use Rattle.sj_decimal.specs.Limits.{max_scale};
 ghost use Rattle.sj_decimal.specs.Signed.{signed};
 ghost use Rattle.sj_decimal.specs.Normal.{normal, IsExact, IsDecimal, IsSameNumber};
 
+use crate::halves::Halves;
 use crate::magnitude::{LIMIT, MAX_SCALE, reduce, reduce_short};
 use std::marker::Model;
 
@@ -14,11 +15,10 @@ use std::marker::Model;
 /// where they stand for the same number.
 #[derive(Clone, Copy)]
 pub struct Decimal {
-    // The unused bytes behind the last two are three and eight. With these two the other way round they would be eleven,
-    // which a processor copies in two parts that overlap, and it waits where it reads such bytes back.
-    pub(crate) magnitude: u128,
-    pub(crate) negative: bool,
+    // The sign is last, so that no unused bytes are but the three behind it.
+    pub(crate) magnitude: Halves,
     pub(crate) scale: u32,
+    pub(crate) negative: bool,
 }
 
 impl Model for Decimal {
@@ -49,7 +49,7 @@ impl Decimal {
         ensures { result ≡ (signed negative magnitude, scale) }
     {
         Decimal {
-            magnitude,
+            magnitude: Halves::new(magnitude),
             scale,
             negative: negative && magnitude != 0,
         }
@@ -113,7 +113,7 @@ impl Decimal {
         ensures value { result ≡ self }
         ensures decimal { IsDecimal self }
     {
-        let magnitude = self.magnitude as i128;
+        let magnitude = self.magnitude.value() as i128;
         let coefficient = if self.negative { -magnitude } else { magnitude };
         (coefficient, self.scale)
     }

@@ -29,20 +29,20 @@ impl Decimal {
         ensures value { result ≡ quotient self other }
         ensures decimal { IfOk result IsDecimal }
     {
-        if other.magnitude == 0 {
+        if other.magnitude.value() == 0 {
             return Err(NumFault::ZeroDivide);
         }
         let negative = self.negative != other.negative;
         let places = other.scale + QUOTIENT_SCALE;
         if self.scale > places {
             let cut = power_of_ten(self.scale - places);
-            let magnitude = self.magnitude / other.magnitude / cut;
+            let magnitude = self.magnitude.value() / other.magnitude.value() / cut;
             return Decimal::limited(negative, magnitude, QUOTIENT_SCALE);
         }
         quotient(
             negative,
-            self.magnitude,
-            other.magnitude,
+            self.magnitude.value(),
+            other.magnitude.value(),
             places - self.scale,
         )
     }

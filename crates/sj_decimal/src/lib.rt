@@ -16,6 +16,7 @@ mod arithmetic;
 mod comparing;
 mod decimal;
 mod division;
+mod halves;
 mod magnitude;
 mod parsing;
 mod rounding;

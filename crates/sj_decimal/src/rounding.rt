@@ -20,7 +20,7 @@ impl Decimal {
     {
         Decimal::whole(
             self.negative,
-            whole_magnitude(self.magnitude, self.scale, self.negative),
+            whole_magnitude(self.magnitude.value(), self.scale, self.negative),
         )
     }
 
@@ -33,7 +33,7 @@ impl Decimal {
     {
         Decimal::whole(
             self.negative,
-            whole_magnitude(self.magnitude, self.scale, !self.negative),
+            whole_magnitude(self.magnitude.value(), self.scale, !self.negative),
         )
     }
 
@@ -51,7 +51,7 @@ impl Decimal {
     pub fn to_whole(self) -> i128
         ensures { result ≡ whole_of self }
     {
-        let (whole, _) = divided(self.magnitude, power_of_ten(self.scale));
+        let (whole, _) = divided(self.magnitude.value(), power_of_ten(self.scale));
         let magnitude = whole as i128;
         if self.negative { -magnitude } else { magnitude }
     }
@@ -73,7 +73,7 @@ impl Decimal {
     {
         if self.scale <= s {
             // Nothing is cut off, so the number stays as it is.
-            return if self.magnitude < power_of_ten(p - s + self.scale) {
+            return if self.magnitude.value() < power_of_ten(p - s + self.scale) {
                 Ok(self)
             } else {
                 Err(NumFault::Range)
@@ -91,7 +91,7 @@ impl Decimal {
         ensures value { result ≡ rounded_within p s self }
         ensures decimal { IfOk result IsDecimal }
     {
-        let magnitude = rounded_magnitude(self.magnitude, self.scale, s);
+        let magnitude = rounded_magnitude(self.magnitude.value(), self.scale, s);
         if magnitude >= power_of_ten(p) {
             return Err(NumFault::Range);
         }

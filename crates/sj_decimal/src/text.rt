@@ -26,7 +26,7 @@ impl Decimal {
         ensures value { result.bytes ≡ decimal_text self }
         ensures spells { SpellsExact result.bytes self }
     {
-        written(self.negative, self.magnitude, self.scale)
+        written(self.negative, self.magnitude.value(), self.scale)
     }
 
     /// The text with exactly this many decimals. The number times 10^places has to be whole, and below 10^38 in
@@ -38,7 +38,7 @@ impl Decimal {
         requires fits { FitsPlaces places self }
         ensures { result.bytes ≡ decimal_text (with_places places self) }
     {
-        let magnitude = self.magnitude * power_of_ten(places - self.scale);
+        let magnitude = self.magnitude.value() * power_of_ten(places - self.scale);
         written(self.negative, magnitude, places)
     }
 }

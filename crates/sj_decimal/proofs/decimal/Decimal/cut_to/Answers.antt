@@ -8,7 +8,7 @@ pub returns-then-magnitude-power_of_ten-clause-value : goal.returns-then-magnitu
 returns-then-magnitude-power_of_ten-clause-value c =
     let many : 10 ^ c.args.p ≤ c.rounded_magnitude-magnitude.result = rw (← c.power_of_ten.ensures.value) c.if-magnitude-power_of_ten.true in
     rw (← c.self.view_is)
-    (sym (rounded_past_digits c.self.inside.negative c.self.inside.magnitude c.self.inside.scale c.args.p c.args.s c.rounded_magnitude-magnitude.result c.self.invariant.1 c.rounded_magnitude-magnitude.ensures.value many))
+    (sym (rounded_past_digits c.self.inside.negative c.self.inside.magnitude c.self.inside.scale c.args.p c.args.s c.rounded_magnitude-magnitude.result c.self.invariant.1 (rw (← c.value.ensures) c.rounded_magnitude-magnitude.ensures.value) many))
 
 -- a number with at most 38 digits and decimals is exact
 pub returns-clause-value : goal.returns-clause-value
@@ -18,4 +18,4 @@ returns-clause-value c =
     rw (← c.self.view_is)
     (c.limited.ensures.value
     ∙ limited_exact c.self.inside.negative c.rounded_magnitude-magnitude.result c.args.s c.rounded_magnitude-magnitude.ensures.bound exact
-    ∙ sym (rounded_within_digits c.self.inside.negative c.self.inside.magnitude c.self.inside.scale c.args.p c.args.s c.rounded_magnitude-magnitude.result c.self.invariant.1 c.rounded_magnitude-magnitude.ensures.value few))
+    ∙ sym (rounded_within_digits c.self.inside.negative c.self.inside.magnitude c.self.inside.scale c.args.p c.args.s c.rounded_magnitude-magnitude.result c.self.invariant.1 (rw (← c.value.ensures) c.rounded_magnitude-magnitude.ensures.value) few))

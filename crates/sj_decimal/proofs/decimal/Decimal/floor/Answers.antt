@@ -1,5 +1,6 @@
 use Rattle.std.proofs.Common.{◌^◌, sym, ap, ◌∙◌}
 use Rattle.sj_decimal.specs.Signed.{signed}
+use Rattle.sj_decimal.specs.Magnitudes.{quotient_toward}
 use Rattle.sj_decimal.proofs.Powers.{power_pos}
 use Rattle.sj_decimal.proofs.Roundings.{floor_signed}
 use Rattle.sj_decimal.proofs.decimal.Decimal.floor.Goals as goal
@@ -8,5 +9,5 @@ pub returns-clause-value : goal.returns-clause-value
 returns-clause-value c =
     rw (← c.self.view_is)
     (c.whole.ensures.value
-    ∙ ap (λ n. (signed c.self.inside.negative n, 0)) c.whole_magnitude.ensures.value
+    ∙ ap (λ n. (signed c.self.inside.negative n, 0)) (c.whole_magnitude.ensures.value ∙ ap (λ m. quotient_toward c.self.inside.negative m (10 ^ c.self.inside.scale)) c.value.ensures)
     ∙ ap (λ z. (z, 0)) (sym (floor_signed c.self.inside.negative c.self.inside.magnitude (10 ^ c.self.inside.scale) (power_pos c.self.inside.scale))))
