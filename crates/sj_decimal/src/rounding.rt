@@ -63,7 +63,7 @@ impl Decimal {
     ///
     /// # Errors
     /// `Range` exactly where the rounded number times 10^s reaches 10^p in magnitude.
-    #[inline]
+    #[inline(always)]
     pub fn round_to(self, p: u32, s: u32) -> Result<Decimal, NumFault>
         requires some_digits { 1 ≤ p }
         requires digits { p ≤ max_digits }

@@ -1,5 +1,5 @@
 //! The text of a decimal.
-ghost use Rattle.std.specs.Prelude.{◌≡◌, ◌+◌, ◌*◌, ◌/◌, ◌^◌, ◌<◌, ◌≤◌, ◌++◌, length, decimal, unsigned_abs, Some};
+ghost use Rattle.std.specs.Prelude.{◌≡◌, ◌+◌, ◌*◌, ◌/◌, ◌^◌, ◌<◌, ◌≤◌, ◌++◌, length, [], decimal, unsigned_abs, Some};
 ghost use Rattle.std.specs.Fmt.{sign_text};
 ghost use Rattle.sj_decimal.specs.Limits.{max_scale, magnitude_limit};
 ghost use Rattle.sj_decimal.specs.Signed.{signed};
@@ -58,15 +58,14 @@ impl fmt::Debug for Decimal {
     }
 }
 
-/// A minus sign where the number is negative.
-fn sign(negative: bool) -> ArrayString<MAX_TEXT_LEN>
-    ensures { result.bytes ≡ sign_text negative }
+/// Appends a minus sign where the number is negative.
+fn push_sign(text: &mut ArrayString<MAX_TEXT_LEN>, negative: bool)
+    requires { text.old.bytes ≡ [] }
+    ensures { text.new.bytes ≡ sign_text negative }
 {
-    let mut text = ArrayString::new();
     if negative {
         text.push('-');
     }
-    text
 }
 
 /// The text of `magnitude / 10^scale` with this sign.
@@ -75,7 +74,9 @@ fn written(negative: bool, magnitude: u128, scale: u32) -> ArrayString<MAX_TEXT_
     requires scale { scale ≤ max_scale }
     ensures { result.bytes ≡ sign_text negative ++ (decimal (magnitude / 10 ^ scale) ++ decimals_text scale magnitude) }
 {
-    let mut text = sign(negative);
+    // A text that was given by a call would be copied, and a processor waits where it reads it back.
+    let mut text = ArrayString::new();
+    push_sign(&mut text, negative);
     if scale == 0 {
         text.push_str(Buffer::new().format(magnitude));
     } else if magnitude < power_of_ten(scale) {
