@@ -34,7 +34,7 @@ impl Decimal {
     ///
     /// Example: `-1.50e1` is -15, `1e40` is wide, and `01` is no number
     /// (`sj_document_tests::examples::numbers_are_read`).
-    #[inline]
+    #[inline(always)]
     pub fn parse(bytes: &[u8]) -> Parsed
         ensures value { ParsesAs bytes.now result }
         ensures decimal { IsParsedDecimal result }

@@ -25,6 +25,7 @@ use sj_doc::{Kind, NodeRef, Num};
 /// 22003 where the number is not exact, in a string too. 2203G on a null, on a truth value, and on a string that is no
 /// number. 2203F on an array or an object.
 #[tactic(auto, unfolding(crate::specs::Scalars::number_cast))]
+#[inline(always)]
 pub fn to_number<'d>(item: Item<'d>) -> Result<Decimal, State>
     ensures { result ≡ number_cast (item_tree (item_value item.entry)) }
 {
@@ -34,7 +35,7 @@ pub fn to_number<'d>(item: Item<'d>) -> Result<Decimal, State>
         Operand::Num(number) => Ok(number),
         Operand::Wide(_) => Err(State::S22003),
         Operand::Text(text) => spelled(text),
-        Operand::NumberText(number) => spelled(number.text().as_str()),
+        Operand::NumberText(number) => read_back(number),
         Operand::Structured => Err(State::S2203F),
     }
 }
@@ -44,6 +45,7 @@ pub fn to_number<'d>(item: Item<'d>) -> Result<Decimal, State>
 /// # Errors
 /// 22003 where the whole number is out of this range, and the state of [`to_number`] where that refuses the item.
 #[tactic(auto, unfolding(crate::specs::Scalars::whole_cast))]
+#[inline(always)]
 pub fn to_whole<'d>(item: Item<'d>, low: i128, high: i128) -> Result<Decimal, State>
     requires { low ≤ℤ high }
     ensures { result ≡ whole_cast low high (item_tree (item_value item.entry)) }
@@ -78,6 +80,7 @@ pub fn to_truth<'d>(item: Item<'d>) -> Result<bool, State>
 /// # Errors
 /// 2203G on a null. 2203F on an array or an object.
 #[tactic(auto, unfolding(crate::specs::Scalars::text_cast))]
+#[inline(always)]
 pub fn to_text<'d>(item: Item<'d>) -> Result<Item<'d>, State>
     ensures value { values result ≡ made_texts (text_cast (item_tree (item_value item.entry))) }
     ensures text { IfOk result IsText }
@@ -140,6 +143,7 @@ fn node_operand<'d>(node: NodeRef<'d>) -> Operand<'d>
 }
 
 // The number that the whole of a string spells.
+#[inline(never)]
 fn spelled(string: &str) -> Result<Decimal, State>
     ensures { result ≡ spelled_number (number_of string.now) }
 {
@@ -148,6 +152,14 @@ fn spelled(string: &str) -> Result<Decimal, State>
         Parsed::Wide => Err(State::S22003),
         Parsed::NotNumber => Err(State::S2203G),
     }
+}
+
+// The number that the text of an exact number spells.
+#[inline(never)]
+fn read_back(number: Decimal) -> Result<Decimal, State>
+    ensures { result ≡ spelled_number (number_of (decimal_text number)) }
+{
+    spelled(number.text().as_str())
 }
 
 // The number rounded to a whole one.
