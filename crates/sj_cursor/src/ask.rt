@@ -52,6 +52,7 @@ impl<'d> Cursor<'d> {
     }
 
     // Goes on until enough was found. A plain path is gone through without cells, from its beginning on.
+    #[inline(always)]
     fn look<L: Ledger>(&mut self, limit: Limit, steps: &mut Steps<L>) -> Look<'d>
         ensures finds { Finds limit self.old.left (look_value result) steps.old steps.new }
         ensures path { self.new.path ≡ self.old.path }
@@ -67,6 +68,7 @@ impl<'d> Cursor<'d> {
     }
 
     // The same, cell by cell.
+    #[inline(never)]
     fn look_on<L: Ledger>(&mut self, limit: Limit, steps: &mut Steps<L>) -> Look<'d>
         ensures finds { Finds limit self.old.left (look_value result) steps.old steps.new }
         ensures path { self.new.path ≡ self.old.path }

@@ -2,7 +2,7 @@
 use Rattle.std.proofs.Common.{◌≡◌, ℕ, ◌+◌, ◌-◌, ◌<◌, ◌≤◌, List, [], ◌∷◌, ◌++◌, length, drop, Bool, true, false, if◌then◌else◌, Option, Some, None, refl, sym, ap, ◌∙◌, subst, arith}
 use Rattle.std.proofs.lemmas.Slice.Eq.{bytes_eq-Decides}
 use Rattle.sj_base.specs.Count.{raised}
-use Rattle.sj_json.specs.Tree.{Tree, Child, numbered, below, subtree, node_count}
+use Rattle.sj_json.specs.Tree.{Tree, Child, numbered, NumberedChild, below, subtree, node_count}
 use Rattle.sj_json.specs.Cells.{layout}
 use Rattle.sj_doc.specs.Children.{children_left, IsChildren}
 use Rattle.sj_doc.specs.Keyed.{is_key, from_key}
@@ -63,3 +63,7 @@ length-left t i n h = ap (λ cs. length cs) (left_is t i n h.kids h.rest h.lie h
 
 pub none_left : (t : Tree) (i : ℕ) → IsChildren t i 0
 none_left t i = record { kids = []; rest = drop i (layout None t); lie = refl; count = refl }
+
+pub none_in : (cs : List NumberedChild) → length cs ≡ 0 → cs ≡ []
+none_in [] e = refl
+none_in (c ∷ cs) e = absurd (omega (arith, e))

@@ -1,5 +1,6 @@
 // The children of a node, one after another.
-ghost use Rattle.std.specs.Prelude.{◌≡◌, ◌-◌, [], ◌∷◌, length, true, Some, MatchOption, is_some, option_map, IfSome, if◌then◌else◌};
+ghost use Rattle.std.specs.Prelude.{◌≡◌, ◌-◌, [], ◌∷◌, length, true, Some, MatchOption, is_some, option_map, IfSome, if◌then◌else◌, IsTrue, ◌↔◌};
+ghost use Rattle.std.specs.Str.{bytes_eq};
 ghost use Rattle.sj_base.specs.Count.{raised};
 ghost use Rattle.sj_doc.specs.Children.{children_left, IsChildren};
 ghost use Rattle.sj_doc.specs.Keyed.{is_key, from_key};
@@ -43,10 +44,19 @@ struct FoundMember {
     left: u32,
 }
 
+// Whether two texts are the same. It stands apart from the loop of a search, which has more room in registers without it.
+#[inline(never)]
+fn is_same(a: &str, b: &str) -> bool
+    ensures { result ≡ bytes_eq a.now b.now }
+{
+    a == b
+}
+
 // Whether two texts have one length and one last byte.
 #[inline(always)]
 fn ends_alike(a: &[u8], b: &[u8]) -> bool
-    ensures { a.now ≡ b.now → result ≡ true }
+    ensures same { a.now ≡ b.now → result ≡ true }
+    ensures short { result ≡ true → length b.now ≡ 1 → a.now ≡ b.now }
 {
     a.len() == b.len() && (a.is_empty() || a[a.len() - 1] == b[b.len() - 1])
 }
@@ -57,8 +67,10 @@ fn is_named(name: Option<&str>, key: &str) -> bool
     ensures { result ≡ is_key key.now (option_map (λ s. s.now) name.entry) }
 {
     match name {
-        // Most names that are not the key have another length or another last byte.
-        Some(name) => ends_alike(name.as_bytes(), key.as_bytes()) && name == key,
+        // Most names that are not the key have another length or another last byte. A name of one byte is its last byte.
+        Some(name) => {
+            ends_alike(name.as_bytes(), key.as_bytes()) && (key.len() == 1 || is_same(name, key))
+        }
         None => false,
     }
 }
@@ -114,7 +126,7 @@ impl<'d> Children<'d> {
     /// The next child under the key. Those before it are passed over. `None` comes exactly where no child that
     /// is left is under the key, and then none is left. The counter rises by one for each child that is passed
     /// over or given.
-    #[inline]
+    #[inline(always)]
     pub fn next_under<L: Ledger>(&mut self, key: &str, steps: &mut Steps<L>) -> Option<NodeRef<'d>>
         ensures child { MatchOption result ((from_key key.now self.old ≡ []) × (self.new ≡ []))
             (λ n. from_key key.now self.old ≡ (Some key.now, node_id n, node_tree n) ∷ self.new) }
@@ -131,6 +143,13 @@ impl<'d> Children<'d> {
                 None
             }
         }
+    }
+
+    /// Whether no child is left.
+    pub fn is_at_end(&self) -> bool
+        ensures { IsTrue result ↔ (self.now ≡ []) }
+    {
+        self.left == 0
     }
 
     // The next child, for the crate's own walks. They count no steps.

@@ -2,7 +2,7 @@
 use Rattle.std.specs.Borrow.{Bor}
 use Rattle.std.specs.Int.{int_min, int_max}
 use Rattle.std.specs.Prelude.{◌≤ℤ◌, int_le, if◌then◌else◌}
-use Rattle.std.proofs.Common.{◌≡◌, ℕ, zero, suc, ◌+◌, ◌-◌, ◌<◌, ◌≤◌, ℤ, pos, ◌-ℤ◌, List, [], ◌∷◌, ◌++◌, map, take, drop, get_or, length, Bool, true, false, ◌&&◌, Some, ap, sym, ◌∙◌, refl, arith}
+use Rattle.std.proofs.Common.{◌≡◌, ℕ, zero, suc, ◌+◌, ◌-◌, ◌<◌, ◌≤◌, pos, ◌-ℤ◌, List, [], ◌∷◌, ◌++◌, map, take, drop, get_or, length, Bool, true, false, ◌&&◌, Some, ap, sym, ◌∙◌, refl, arith}
 use Rattle.std.proofs.lemmas.Int.{ints}
 use Rattle.std.proofs.lemmas.List.{take_all}
 use Rattle.sj_base.specs.Count.{raised}
@@ -16,7 +16,7 @@ use Rattle.sj_path_tree.specs.Tree as t
 use Rattle.sj_path_tree.specs.declared.parts.Mode.TheVariants.{Lax}
 use Rattle.sj_item.specs.Items.{ItemValue, node}
 use Rattle.sj_step.specs.Trace.{Trace, stop, visit, give, only, after_visits, join, each}
-use Rattle.sj_step.specs.Reach.{reach, on_kind, by_key, all_elements, by_range, unwrapped, unwrap, child_item, under_key, range_of_one, last}
+use Rattle.sj_step.specs.Reach.{reach, on_kind, by_key, all_elements, by_range, unwrapped, unwrap, child_item, under_key, range_of_one}
 use Rattle.sj_step.proofs.Traces.{join-after_visits, join-stop, join_assoc, each-after_visits, each_assoc}
 use Rattle.sj_step.proofs.Keyed.{gives_first, gives_none}
 use Rattle.sj_step.proofs.Lasts.{length-numbered}
@@ -342,3 +342,10 @@ module _ (how : Opening) (f g : Taken) where
   members_over t key rest cs ms a b later k e none step =
       let all : length cs - length ms ≡ length cs = omega (arith, ap (λ (xs : List NumberedChild). length xs) none) in
       seeking_end f t g a later (seeking_visits f (length cs) t stop g a b later (rw (keyed_none how key rest cs e) at k) (step ∙ ap (raised b) all))
+
+  -- no member is left behind the last one
+  pub member_last : (h : Taken) (t : Trace) (key : List ℕ) (rest : List Link) (p : Trace) (ms : List NumberedChild) (enough : Bool) (a b c : ℕ)
+      → Seeking f t g (join p (keyed how key rest ms)) a b → ms ≡ [] → Sought g p h enough b c → Sought f t h enough a c
+  member_last h t key rest p ms true a b c k none s = seeking_enough f t p (keyed how key rest ms) g h a b c k s
+  member_last h t key rest p ms false a b c k none s =
+      seeking_end f t h a c (seeking_over f t p stop g h a b c (rw none at k) s)

@@ -3,9 +3,10 @@
 use Rattle.std.specs.Prelude.{◌≡◌, ◌≤◌, ℕ, suc, Bool, true, false, if◌then◌else◌, Option, Some, None}
 use Rattle.sj_base.specs.Count.{raised}
 use Rattle.sj_base.specs.declared.state.State.{State}
+use Rattle.sj_doc.specs.Listed.{node_id, node_tree}
 use Rattle.sj_path_tree.specs.declared.parts.Mode.{Mode}
 use Rattle.sj_path_tree.specs.declared.parts.Mode.TheVariants.{Lax, Strict}
-use Rattle.sj_item.specs.Items.{ItemValue, item_value}
+use Rattle.sj_item.specs.Items.{ItemValue, item_value, node}
 use Rattle.sj_item.specs.Truths.{truth_of}
 use Rattle.sj_item.specs.declared.truth.Truth.{Truth}
 use Rattle.sj_item.specs.declared.truth.Truth.TheVariants.{Unknown}
@@ -14,6 +15,8 @@ use Rattle.sj_plain_path.specs.declared.look.Limit.{Limit}
 use Rattle.sj_plain_path.specs.declared.look.Limit.TheVariants as limits
 use Rattle.sj_plain_path.specs.declared.look.Found.{Found as FoundHeld}
 use Rattle.sj_plain_path.specs.declared.look.Found.TheVariants as founds
+use Rattle.sj_plain_path.specs.declared.look.FoundNodes.{FoundNodes}
+use Rattle.sj_plain_path.specs.declared.look.FoundNodes.TheVariants as nodes
 use Rattle.sj_plain_path.specs.declared.look.Look.{Look as LookHeld}
 
 -- no item, one, or several
@@ -32,8 +35,17 @@ found_value founds.Nothing = none_found
 found_value (founds.One x) = one_found (item_value x)
 found_value founds.Several = several_found
 
+abbrev pub nodes_value : FoundNodes → Found
+nodes_value nodes.Nothing = none_found
+nodes_value (nodes.One n) = one_found (node (node_id n) (node_tree n))
+nodes_value nodes.Several = several_found
+
 abbrev pub look_value : LookHeld → Look
 look_value l = record { found = found_value l.found; fault = l.fault }
+
+-- nodes alone, without a fault
+abbrev pub nodes_look : FoundNodes → Look
+nodes_look n = record { found = nodes_value n; fault = None }
 
 -- one more item
 abbrev pub more : Found → ItemValue → Found

@@ -5,7 +5,7 @@ use Rattle.sj_item.specs.Items.{ItemValue}
 use Rattle.sj_step.specs.Trace.{Trace, stop, fail, visit, give}
 use Rattle.sj_plain_path.specs.Truths.{is_true, is_unknown}
 use Rattle.sj_plain_path.specs.Pairings.{beside_truth, ItemTruth}
-use Rattle.sj_plain_path.specs.Looks.{Found, found_value, more, is_enough}
+use Rattle.sj_plain_path.specs.Looks.{Found, nodes_value, more, is_enough}
 use Rattle.sj_plain_path.specs.declared.look.Limit.{Limit}
 use Rattle.sj_plain_path.specs.declared.take.Aim.{Aim}
 use Rattle.sj_plain_path.specs.declared.take.Aim.TheVariants as aims
@@ -18,7 +18,7 @@ pub data Taken : Type 0 where
   testing : Bool → ItemTruth → Bool → Bool → Taken
 
 abbrev pub taken_value : Aim → Gathered → Taken
-taken_value (aims.Look limit) g = looking limit (found_value g.found)
+taken_value (aims.Look limit) g = looking limit (nodes_value g.nodes)
 taken_value (aims.Pairs early beside) g = testing early (beside_truth beside) g.pairing.found g.pairing.doubt
 
 -- one more item

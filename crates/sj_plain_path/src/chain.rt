@@ -8,11 +8,11 @@ ghost use Rattle.sj_path_tree.specs.declared.parts.Mode.TheVariants.{Lax};
 ghost use Rattle.sj_path_tree.specs.View.{path_of, expr_of, step_of, subs_of};
 ghost use Rattle.sj_plain_path.specs.Openings.{opened};
 ghost use Rattle.sj_plain_path.specs.Chains.{IsChainOf, Sought, Reaches, node_value, accessor, accessed, below, under, over, throughout, element, elements_of};
-ghost use Rattle.sj_plain_path.specs.Looks.{Finds, look_value};
+ghost use Rattle.sj_plain_path.specs.Looks.{Finds, look_value, nodes_look};
 ghost use Rattle.sj_plain_path.specs.Pairings.{PairingSeen, beside_truth};
 ghost use Rattle.sj_plain_path.specs.Takers.{taken_value};
 
-use crate::look::{Limit, Look};
+use crate::look::{FoundNodes, Limit, Look};
 use crate::opening::Opening;
 use crate::pairing::{Beside, Pairing};
 use crate::take::{Aim, Gathered};
@@ -62,15 +62,30 @@ impl<'d> Chain<'d> {
 
     /// The items of the path on a node, from the first one on until enough was found. The counter rises by no more than the children
     /// of nodes that are handed out before.
+    #[inline(always)]
     pub fn look<L: Ledger>(&self, root: NodeRef<'d>, limit: Limit, steps: &mut Steps<L>) -> Look<'d>
         ensures { Finds limit (below Opening.AsItIs self.now.links.items (node_value root.entry)) (look_value result) steps.old steps.new }
     {
         look_below(Opening::AsItIs, &self.links, root, limit, steps)
     }
+
+    /// The same, as the nodes that the items are.
+    #[inline(always)]
+    pub fn nodes<L: Ledger>(
+        &self,
+        root: NodeRef<'d>,
+        limit: Limit,
+        steps: &mut Steps<L>,
+    ) -> FoundNodes<'d>
+        ensures { Finds limit (below Opening.AsItIs self.now.links.items (node_value root.entry)) (nodes_look result) steps.old steps.new }
+    {
+        nodes_below(Opening::AsItIs, &self.links, root, limit, steps)
+    }
 }
 
 /// What accessors give of a node, from the first item on until enough was found. The counter rises by no more than the children of
 /// nodes that are handed out before.
+#[inline(always)]
 pub fn look_below<'d, L: Ledger>(
     how: Opening,
     links: &[Link<'d>],
@@ -80,12 +95,26 @@ pub fn look_below<'d, L: Ledger>(
 ) -> Look<'d>
     ensures { Finds limit (below how links.now (node_value node.entry)) (look_value result) steps.old steps.new }
 {
-    let mut gathered = Gathered::nothing();
-    seek(how, &Aim::Look(limit), links, node, &mut gathered, steps);
     Look {
-        found: gathered.found,
+        found: nodes_below(how, links, node, limit, steps).found(),
         fault: None,
     }
+}
+
+// The same, as the nodes that the items are.
+#[inline(always)]
+fn nodes_below<'d, L: Ledger>(
+    how: Opening,
+    links: &[Link<'d>],
+    node: NodeRef<'d>,
+    limit: Limit,
+    steps: &mut Steps<L>,
+) -> FoundNodes<'d>
+    ensures { Finds limit (below how links.now (node_value node.entry)) (nodes_look result) steps.old steps.new }
+{
+    let mut gathered = Gathered::nothing();
+    seek(how, &Aim::Look(limit), links, node, &mut gathered, steps);
+    gathered.nodes
 }
 
 /// The pairs of what accessors give of a node with what stands beside them; with `early`, up to the first true one. The counter rises
@@ -211,6 +240,7 @@ fn take_opened<'d, L: Ledger>(
 }
 
 // The elements of an array.
+#[inline(never)]
 fn take_elements<'d, L: Ledger>(
     aim: &Aim<'_, 'd>,
     mut elements: Children<'d>,
@@ -228,6 +258,7 @@ fn take_elements<'d, L: Ledger>(
 }
 
 // The element of an array at an index. The elements before it are handed out too, but none is where the array is shorter.
+#[inline(never)]
 fn element_at<'d, L: Ledger>(
     array: NodeRef<'d>,
     index: u32,
@@ -251,6 +282,7 @@ fn element_at<'d, L: Ledger>(
 
 // What accessors give of the elements of an array.
 #[cycle(seek)]
+#[inline(never)]
 fn seek_elements<'d, L: Ledger>(
     how: Opening,
     aim: &Aim<'_, 'd>,
@@ -271,6 +303,7 @@ fn seek_elements<'d, L: Ledger>(
 
 // What accessors give of the element at an index. An item that is no array has itself at the index 0.
 #[cycle(seek)]
+#[inline(never)]
 fn seek_element<'d, L: Ledger>(
     how: Opening,
     aim: &Aim<'_, 'd>,
@@ -293,6 +326,7 @@ fn seek_element<'d, L: Ledger>(
 
 // What a member under a key and the accessors behind it give of the elements of an array, which is unwrapped.
 #[cycle(seek)]
+#[inline(never)]
 fn seek_under<'d, L: Ledger>(
     how: Opening,
     aim: &Aim<'_, 'd>,
@@ -314,6 +348,7 @@ fn seek_under<'d, L: Ledger>(
 
 // The same of a node that is not unwrapped.
 #[cycle(seek)]
+#[inline(always)]
 fn seek_members<'d, L: Ledger>(
     how: Opening,
     aim: &Aim<'_, 'd>,
@@ -331,6 +366,10 @@ fn seek_members<'d, L: Ledger>(
     }
     let mut members = node.children();
     'members: while let Some(member) = members.next_under(key, steps) {
+        // The last member is gone into with nothing to come back to, so a chain of such members takes one turn for each.
+        if members.is_at_end() {
+            return seek(how, aim, rest, member, gathered, steps);
+        }
         if seek(how, aim, rest, member, gathered, steps) {
             return true;
         }

@@ -19,6 +19,6 @@ mod pairing;
 mod take;
 
 pub use chain::{Chain, Link, look_below, see_below};
-pub use look::{Found, Limit, Look};
+pub use look::{Found, FoundNodes, Limit, Look};
 pub use opening::Opening;
 pub use pairing::{Beside, Pairing};

@@ -1,9 +1,11 @@
 // What is found of a trace that is gone through until enough was found.
 ghost use Rattle.std.specs.Prelude.{◌≡◌};
 ghost use Rattle.sj_item.specs.Items.{item_value};
+ghost use Rattle.sj_plain_path.specs.Chains.{node_value};
 ghost use Rattle.sj_plain_path.specs.Looks as looks;
 
 use sj_base::State;
+use sj_doc::NodeRef;
 use sj_item::{Item, Truth};
 use sj_path_tree::Mode;
 
@@ -70,6 +72,56 @@ impl<'d> Found<'d> {
             (Limit::First, Found::Nothing) => false,
             (Limit::First, _) => true,
             (Limit::Second, Found::Several) => true,
+            (Limit::Second, _) => false,
+            (Limit::End, _) => false,
+        }
+    }
+}
+
+/// The nodes that were found, which are the items of a plain path.
+#[derive(Clone, Copy)]
+pub enum FoundNodes<'d> {
+    /// None.
+    Nothing,
+    /// A single one.
+    One(NodeRef<'d>),
+    /// More than one. Which ones is not kept.
+    Several,
+}
+
+impl<'d> FoundNodes<'d> {
+    /// With one more node.
+    #[inline(always)]
+    pub(crate) fn more(self, node: NodeRef<'d>) -> FoundNodes<'d>
+        ensures { looks.nodes_value result ≡ looks.more (looks.nodes_value self.entry) (node_value node.entry) }
+    {
+        match self {
+            FoundNodes::Nothing => FoundNodes::One(node),
+            FoundNodes::One(_) | FoundNodes::Several => FoundNodes::Several,
+        }
+    }
+
+    /// The nodes as items.
+    #[inline(always)]
+    pub fn found(self) -> Found<'d>
+        ensures { looks.found_value result ≡ looks.nodes_value self.entry }
+    {
+        match self {
+            FoundNodes::Nothing => Found::Nothing,
+            FoundNodes::One(node) => Found::One(Item::Node(node)),
+            FoundNodes::Several => Found::Several,
+        }
+    }
+
+    /// Whether nothing further is to be found.
+    #[inline(always)]
+    pub(crate) fn is_enough(self, limit: Limit) -> bool
+        ensures { result ≡ looks.is_enough limit (looks.nodes_value self.entry) }
+    {
+        match (limit, self) {
+            (Limit::First, FoundNodes::Nothing) => false,
+            (Limit::First, _) => true,
+            (Limit::Second, FoundNodes::Several) => true,
             (Limit::Second, _) => false,
             (Limit::End, _) => false,
         }

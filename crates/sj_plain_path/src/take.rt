@@ -4,7 +4,7 @@ ghost use Rattle.sj_plain_path.specs.Chains.{node_value};
 ghost use Rattle.sj_plain_path.specs.Looks as looks;
 ghost use Rattle.sj_plain_path.specs.Takers.{taken_value, with_item, suffices};
 
-use crate::look::{Found, Limit};
+use crate::look::{FoundNodes, Limit};
 use crate::pairing::{Beside, Pairing};
 use sj_doc::NodeRef;
 use sj_item::Item;
@@ -21,18 +21,19 @@ pub(crate) enum Aim<'a, 'd> {
 /// What was taken so far. Of the two an aim needs one.
 #[derive(Clone, Copy)]
 pub(crate) struct Gathered<'d> {
-    pub(crate) found: Found<'d>,
+    pub(crate) nodes: FoundNodes<'d>,
     pub(crate) pairing: Pairing,
 }
 
 impl<'d> Gathered<'d> {
     /// Nothing so far.
+    #[inline(always)]
     pub(crate) fn nothing() -> Gathered<'d>
-        ensures found { looks.found_value result.found ≡ looks.none_found }
+        ensures nodes { looks.nodes_value result.nodes ≡ looks.none_found }
         ensures pairing { result.pairing ≡ record { found = false; doubt = false } }
     {
         Gathered {
-            found: Found::Nothing,
+            nodes: FoundNodes::Nothing,
             pairing: Pairing {
                 found: false,
                 doubt: false,
@@ -41,18 +42,18 @@ impl<'d> Gathered<'d> {
     }
 
     /// One more item, a node. It tells whether this is enough.
+    #[inline(always)]
     pub(crate) fn take(&mut self, aim: &Aim<'_, 'd>, node: NodeRef<'d>) -> bool
         ensures more { taken_value aim.now self.new ≡ with_item (taken_value aim.now self.old) (node_value node.entry) }
         ensures enough { result ≡ suffices (taken_value aim.now self.new) }
     {
-        let item = Item::Node(node);
         match aim {
             Aim::Look(limit) => {
-                self.found = self.found.more(item);
-                self.found.is_enough(*limit)
+                self.nodes = self.nodes.more(node);
+                self.nodes.is_enough(*limit)
             }
             Aim::Pairs(early, beside) => {
-                self.pairing = self.pairing.saw(beside.truth(&item));
+                self.pairing = self.pairing.saw(beside.truth(&Item::Node(node)));
                 self.pairing.halts(*early)
             }
         }

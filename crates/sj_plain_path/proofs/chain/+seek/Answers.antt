@@ -3,7 +3,7 @@ use Rattle.std.proofs.lemmas.Bool.Decides.{nat_tests}
 use Rattle.sj_path_tree.specs.declared.parts.Mode.TheVariants.{Lax}
 use Rattle.sj_step.proofs.Keyed.{fewer}
 use Rattle.sj_plain_path.specs.Chains.{over, throughout}
-use Rattle.sj_plain_path.proofs.Chains.{first_rest, sought_first, member_array, member_other, elements_array, elements_other, sought_element, index_short, index_first, index_none, keyed, under_none, under_object, seeking_over, seeking_enough, sought_none, sought_same, element_next, elements_over, member_next, members_over}
+use Rattle.sj_plain_path.proofs.Chains.{first_rest, sought_first, member_array, member_other, elements_array, elements_other, sought_element, index_short, index_first, index_none, keyed, under_none, under_object, seeking_over, seeking_enough, sought_none, sought_same, element_next, elements_over, member_next, members_over, member_last}
 use Rattle.sj_plain_path.proofs.chain.+seek.Goals as goal
 
 pub seek-returns-in-Array : goal.seek-returns-in-Array
@@ -72,10 +72,16 @@ seek_under-returns g t c = elements_over _ _ _ _ _ _ _ _ c.elements.invariant c.
 pub seek_members-returns-in_default : goal.seek_members-returns-in_default
 seek_members-returns-in_default g t c = sought_none _ _ _ (under_none _ _ _ _ _ (rw c.kind.ensures at c.in_default.not-Object))
 
+pub seek_members-returns-then-is_at_end : goal.seek_members-returns-then-is_at_end
+seek_members-returns-then-is_at_end g t c =
+    sought_same _ _ _ _ _ _ _
+    (member_last _ _ _ _ _ _ _ _ _ _ _ _ _ (member_next _ _ _ _ _ _ _ _ _ _ _ _ c.members.invariant c.in-Some.ensures.child c.in-Some.ensures.step) (c.is_at_end.ensures.0 c.if-is_at_end.true) c.seek.ensures)
+    (under_object _ _ _ _ _ (sym c.kind.ensures ∙ c.in-Object.is) ∙ ap (keyed c.args.how c.args.key.now c.args.rest.now) (sym c.children-members.ensures))
+
 pub seek_members-returns-then-seek : goal.seek_members-returns-then-seek
 seek_members-returns-then-seek g t c =
     sought_same _ _ _ _ _ _ _
-    (seeking_enough _ _ _ _ _ _ _ _ _ (member_next _ _ _ _ _ _ _ _ _ _ _ _ c.members.invariant c.in-Some.ensures.child c.in-Some.ensures.step) (rw c.if-seek.true at c.seek.ensures))
+    (seeking_enough _ _ _ _ _ _ _ _ _ (member_next _ _ _ _ _ _ _ _ _ _ _ _ c.members.invariant c.in-Some.ensures.child c.in-Some.ensures.step) (rw c.if-seek.true at c.seek-in-Some.ensures))
     (under_object _ _ _ _ _ (sym c.kind.ensures ∙ c.in-Object.is) ∙ ap (keyed c.args.how c.args.key.now c.args.rest.now) (sym c.children-members.ensures))
 
 pub seek_members-members-smaller : goal.seek_members-members-smaller
@@ -83,7 +89,7 @@ seek_members-members-smaller g t c = fewer Lax _ false _ _ _ c.in-Some.ensures.c
 
 pub seek_members-members-preserved : goal.seek_members-members-preserved
 seek_members-members-preserved g t c =
-    seeking_over _ _ _ _ _ _ _ _ _ (member_next _ _ _ _ _ _ _ _ _ _ _ _ c.members.invariant c.in-Some.ensures.child c.in-Some.ensures.step) (rw c.if-seek.false at c.seek.ensures)
+    seeking_over _ _ _ _ _ _ _ _ _ (member_next _ _ _ _ _ _ _ _ _ _ _ _ c.members.invariant c.in-Some.ensures.child c.in-Some.ensures.step) (rw c.if-seek.false at c.seek-in-Some.ensures)
 
 pub seek_members-returns : goal.seek_members-returns
 seek_members-returns g t c =

@@ -1,5 +1,4 @@
-use Rattle.sj_plain_path.proofs.Takers.{look_sought}
 use Rattle.sj_plain_path.proofs.chain.look_below.Goals as goal
 
 pub returns : goal.returns
-returns g c = look_sought _ _ _ _ _ _ _ c.nothing-gathered.ensures.found c.seek.ensures
+returns g c = rw c.found.ensures c.nodes_below.ensures
