@@ -1,10 +1,13 @@
 // The texts of fields.
-ghost use Rattle.std.specs.Prelude.{◌≡◌, ◌++◌, ◌<◌, ◌≤◌, length, take, slice_index, true, false, codes, OnOk, OnErr};
+ghost use Rattle.std.specs.Prelude.{◌≡◌, ◌++◌, ◌<◌, ◌≤◌, length, take, slice_index, true, false, codes, decimal, IfSome, OnOk, OnErr};
 ghost use Rattle.std.specs.List.{flat_map};
+ghost use Rattle.sj_decimal.specs.Text.{decimal_text};
 ghost use Rattle.sj_text.specs.Prefixes.{AppendsPrefix};
 ghost use Rattle.sj_value.specs.Values.{IsPrintable};
 ghost use Rattle.sj_rows.specs.RowText.{has_escape, escaped_byte, escaped, number_field, tabbed};
 
+use crate::window::push_front;
+use itoa::write_digits;
 use sj_base::{Bytes, Memory};
 use sj_decimal::Decimal;
 use sj_value::SqlValue;
@@ -33,13 +36,45 @@ fn tabbed_bytes(out: &mut Bytes, bytes: &[u8]) -> Result<(), Memory>
     push_escaped(out, bytes)
 }
 
+/// Room for a TAB and the digits of a whole number of 64 bits.
+const MAX_WHOLE: usize = 24;
+
 fn tabbed_number(out: &mut Bytes, number: Decimal, places: u32) -> Result<(), Memory>
     requires { IsPrintable (SqlValue.Num number places) }
     ensures ok { OnOk result (out.new ≡ out.old ++ (codes "\t" ++ number_field number places)) }
     ensures err { OnErr result (AppendsPrefix out.old (codes "\t" ++ number_field number places) out.new) }
 {
+    if places == 0 {
+        if let Some(whole) = short_whole(number) {
+            return tabbed_whole(out, whole);
+        }
+    }
     out.push(b"\t")?;
     number_text(out, number, places)
+}
+
+// The number, where it is whole, has 64 bits and no sign, as most that print no decimals.
+#[inline(always)]
+fn short_whole(number: Decimal) -> Option<u64>
+    ensures { IfSome result (λ whole. decimal_text number ≡ decimal whole) }
+{
+    let (coefficient, scale) = number.parts();
+    if scale == 0 && 0 <= coefficient && coefficient <= u64::MAX as i128 {
+        Some(coefficient as u64)
+    } else {
+        None
+    }
+}
+
+// Its digits are written over TABs, of which the one before them stays.
+#[inline(always)]
+fn tabbed_whole(out: &mut Bytes, whole: u64) -> Result<(), Memory>
+    ensures ok { OnOk result (out.new ≡ out.old ++ (codes "\t" ++ decimal whole)) }
+    ensures err { OnErr result (out.new ≡ out.old) }
+{
+    let mut field = [b'\t'; 2 * MAX_WHOLE];
+    let tab = write_digits(whole, &mut field, MAX_WHOLE) - 1;
+    push_front(out, &field[tab..tab + MAX_WHOLE], MAX_WHOLE - tab)
 }
 
 fn number_text(out: &mut Bytes, number: Decimal, places: u32) -> Result<(), Memory>

@@ -6,6 +6,7 @@ ghost use Rattle.sj_value.specs.Values.{IsPrintable};
 ghost use Rattle.sj_rows.specs.RowText.{row_head, tabbed, row_bytes, error_bytes};
 
 use crate::field::tabbed_text;
+use crate::window::push_front;
 use itoa::write_digits;
 use sj_base::{Bytes, Memory, State};
 use sj_value::SqlValue;
@@ -53,16 +54,18 @@ pub fn error_text(out: &mut Bytes, line: u64, statement: u32, state: State) -> R
 }
 
 // Appends the two numbers, TAB and the letter of the row, all at once: each call that grows the output costs more than
-// its few bytes. They are written from the last to the first over TABs, of which two stay.
+// its few bytes. They are written from the last to the first over TABs, of which two stay, with so many behind them that
+// a window of one size begins with them wherever they begin.
+#[inline(always)]
 fn head_text(out: &mut Bytes, line: u64, statement: u32, letter: u8) -> Result<(), Memory>
     ensures ok { OnOk result (out.new ≡ out.old ++ (row_head line statement ++ 9 ∷ letter ∷ [])) }
     ensures err { OnErr result (out.new ≡ out.old) }
 {
-    let mut head = [b'\t'; MAX_HEAD];
+    let mut head = [b'\t'; 2 * MAX_HEAD];
     head[MAX_HEAD - 1] = letter;
     let second = write_digits(statement as u64, &mut head, MAX_HEAD - 2);
     let first = write_digits(line, &mut head, second - 1);
-    out.push(&head[first..])
+    push_front(out, &head[first..first + MAX_HEAD], MAX_HEAD - first)
 }
 
 // Appends a TAB and a field for each value.

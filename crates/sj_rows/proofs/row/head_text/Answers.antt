@@ -1,7 +1,7 @@
-use Rattle.std.proofs.Common.{◌≡◌, ◌-◌, ◌≤◌, ◌++◌, List, ℕ, length, take, drop, decimal, arith, subst, ◌∙◌, OnOk}
+use Rattle.std.proofs.Common.{◌≡◌, ◌+◌, ◌-◌, ◌≤◌, ◌++◌, ◌∷◌, [], List, ℕ, length, drop, replicate, decimal, arith, subst, OnOk}
 use Rattle.std.proofs.lemmas.Fmt.{length-decimal-le}
-use Rattle.std.proofs.lemmas.List.{take_all, length-drop}
-use Rattle.sj_rows.proofs.Heads.{head_is}
+use Rattle.sj_rows.specs.RowText.{row_head}
+use Rattle.sj_rows.proofs.Heads.{front_is, head_is, length_head}
 use Rattle.sj_rows.proofs.row.head_text.Goals as goal
 
 pub write_digits-second-requires : goal.write_digits-second-requires
@@ -20,9 +20,13 @@ pub returns-clause-ok : goal.returns-clause-ok
 returns-clause-ok c =
     let second = c.write_digits-second in
     let first = c.write_digits-first in
+    let at : ℕ = first.result in
+    let head : List ℕ = row_head c.args.line c.args.statement ++ 9 ∷ c.args.letter ∷ [] in
     let short : length (decimal c.args.statement) ≤ 10 = length-decimal-le 10 c.args.statement (omega arith) (omega arith) (omega arith) in
-    let whole : take (33 - first.result) (drop first.result first.new.buf) ≡ drop first.result first.new.buf = take_all _ _ (omega (arith, length-drop first.result first.new.buf)) in
-    subst (λ (l : List ℕ). OnOk c.push.result (c.push.new.self ≡ c.args.out.now ++ l))
-    (whole ∙ head_is second.new.buf first.new.buf second.result first.result c.args.line c.args.statement c.args.letter second.ensures.before second.ensures.written
-    (omega (arith, short, second.ensures.start)) (omega (arith, second.ensures.start)) (omega (arith, second.ensures.start)) first.ensures.written)
-    c.push.ensures.ok
+    let is : drop at first.new.buf ≡ head ++ replicate 33 9 =
+    head_is second.new.buf first.new.buf second.result at c.args.line c.args.statement c.args.letter second.ensures.before second.ensures.written
+    (omega (arith, short, second.ensures.start)) (omega (arith, second.ensures.start)) (omega (arith, second.ensures.start)) first.ensures.written in
+    let long : length head ≡ 33 - at = omega (arith, length_head c.args.line c.args.statement c.args.letter, first.ensures.start, second.ensures.start) in
+    subst (λ (l : List ℕ). OnOk c.push_front.result (c.push_front.new.out ≡ c.args.out.now ++ l))
+    (front_is (drop at first.new.buf) head (replicate 33 9) (at + 33 - at) (33 - at) is long (omega arith))
+    c.push_front.ensures.ok
