@@ -20,6 +20,7 @@ use sj_value::{ExistsAction, SqlValue};
 ///
 /// Example: on `{"a":[1,2],"b":"x"}` the path `$.a[*]` gives TRUE, and `$.c` gives FALSE
 /// (`sj_row_tests::examples::query_functions`).
+#[inline(always)]
 pub fn json_exists<'d, L: Ledger>(
     cursor: &mut Cursor<'d>,
     context: Context<'d>,

@@ -16,6 +16,7 @@ use std::alloc::Global;
 ///
 /// # Errors
 /// [`Memory`] where memory runs out.
+#[inline(always)]
 pub fn is_json(
     alloc: Global,
     doc: Option<&Doc>,

@@ -18,6 +18,7 @@ use std::alloc::Global;
 
 impl<'d> ExistsCall<'d> {
     /// The outcome on a context item, or on the error in its place. The counter rises by no more than what it may take. It takes no memory.
+    #[inline(always)]
     pub fn outcome<L: Ledger>(&mut self, context: Context<'d>, steps: &mut Steps<L>) -> Outcome
         ensures outcome { let x = path_with self.old.cursor.value in result ≡ exists_outcome self.old.on_error x.path.mode (context_value context.entry) (trace_of x) }
         ensures printed { IsPrinted result }

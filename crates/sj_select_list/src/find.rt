@@ -54,6 +54,7 @@ pub fn find_list<'d, L: Ledger>(
 ///
 /// # Errors
 /// [`Memory`] where memory runs out. What is said of the counter holds then too.
+#[inline(always)]
 pub(crate) fn find<'d, L: Ledger>(
     alloc: Global,
     operations: &mut [Operation<'d>],
@@ -142,8 +143,8 @@ fn put_column(
     stack.put(outcome)
 }
 
-// Puts the truth value of IS JSON on a stack.
-#[inline(never)]
+// Puts the truth value of IS JSON on a stack. It has few locals.
+#[inline(always)]
 fn put_is_json(
     alloc: Global,
     line: LineDoc<'_>,

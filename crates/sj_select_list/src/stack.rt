@@ -59,7 +59,9 @@ impl Stack {
         if !self.values.is_empty() {
             self.values.clear();
         }
-        self.members.clear();
+        if !self.members.is_empty() {
+            self.members.clear();
+        }
     }
 
     /// Puts the value of an outcome at the end, or gives the state that it raises.
