@@ -213,6 +213,7 @@ impl<'d> NodeRef<'d> {
     }
 
     /// A number.
+    #[inline(always)]
     pub fn number(self) -> Num<'d>
         requires { kind_of (node_tree self) ≡ Kind.Number }
         ensures { node_tree self.entry ≡ number (number_in result) }
