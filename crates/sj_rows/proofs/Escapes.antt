@@ -1,9 +1,10 @@
 -- An escaped text can be read back.
-use Rattle.std.proofs.Common.{◌≡◌, ◌≢◌, ℕ, Bool, true, false, eqb, cond, List, [], ◌∷◌, ◌++◌, codes, All, refl, sym, ap, ◌∙◌, subst, ⊎_elim, eqb-true}
+use Rattle.std.proofs.Common.{◌≡◌, ◌≢◌, ℕ, suc, Bool, true, false, eqb, cond, List, [], ◌∷◌, ◌++◌, ◌+◌, take, codes, All, refl, sym, ap, ap₂, ◌∙◌, subst, arith, ⊎_elim, eqb-true}
 use borrow.Author.Tests.{eqb-false}
 use Rattle.std.proofs.lemmas.List.Elements.{All-nil, All-append, All-cons}
 use Rattle.std.proofs.lemmas.Bool.{cases_Bool, cond-false}
-use Rattle.sj_rows.specs.RowText.{escaped_byte, escaped, IsNoEnd}
+use Rattle.std.specs.List.{flat_map, prefix_len}
+use Rattle.sj_rows.specs.RowText.{escaped_byte, escaped, stands, IsNoEnd}
 
 -- the byte that a letter behind a backslash stands for
 abbrev original : ℕ → ℕ
@@ -74,3 +75,27 @@ ends_nothing =
 pub no_ends : (text : List ℕ) → All IsNoEnd (escaped text)
 no_ends [] = All-nil IsNoEnd
 no_ends (b ∷ bs) = All-append IsNoEnd (escaped_byte b) (escaped bs) (ends_nothing b) (no_ends bs)
+
+-- ---- bytes that stand for themselves
+
+stands_alone : (b : ℕ) → stands b ≡ true → escaped_byte b ≡ b ∷ []
+stands_alone =
+    by_escape (λ b. stands b ≡ true → escaped_byte b ≡ b ∷ [])
+    (λ h. let no : ◌≡◌ {A = Bool} false true = h in cc)
+    (λ h. let no : ◌≡◌ {A = Bool} false true = h in cc)
+    (λ h. let no : ◌≡◌ {A = Bool} false true = h in cc)
+    (λ h. let no : ◌≡◌ {A = Bool} false true = h in cc)
+    (λ b n plain m k h. plain)
+
+run_from : (b : ℕ) (bs : List ℕ) (n : ℕ) → flat_map escaped_byte (take n bs) ≡ take n bs → (s : Bool) → stands b ≡ s
+    → flat_map escaped_byte (take (cond s (suc n) 0) (b ∷ bs)) ≡ take (cond s (suc n) 0) (b ∷ bs)
+run_from b bs n before true h = ap₂ (λ (x y : List ℕ). x ++ y) (stands_alone b h) before
+run_from b bs n before false h = refl
+
+-- those before the first that does not are written as they are
+pub run_alone : (bs : List ℕ) → flat_map escaped_byte (take (prefix_len stands bs) bs) ≡ take (prefix_len stands bs) bs
+run_alone [] = refl
+run_alone (b ∷ bs) =
+    let n : ℕ = prefix_len stands bs in
+    let next : suc n ≡ 1 + n = omega arith in
+    subst (λ (k : ℕ). flat_map escaped_byte (take (cond (stands b) k 0) (b ∷ bs)) ≡ take (cond (stands b) k 0) (b ∷ bs)) next (run_from b bs n (run_alone bs) (stands b) refl)

@@ -1,5 +1,5 @@
 -- The texts of rows.
-use Rattle.std.specs.Prelude.{◌≢◌, ℕ, List, [], ◌∷◌, ◌++◌, Bool as Logical, true, false, ◌||◌, ◌==◌, if◌then◌else◌, codes, decimal, ℤ}
+use Rattle.std.specs.Prelude.{◌≢◌, ℕ, List, [], ◌∷◌, ◌++◌, Bool as Logical, true, false, not, ◌||◌, ◌==◌, if◌then◌else◌, codes, decimal, ℤ}
 use Rattle.std.specs.List.{flat_map}
 use Rattle.sj_base.specs.State.{code_of}
 use Rattle.sj_base.specs.declared.state.State.{State}
@@ -12,6 +12,10 @@ use Rattle.sj_value.specs.declared.value.SqlValue.TheVariants.{Null, Text, Num, 
 -- a backslash, TAB, LF or CR
 abbrev pub has_escape : ℕ → Logical
 has_escape b = b == 92 || b == 9 || b == 10 || b == 13
+
+-- a byte that stands for itself
+abbrev pub stands : ℕ → Logical
+stands b = not (has_escape b)
 
 -- TAB, LF and CR as a backslash and a letter, and a backslash as two; any other byte as it is
 abbrev pub escaped_byte : ℕ → List ℕ

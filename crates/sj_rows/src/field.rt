@@ -6,6 +6,7 @@ ghost use Rattle.sj_text.specs.Prefixes.{AppendsPrefix};
 ghost use Rattle.sj_value.specs.Values.{IsPrintable};
 ghost use Rattle.sj_rows.specs.RowText.{has_escape, escaped_byte, escaped, number_field, tabbed};
 
+use crate::plain::plain_end;
 use crate::window::push_front;
 use itoa::write_digits;
 use sj_base::{Bytes, Memory};
@@ -114,19 +115,7 @@ fn plain_run(bytes: &[u8]) -> usize
     ensures plain { flat_map escaped_byte (take result bytes.now) ≡ take result bytes.now }
     ensures stops { result < length bytes.now → has_escape (slice_index bytes.now result) ≡ true }
 {
-    for (i, byte) in bytes.iter().enumerate() {
-        if is_escaped(*byte) {
-            return i;
-        }
-    }
-    bytes.len()
-}
-
-// Whether a byte of a field has an escape.
-fn is_escaped(byte: u8) -> bool
-    ensures { result ≡ has_escape byte }
-{
-    byte == b'\\' || byte == b'\t' || byte == b'\n' || byte == b'\r'
+    plain_end(bytes, 0)
 }
 
 // Appends the escape of a byte that has one, at once.
