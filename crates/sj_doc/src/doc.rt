@@ -218,9 +218,18 @@ impl<'d> NodeRef<'d> {
         requires { kind_of (node_tree self) ≡ Kind.Number }
         ensures { node_tree self.entry ≡ number (number_in result) }
     {
+        value_of(self.numeral())
+    }
+
+    /// The numeral that the document keeps of a number: it spells that number, not always as the line did.
+    pub fn numeral(self) -> &'d str
+        requires { kind_of (node_tree self) ≡ Kind.Number }
+        ensures tree { node_tree self.entry ≡ number (spelled result.now) }
+        ensures kept { IsNumeral result.now }
+    {
         let doc: &Doc = self.doc;
         match doc.nodes[self.at as usize].body {
-            Body::Numeral(span) => value_of(text_at(&doc.arena, span)),
+            Body::Numeral(span) => text_at(&doc.arena, span),
             _ => unreachable!(),
         }
     }

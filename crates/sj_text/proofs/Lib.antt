@@ -8,3 +8,5 @@ pub mod Rendered
 pub mod Printings
 -- for `pair_text`
 pub mod PairTexts
+-- for `has_decimals`, `is_decimal_text`, `number_text` and `whole_end`
+pub mod Numerals

@@ -10,6 +10,7 @@
 
 mod item;
 mod node;
+mod numeral;
 mod place;
 mod scalar;
 mod string;

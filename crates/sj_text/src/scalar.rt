@@ -6,6 +6,7 @@ ghost use Rattle.sj_decimal.specs.Text.{decimal_text as decimal_printed};
 ghost use Rattle.sj_doc.specs.Kinds.{kind_of};
 ghost use Rattle.sj_doc.specs.Listed.{node_tree};
 
+use crate::numeral::is_decimal_text;
 use sj_base::{Bytes, Memory};
 use sj_decimal::Decimal;
 use sj_doc::{Kind, NodeRef, Num};
@@ -21,12 +22,17 @@ pub(crate) fn truth_text(holds: bool, out: &mut Bytes) -> Result<(), Memory>
     }
 }
 
-// A number that is not exact is printed as it was spelled.
+// Most numerals are printed as they are spelled, and so is a number that is not exact. Any other one is printed by its value.
+#[tactic(auto, using(crate::proofs::Numerals::printed_as_spelled))]
 pub(crate) fn number_text(node: NodeRef<'_>, out: &mut Bytes) -> Result<(), Memory>
     requires { kind_of (node_tree node) ≡ Kind.Number }
     ensures ok { OnOk result (out.new ≡ out.old ++ printed (node_tree node.entry)) }
     ensures err { OnErr result (out.new ≡ out.old) }
 {
+    let numeral = node.numeral().as_bytes();
+    if is_decimal_text(numeral) {
+        return out.push(numeral);
+    }
     match node.number() {
         Num::Exact(value) => decimal_text(value, out),
         Num::Wide(spelling) => out.push(spelling.as_bytes()),

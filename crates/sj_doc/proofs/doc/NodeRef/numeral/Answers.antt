@@ -4,10 +4,9 @@ use Rattle.sj_json.specs.Cells.{number_cell}
 use Rattle.sj_doc.specs.declared.node.Span.{Span}
 use Rattle.sj_doc.specs.declared.node.Body.TheVariants.{Numeral}
 use Rattle.sj_doc.specs.Nodes.{cell_of, spelled, IsNumeral, IsNode, IsBody, IsSpan, text_in}
-use Rattle.sj_doc.specs.Numbers.{number_in}
 use Rattle.sj_doc.proofs.Docs.{count, cell_at, head_cell, kind-head, number-head, is_numeral, all_at}
-use Rattle.sj_doc.proofs.doc.NodeRef.number.Goals as goal
-use Rattle.sj_doc.proofs.doc.NodeRef.number.Goals.{After-doc, After-index}
+use Rattle.sj_doc.proofs.doc.NodeRef.numeral.Goals as goal
+use Rattle.sj_doc.proofs.doc.NodeRef.numeral.Goals.{After-doc, After-index}
 
 within : (c : After-doc) → c.args.self.at < length c.doc.inside.nodes.items
 within c =
@@ -34,14 +33,14 @@ pub text_at-requires : goal.text_at-requires
 text_at-requires c =
     subst (λ (a : List ℕ). IsSpan a c.in-Numeral.span) (sym c.deref.ensures.value) (span_fits (goal.at.text_at-requires c).After-index c.in-Numeral.span c.in-Numeral.is).0
 
-pub value_of-requires : goal.value_of-requires
-value_of-requires c =
-    subst IsNumeral (ap (λ (a : List ℕ). text_in a c.in-Numeral.span) (sym c.deref.ensures.value) ∙ sym c.text_at.ensures) (span_fits (goal.at.value_of-requires c).After-index c.in-Numeral.span c.in-Numeral.is).1
-
-pub returns : goal.returns
-returns c =
+pub returns-clause-tree : goal.returns-clause-tree
+returns-clause-tree c =
     let text : c.text_at.result.now ≡ text_in c.doc.inside.arena.items c.in-Numeral.span = c.text_at.ensures ∙ ap (λ (a : List ℕ). text_in a c.in-Numeral.span) c.deref.ensures.value in
-    number-head (number_in c.value_of.result) _ (ap number_cell (c.value_of.ensures ∙ ap spelled text) ∙ ap (cell_of c.doc.inside.arena.items) (sym c.in-Numeral.is) ∙ here (goal.at.returns c).After-index)
+    number-head (spelled c.text_at.result.now) _ (ap number_cell (ap spelled text) ∙ ap (cell_of c.doc.inside.arena.items) (sym c.in-Numeral.is) ∙ here (goal.at.returns-clause-tree c).After-index)
+
+pub returns-clause-kept : goal.returns-clause-kept
+returns-clause-kept c =
+    subst IsNumeral (ap (λ (a : List ℕ). text_in a c.in-Numeral.span) (sym c.deref.ensures.value) ∙ sym c.text_at.ensures) (span_fits (goal.at.returns-clause-kept c).After-index c.in-Numeral.span c.in-Numeral.is).1
 
 pub unreachable-requires : goal.unreachable-requires
 unreachable-requires c =

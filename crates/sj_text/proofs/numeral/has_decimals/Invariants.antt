@@ -1,0 +1,9 @@
+use Rattle.std.proofs.Common.{◌-◌, ◌≤◌, length}
+use Rattle.sj_text.proofs.Numerals.{IsPointed}
+use Rattle.sj_text.proofs.numeral.has_decimals.Given as goal
+
+abbrev pub invariant-loop-end : goal.invariant-loop-end
+invariant-loop-end l = IsPointed l.point l.end l.last l.numeral × (l.end ≤ length l.numeral)
+
+abbrev pub decreases-loop-end : goal.decreases-loop-end
+decreases-loop-end l = length l.numeral - l.end
