@@ -8,8 +8,8 @@ pub mod Docs
 -- for `Doc::root`
 pub mod NumbersOfNodes
 -- for `DocBuilder::begin`, `DocBuilder::close`, `DocBuilder::depth`, `DocBuilder::finish`, `DocBuilder::holding`,
--- `DocBuilder::key`, `DocBuilder::key_at`, `DocBuilder::null`, `DocBuilder::number`, `DocBuilder::number_at`,
--- `DocBuilder::over`, `DocBuilder::text`, `DocBuilder::text_at`, `DocBuilder::truth`, `DocBuilder::wants` and
+-- `DocBuilder::key_at`, `DocBuilder::key_bytes`, `DocBuilder::null`, `DocBuilder::number`, `DocBuilder::number_at`,
+-- `DocBuilder::over`, `DocBuilder::text_at`, `DocBuilder::text_bytes`, `DocBuilder::truth`, `DocBuilder::wants` and
 -- `store`
 pub mod Builders
 -- for `Children::advance` and `NodeRef::children`, and for other lemmas

@@ -95,8 +95,9 @@ fn push_in<T: Drop>(list: &mut Vec<T>, item: T) -> Result<(), Memory>
 
 // Puts s at the end of the text, which has room for 2^32 - 1 bytes.
 #[inline(always)]
-fn store(arena: &mut Vec<u8>, s: &str) -> Result<Span, Memory>
-    requires { length arena.old.items < text_bound }
+fn store(arena: &mut Vec<u8>, s: &[u8]) -> Result<Span, Memory>
+    requires narrow { length arena.old.items < text_bound }
+    requires utf8 { IsUtf8 s.now }
     ensures ok { IfOk result (λ span. Stores arena.old.items arena.new.items s.now span) }
     ensures err { OnErr result (arena.new.items ≡ arena.old.items) }
 {
@@ -104,7 +105,7 @@ fn store(arena: &mut Vec<u8>, s: &str) -> Result<Span, Memory>
     if s.len() > u32::MAX as usize - start {
         return Err(Memory);
     }
-    arena.extend_from_slice(s.as_bytes())?;
+    arena.extend_from_slice(s)?;
     Ok(Span {
         start: start as u32,
         len: s.len() as u32,
@@ -211,7 +212,7 @@ impl DocBuilder {
         } = self;
         arena.clear();
         tree.nodes.clear();
-        store(&mut arena, line)?;
+        store(&mut arena, line.as_bytes())?;
         Ok(DocBuilder {
             arena,
             line: line.len() as u32,
@@ -249,7 +250,19 @@ impl DocBuilder {
         ensures ok { OnOk result (self.new ≡ (with_value (string s.now) self.old.0, self.old.1)) }
         ensures err { OnErr result (self.new ≡ self.old) }
     {
-        let span = store(&mut self.arena, s)?;
+        self.text_bytes(s.as_bytes())
+    }
+
+    /// The same, by its bytes in UTF-8.
+    #[inline(always)]
+    pub fn text_bytes(&mut self, bytes: &[u8]) -> Result<(), Memory>
+        requires wanted { TakesValue self.old.0.0 }
+        requires room { node_total self.old.0 < most_nodes }
+        requires utf8 { IsUtf8 bytes.now }
+        ensures ok { OnOk result (self.new ≡ (with_value (string bytes.now) self.old.0, self.old.1)) }
+        ensures err { OnErr result (self.new ≡ self.old) }
+    {
+        let span = store(&mut self.arena, bytes)?;
         self.tree.add(Body::Text(span))
     }
 
@@ -301,7 +314,7 @@ impl DocBuilder {
         ensures ok { OnOk result (self.new ≡ (with_value (number (spelled spelling.now)) self.old.0, self.old.1)) }
         ensures err { OnErr result (self.new ≡ self.old) }
     {
-        let span = store(&mut self.arena, spelling)?;
+        let span = store(&mut self.arena, spelling.as_bytes())?;
         self.tree.add(Body::Numeral(span))
     }
 
@@ -325,7 +338,18 @@ impl DocBuilder {
         ensures ok { OnOk result (self.new ≡ (with_key s.now self.old.0, self.old.1)) }
         ensures err { OnErr result (self.new ≡ self.old) }
     {
-        self.tree.key = Some(store(&mut self.arena, s)?);
+        self.key_bytes(s.as_bytes())
+    }
+
+    /// The same, by its bytes in UTF-8.
+    #[inline(always)]
+    pub fn key_bytes(&mut self, bytes: &[u8]) -> Result<(), Memory>
+        requires wanted { TakesKey self.old.0.0 }
+        requires utf8 { IsUtf8 bytes.now }
+        ensures ok { OnOk result (self.new ≡ (with_key bytes.now self.old.0, self.old.1)) }
+        ensures err { OnErr result (self.new ≡ self.old) }
+    {
+        self.tree.key = Some(store(&mut self.arena, bytes)?);
         Ok(())
     }
 

@@ -7,13 +7,13 @@ pub mod Scanned
 pub mod Steps
 -- for `any_number` and `number`
 pub mod Numerals
--- for `escaped_char`, `long_escape` and `unit_step`
+-- for `digit`, `escaped_char`, `letter`, `pair_at`, `unit_at` and `unit_char`
 pub mod Escapes
--- for `unescape`
+-- for `put_plain` and `unescape`
 pub mod Unescaping
 -- for `read_over`
 pub mod Ends
--- for `high_in_32`, `others_in_16`, `stops_in_16`, `stops_in_32` and `stops_in_8`
+-- for `high_in_32`, `others_in_16`, `stops_in_16`, `stops_in_32` and `stops_in_8`, and for other lemmas
 pub mod Lanes
 -- for `digits_end`, `long_plain_end`, `near_end` and `plain_end_of_31`
 pub mod Runs

@@ -1,9 +1,9 @@
 -- A string with escapes, part by part.
-use Rattle.std.proofs.Common.{◌≡◌, ◌≢◌, ℕ, ◌+◌, ◌-◌, ◌<◌, ◌≤◌, List, [], ◌++◌, length, take, drop, get_or, Bool, false, ◌==◌, refl, sym, ap, ◌∙◌, subst, arith, inl, inr}
+use Rattle.std.proofs.Common.{◌≡◌, ◌≢◌, ℕ, suc, ◌+◌, ◌-◌, ◌<◌, ◌≤◌, List, [], ◌∷◌, ◌++◌, length, take, drop, get_or, Bool, false, ◌==◌, refl, sym, ap, ◌∙◌, subst, arith, inl, inr}
 use Rattle.std.specs.List.{prefix_len}
 use Rattle.std.specs.Char.{encode_utf8}
 use Rattle.std.specs.Str.{IsUtf8, IsCharBoundary}
-use Rattle.std.proofs.lemmas.List.{drop_all}
+use Rattle.std.proofs.lemmas.List.{drop_all, take_all, append-nil, take-take, take-append-le, length-take, length-take-le}
 use Rattle.std.proofs.lemmas.Str.{IsCharBoundary-before_ascii, IsCharBoundary-after_ascii, IsCharBoundary-end}
 use Rattle.std.proofs.lemmas.Bool.{cases_lt}
 use Rattle.std.proofs.lemmas.Bool.Decides.{nat_tests}
@@ -66,3 +66,26 @@ pub escape_boundary : (text : List ℕ) (from c next : ℕ) → IsUtf8 text → 
 escape_boundary text from c next good f =
     let last : next - 1 + 1 ≡ next = omega (arith, f.later) in
     subst (IsCharBoundary text) last (IsCharBoundary-after_ascii text (next - 1) good (omega (arith, f.later, f.within)) f.ascii)
+
+-- ---- the front of the buffer
+
+take_over : (xs ys : List ℕ) (n : ℕ) → take (length xs + n) (xs ++ ys) ≡ xs ++ take n ys
+take_over [] ys n = let e : 0 + n ≡ n = omega arith in ap (λ (k : ℕ). take k ys) e
+take_over (x ∷ xs) ys n = let e : suc (length xs) + n ≡ suc (length xs + n) = omega arith in ap (λ (k : ℕ). take k (x ∷ (xs ++ ys))) e ∙ ap (λ (l : List ℕ). x ∷ l) (take_over xs ys n)
+
+-- of what was written, the first n count
+pub front_of : (out old run : List ℕ) (at k n : ℕ) → n ≤ k → at ≤ length old → take (at + k) out ≡ take at old ++ take k run → take (at + n) out ≡ take at old ++ take n run
+front_of out old run at k n le within e =
+    let long = length-take-le at old within in
+    sym (take-take (at + n) (at + k) out (omega (arith, le))) ∙ ap (take (at + n)) e ∙ ap (λ (j : ℕ). take (j + n) (take at old ++ take k run)) (sym long)
+    ∙ take_over (take at old) (take k run) n ∙ ap (λ (x : List ℕ). take at old ++ x) (take-take n k run le)
+
+-- the front stays where the buffer grows
+pub front_kept : (old more : List ℕ) (n m : ℕ) → n ≤ m → n ≤ length old → take n (take m old ++ more) ≡ take n old
+front_kept old more n m le within =
+    take-append-le n (take m old) more (omega (arith, le, within, length-take m old)) ∙ take-take n m old le
+
+-- a slice of the whole buffer was written to
+pub written_back : (n : ℕ) (new old : List ℕ) → n ≡ length old → length new ≡ length old → take n (new ++ drop (length new) old) ≡ new
+written_back n new old e same =
+    ap (λ (x : List ℕ). take n (new ++ x)) (drop_all (length new) old (omega (arith, same))) ∙ ap (take n) (append-nil new) ∙ take_all n new (omega (arith, e, same))

@@ -1,127 +1,108 @@
-// Escapes of a string (RFC 8259, section 7), byte by byte.
-ghost use Rattle.std.specs.Prelude.{◌≡◌, ◌<◌, ◌≤◌, ◌^◌, length, option_map, IfSome, MatchOption};
-ghost use Rattle.sj_json.specs.Machine.{escape_step, unit_step as machine_unit_step, unit_done as machine_unit_done};
-ghost use Rattle.sj_read.specs.Strings.{escape_of, step_of, IsHighUnit, IsEscape, IsStep, FindsEscape, NoEscape};
+// Escapes of a string (RFC 8259, section 7).
+ghost use Rattle.std.specs.Prelude.{◌≡◌, ◌≤◌, ◌<◌, ◌^◌, length, None, MatchOption};
+ghost use Rattle.sj_json.specs.Machine.{begun, unit, high as high_came};
+ghost use Rattle.sj_read.specs.Strings.{letter_or_none, digit_or_none, IsHighUnit, HasUnit, NoUnit, FindsFrom, FailsFrom, FindsEscape, NoEscape};
 
-use sj_base::{is_high_surrogate, is_low_surrogate, letter_char, surrogate_pair_char};
+use sj_base::{is_high_surrogate, is_low_surrogate, surrogate_pair_char};
 
-// How far an escape has come, behind its backslash.
-#[derive(Clone, Copy, Drop)]
-enum Escape {
-    Begun,
-    // Behind a "u": the high surrogate that came before, if one did, how many hexadecimal digits have come,
-    // and the number that they write.
-    Unit {
-        high: Option<u32>,
-        count: u32,
-        value: u32,
-    },
-    // Behind a high surrogate.
-    High(u32),
-    // Behind a high surrogate and a backslash.
-    Second(u32),
-}
+// What each byte stands for behind a backslash, if it is an escape of one letter, and 0 if it is none.
+const LETTERS: [u8; 256] = [
+    0, 0, 0, 0, 0, 0, 0, 0, 0, 0, 0, 0, 0, 0, 0, 0, 0, 0, 0, 0, 0, 0, 0, 0, 0, 0, 0, 0, 0, 0, 0, 0,
+    0, 0, 34, 0, 0, 0, 0, 0, 0, 0, 0, 0, 0, 0, 0, 47, 0, 0, 0, 0, 0, 0, 0, 0, 0, 0, 0, 0, 0, 0, 0,
+    0, 0, 0, 0, 0, 0, 0, 0, 0, 0, 0, 0, 0, 0, 0, 0, 0, 0, 0, 0, 0, 0, 0, 0, 0, 0, 0, 0, 0, 92, 0,
+    0, 0, 0, 0, 8, 0, 0, 0, 12, 0, 0, 0, 0, 0, 0, 0, 10, 0, 0, 0, 13, 0, 9, 0, 0, 0, 0, 0, 0, 0, 0,
+    0, 0, 0, 0, 0, 0, 0, 0, 0, 0, 0, 0, 0, 0, 0, 0, 0, 0, 0, 0, 0, 0, 0, 0, 0, 0, 0, 0, 0, 0, 0, 0,
+    0, 0, 0, 0, 0, 0, 0, 0, 0, 0, 0, 0, 0, 0, 0, 0, 0, 0, 0, 0, 0, 0, 0, 0, 0, 0, 0, 0, 0, 0, 0, 0,
+    0, 0, 0, 0, 0, 0, 0, 0, 0, 0, 0, 0, 0, 0, 0, 0, 0, 0, 0, 0, 0, 0, 0, 0, 0, 0, 0, 0, 0, 0, 0, 0,
+    0, 0, 0, 0, 0, 0, 0, 0, 0, 0, 0, 0, 0, 0, 0, 0, 0, 0, 0, 0, 0, 0, 0, 0, 0, 0, 0, 0, 0, 0, 0, 0,
+    0, 0, 0,
+];
 
-// What a byte of an escape leads to.
-#[derive(Clone, Copy, Drop)]
-enum EscapeStep {
-    Wait(Escape),
-    // The escape ends, and stands for this character.
-    Char(char),
-}
+// What each byte is as a hexadecimal digit, in either case, and 16 if it is none.
+const DIGITS: [u8; 256] = [
+    16, 16, 16, 16, 16, 16, 16, 16, 16, 16, 16, 16, 16, 16, 16, 16, 16, 16, 16, 16, 16, 16, 16, 16,
+    16, 16, 16, 16, 16, 16, 16, 16, 16, 16, 16, 16, 16, 16, 16, 16, 16, 16, 16, 16, 16, 16, 16, 16,
+    0, 1, 2, 3, 4, 5, 6, 7, 8, 9, 16, 16, 16, 16, 16, 16, 16, 10, 11, 12, 13, 14, 15, 16, 16, 16,
+    16, 16, 16, 16, 16, 16, 16, 16, 16, 16, 16, 16, 16, 16, 16, 16, 16, 16, 16, 16, 16, 16, 16, 10,
+    11, 12, 13, 14, 15, 16, 16, 16, 16, 16, 16, 16, 16, 16, 16, 16, 16, 16, 16, 16, 16, 16, 16, 16,
+    16, 16, 16, 16, 16, 16, 16, 16, 16, 16, 16, 16, 16, 16, 16, 16, 16, 16, 16, 16, 16, 16, 16, 16,
+    16, 16, 16, 16, 16, 16, 16, 16, 16, 16, 16, 16, 16, 16, 16, 16, 16, 16, 16, 16, 16, 16, 16, 16,
+    16, 16, 16, 16, 16, 16, 16, 16, 16, 16, 16, 16, 16, 16, 16, 16, 16, 16, 16, 16, 16, 16, 16, 16,
+    16, 16, 16, 16, 16, 16, 16, 16, 16, 16, 16, 16, 16, 16, 16, 16, 16, 16, 16, 16, 16, 16, 16, 16,
+    16, 16, 16, 16, 16, 16, 16, 16, 16, 16, 16, 16, 16, 16, 16, 16, 16, 16, 16, 16, 16, 16, 16, 16,
+    16, 16, 16, 16, 16, 16, 16, 16, 16, 16, 16, 16, 16, 16,
+];
 
-const UNIT_DIGITS: u32 = 4;
-
-// Four digits have come.
-fn unit_done(high: Option<u32>, unit: u32) -> Option<EscapeStep>
-    requires small { unit < 2 ^ 16 }
-    requires high { IfSome high IsHighUnit }
-    ensures value { option_map step_of result ≡ machine_unit_done high unit }
-    ensures good { IfSome result IsStep }
+#[inline(always)]
+fn letter(byte: u8) -> u8
+    ensures { result ≡ letter_or_none byte }
 {
-    match high {
-        None => {
-            if is_high_surrogate(unit) {
-                return Some(EscapeStep::Wait(Escape::High(unit)));
-            }
-            // a low surrogate alone is no character
-            match char::from_u32(unit) {
-                Some(c) => Some(EscapeStep::Char(c)),
-                None => None,
-            }
-        }
-        Some(high) => {
-            if !is_low_surrogate(unit) {
-                return None;
-            }
-            Some(EscapeStep::Char(surrogate_pair_char(high, unit)))
-        }
-    }
+    LETTERS[byte as usize]
 }
 
-// The next digit.
-fn unit_step(high: Option<u32>, count: u32, value: u32, byte: u8) -> Option<EscapeStep>
-    requires { IsEscape (Escape.Unit high count value) }
-    ensures value { option_map step_of result ≡ escape_step (escape_of (Escape.Unit high count value)) byte }
-    ensures good { IfSome result IsStep }
+#[inline(always)]
+fn digit(byte: u8) -> u32
+    ensures { result ≡ digit_or_none byte }
 {
-    let digit = match (byte as char).to_digit(16) {
-        Some(digit) => digit,
-        None => return None,
-    };
-    let value = value * 16 + digit;
-    if count == UNIT_DIGITS - 1 {
-        return unit_done(high, value);
-    }
-    Some(EscapeStep::Wait(Escape::Unit {
-        high,
-        count: count + 1,
-        value,
-    }))
+    u32::from(DIGITS[byte as usize])
 }
 
-fn unit_begins(high: Option<u32>) -> Escape
-    requires { IfSome high IsHighUnit }
-    ensures value { result ≡ Escape.Unit high 0 0 }
-    ensures good { IsEscape result }
+// The unit of UTF-16 that the four digits at the place write.
+#[inline(always)]
+fn unit_at(bytes: &[u8], from: usize) -> Option<u32>
+    requires { from ≤ length bytes.now }
+    ensures { MatchOption result (NoUnit bytes.now from) (HasUnit bytes.now from) }
 {
-    Escape::Unit {
-        high,
-        count: 0,
-        value: 0,
+    if bytes.len() - from < 4 {
+        return None;
     }
+    let first = digit(bytes[from]);
+    let second = digit(bytes[from + 1]);
+    let third = digit(bytes[from + 2]);
+    let fourth = digit(bytes[from + 3]);
+    if (first > 15) | (second > 15) | (third > 15) | (fourth > 15) {
+        return None;
+    }
+    Some(((first * 16 + second) * 16 + third) * 16 + fourth)
 }
 
-impl Escape {
-    fn step(self, byte: u8) -> Option<EscapeStep>
-        requires { IsEscape self }
-        ensures value { option_map step_of result ≡ escape_step (escape_of self) byte }
-        ensures good { IfSome result IsStep }
-    {
-        match self {
-            Escape::Begun => {
-                if byte == b'u' {
-                    return Some(EscapeStep::Wait(unit_begins(None)));
-                }
-                match letter_char(byte) {
-                    Some(c) => Some(EscapeStep::Char(c)),
-                    None => None,
-                }
-            }
-            Escape::Unit { high, count, value } => unit_step(high, count, value, byte),
-            Escape::High(high) => {
-                if byte != b'\\' {
-                    return None;
-                }
-                Some(EscapeStep::Wait(Escape::Second(high)))
-            }
-            Escape::Second(high) => {
-                if byte != b'u' {
-                    return None;
-                }
-                Some(EscapeStep::Wait(unit_begins(Some(high))))
-            }
-        }
+// The character of a pair whose first unit is `high`, and whose second one is to be written at the place.
+#[inline(always)]
+fn pair_at(bytes: &[u8], from: usize, high: u32) -> Option<(char, usize)>
+    requires within { from ≤ length bytes.now }
+    requires high { IsHighUnit high }
+    ensures { MatchOption result (FailsFrom (high_came high) bytes.now from) (λ r. FindsFrom (high_came high) bytes.now from r.0 r.1) }
+{
+    if bytes.len() - from < 2 {
+        return None;
+    }
+    if bytes[from] != b'\\' {
+        return None;
+    }
+    if bytes[from + 1] != b'u' {
+        return None;
+    }
+    let low = unit_at(bytes, from + 2)?;
+    if !is_low_surrogate(low) {
+        return None;
+    }
+    Some((surrogate_pair_char(high, low), from + 6))
+}
+
+// The character whose first unit the digits at the place write, behind a "u".
+#[inline(always)]
+fn unit_char(bytes: &[u8], from: usize) -> Option<(char, usize)>
+    requires { from ≤ length bytes.now }
+    ensures { MatchOption result (FailsFrom (unit None 0 0) bytes.now from) (λ r. FindsFrom (unit None 0 0) bytes.now from r.0 r.1) }
+{
+    let code = unit_at(bytes, from)?;
+    if is_high_surrogate(code) {
+        return pair_at(bytes, from + 4, code);
+    }
+    // a low surrogate alone is no character
+    match char::from_u32(code) {
+        Some(c) => Some((c, from + 4)),
+        None => None,
     }
 }
 
@@ -132,27 +113,15 @@ pub(crate) fn escaped_char(bytes: &[u8], from: usize) -> Option<(char, usize)>
     requires { from ≤ length bytes.now }
     ensures { MatchOption result (NoEscape bytes.now from) (λ r. FindsEscape bytes.now from r.0 r.1) }
 {
-    if from < bytes.len() {
-        if let Some(c) = letter_char(bytes[from]) {
-            return Some((c, from + 1));
-        }
+    if from == bytes.len() {
+        return None;
     }
-    long_escape(bytes, from)
-}
-
-// The same, byte by byte.
-#[inline(never)]
-fn long_escape(bytes: &[u8], from: usize) -> Option<(char, usize)>
-    requires { from ≤ length bytes.now }
-    ensures { MatchOption result (NoEscape bytes.now from) (λ r. FindsEscape bytes.now from r.0 r.1) }
-{
-    let mut escape = Escape::Begun;
-    for at in from..bytes.len() {
-        match escape.step(bytes[at]) {
-            Some(EscapeStep::Wait(next)) => escape = next,
-            Some(EscapeStep::Char(c)) => return Some((c, at + 1)),
-            None => return None,
-        }
+    let c = letter(bytes[from]);
+    if c != 0 {
+        return Some((c as char, from + 1));
     }
-    None
+    if bytes[from] != b'u' {
+        return None;
+    }
+    unit_char(bytes, from + 1)
 }

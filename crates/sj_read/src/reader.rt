@@ -89,7 +89,7 @@ fn text_end(text: &str, from: usize) -> Option<usize>
 #[inline(never)]
 fn escaped_value(
     builder: &mut DocBuilder,
-    buffer: &mut String,
+    buffer: &mut Vec<u8>,
     text: &str,
     at: usize,
     c: u8,
@@ -103,7 +103,10 @@ fn escaped_value(
     ensures line { builder.new.1 ≡ builder.old.1 }
 {
     match unescape(text, at + 1, buffer) {
-        Ok(Some(end)) => after(builder.text(buffer.as_str()), end + 1),
+        Ok(Some(found)) => after(
+            builder.text_bytes(&buffer.as_slice()[..found.len]),
+            found.end + 1,
+        ),
         Ok(None) => Err(ReadRefusal::NotJson),
         Err(_) => Err(ReadRefusal::Memory),
     }
@@ -113,7 +116,7 @@ fn escaped_value(
 #[inline(never)]
 fn escaped_key(
     builder: &mut DocBuilder,
-    buffer: &mut String,
+    buffer: &mut Vec<u8>,
     text: &str,
     at: usize,
     c: u8,
@@ -127,7 +130,10 @@ fn escaped_key(
     ensures line { builder.new.1 ≡ builder.old.1 }
 {
     match unescape(text, at + 1, buffer) {
-        Ok(Some(end)) => after(builder.key(buffer.as_str()), end + 1),
+        Ok(Some(found)) => after(
+            builder.key_bytes(&buffer.as_slice()[..found.len]),
+            found.end + 1,
+        ),
         Ok(None) => Err(ReadRefusal::NotJson),
         Err(_) => Err(ReadRefusal::Memory),
     }
@@ -138,7 +144,7 @@ fn escaped_key(
 #[inline(always)]
 fn rare_value(
     builder: &mut DocBuilder,
-    buffer: &mut String,
+    buffer: &mut Vec<u8>,
     text: &str,
     at: usize,
     c: u8,
@@ -157,7 +163,7 @@ fn rare_value(
 // `escaped_key`, from where it is rarely called. The place in memory for its answer is cleared here, and not on each
 // of the other ways.
 #[inline(always)]
-fn rare_key(builder: &mut DocBuilder, buffer: &mut String, text: &str, at: usize, c: u8) -> Advance
+fn rare_key(builder: &mut DocBuilder, buffer: &mut Vec<u8>, text: &str, at: usize, c: u8) -> Advance
     requires within { (at < length text.now) × (length text.now ≤ MAX_LENGTH) }
     requires here { slice_index text.now at ≡ c }
     requires quote { c ≡ 34 }
@@ -224,7 +230,7 @@ fn number(builder: &mut DocBuilder, text: &str, at: usize, c: u8) -> Advance
 
 // The value that begins with the byte c at the place, where that opens no container.
 #[inline(always)]
-fn scalar(builder: &mut DocBuilder, buffer: &mut String, text: &str, at: usize, c: u8) -> Advance
+fn scalar(builder: &mut DocBuilder, buffer: &mut Vec<u8>, text: &str, at: usize, c: u8) -> Advance
     requires line { builder.old.1 ≡ text.now }
     requires within { (at < length text.now) × (length text.now ≤ MAX_LENGTH) }
     requires here { slice_index text.now at ≡ c }
@@ -273,7 +279,7 @@ fn scalar(builder: &mut DocBuilder, buffer: &mut String, text: &str, at: usize, 
 #[inline(always)]
 fn scalar_and_separator(
     builder: &mut DocBuilder,
-    buffer: &mut String,
+    buffer: &mut Vec<u8>,
     mode: &mut Mode,
     text: &str,
     at: usize,
@@ -307,7 +313,7 @@ fn scalar_and_separator(
 #[inline(always)]
 fn value(
     builder: &mut DocBuilder,
-    buffer: &mut String,
+    buffer: &mut Vec<u8>,
     mode: &mut Mode,
     text: &str,
     at: usize,
@@ -345,7 +351,7 @@ fn value(
 #[inline(always)]
 fn quoted_key(
     builder: &mut DocBuilder,
-    buffer: &mut String,
+    buffer: &mut Vec<u8>,
     text: &str,
     at: usize,
     c: u8,
@@ -376,7 +382,7 @@ fn quoted_key(
 #[inline(always)]
 fn colon_and_value(
     builder: &mut DocBuilder,
-    buffer: &mut String,
+    buffer: &mut Vec<u8>,
     mode: &mut Mode,
     text: &str,
     at: usize,
@@ -401,7 +407,7 @@ fn colon_and_value(
 #[inline(always)]
 fn member(
     builder: &mut DocBuilder,
-    buffer: &mut String,
+    buffer: &mut Vec<u8>,
     mode: &mut Mode,
     text: &str,
     at: usize,
@@ -433,7 +439,7 @@ fn member(
 #[inline(always)]
 fn members(
     builder: &mut DocBuilder,
-    buffer: &mut String,
+    buffer: &mut Vec<u8>,
     mode: &mut Mode,
     text: &str,
     at: usize,
@@ -472,7 +478,7 @@ fn members(
 #[inline(always)]
 fn elements(
     builder: &mut DocBuilder,
-    buffer: &mut String,
+    buffer: &mut Vec<u8>,
     mode: &mut Mode,
     text: &str,
     at: usize,
@@ -594,7 +600,7 @@ fn closes_empty(mode: Mode, c: u8) -> bool
 #[inline(always)]
 fn turn(
     builder: &mut DocBuilder,
-    buffer: &mut String,
+    buffer: &mut Vec<u8>,
     mode: &mut Mode,
     text: &str,
     at: usize,
@@ -672,7 +678,7 @@ pub fn read_over(alloc: Global, builder: DocBuilder, line: &[u8]) -> Result<Line
         return Ok(LineRead::NotJson(builder));
     };
     let mut builder = builder.holding(text)?;
-    let mut buffer = String::new(alloc);
+    let mut buffer = Vec::new(alloc);
     let mut mode = Mode::Value;
     let mut at = 0;
     while at < text.len() {

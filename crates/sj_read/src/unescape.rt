@@ -1,48 +1,115 @@
 // The text of a string with escapes.
-ghost use Rattle.std.specs.Prelude.{◌≡◌, ◌++◌, ◌-◌, ◌<◌, ◌≤◌, length, slice_index, IfOk, OnOk, MatchOption};
-ghost use Rattle.std.specs.String.{string_bytes};
-ghost use Rattle.sj_read.specs.Strings.{FindsString, NoString};
+ghost use Rattle.std.specs.Prelude.{◌≡◌, ◌++◌, ◌+◌, ◌-◌, ◌*◌, ◌<◌, ◌≤◌, length, take, drop, slice_index, IsUtf8, IfOk, OnOk, MatchOption};
+ghost use Rattle.std.specs.Char.{encode_utf8};
+ghost use Rattle.sj_json.specs.Spelling.{max_length};
+ghost use Rattle.sj_read.specs.Strings.{HoldsString, NoString};
 
 use crate::escape::escaped_char;
 use crate::plain::plain_end;
 use sj_base::Memory;
+use std::simd::prelude::*;
 
-// Puts plain text at the end of the buffer. Between two escapes there is often none.
+// How many bytes are written at once where fewer count.
+const STEP: usize = 16;
+
+// How many bytes a character has at most.
+const LONGEST_CHAR: usize = 4;
+
+// Where a string ends, and how many bytes its text has.
+#[derive(Clone, Copy)]
+pub(crate) struct Unescaped {
+    pub(crate) end: usize,
+    pub(crate) len: usize,
+}
+
+// Makes room behind the first `len` bytes for so many more and a character.
 #[inline(always)]
-fn push_plain(buffer: &mut String, plain: &str) -> Result<(), Memory>
-    ensures { OnOk result (string_bytes buffer.new ≡ string_bytes buffer.old ++ plain.now) }
+fn make_room(buffer: &mut Vec<u8>, len: usize, more: usize) -> Result<(), Memory>
+    requires held { len ≤ length buffer.old.items }
+    requires small { (len ≤ 4 * max_length) × (more ≤ max_length) }
+    ensures room { OnOk result (len + more + 20 ≤ length buffer.new.items) }
+    ensures kept { OnOk result (take len buffer.new.items ≡ take len buffer.old.items) }
 {
-    if !plain.is_empty() {
-        buffer.push_str(plain)?;
+    if buffer.len() - len < more + STEP + LONGEST_CHAR {
+        return grow(buffer, len, more);
     }
     Ok(())
 }
 
-// Puts the text of the string that begins at `from`, behind its quotation mark, in place of what the buffer
-// had. The answer is where the string ends.
+// The same, where there is none.
+#[inline(never)]
+fn grow(buffer: &mut Vec<u8>, len: usize, more: usize) -> Result<(), Memory>
+    requires held { len ≤ length buffer.old.items }
+    requires small { (len ≤ 4 * max_length) × (more ≤ max_length) }
+    ensures room { OnOk result (len + more + 20 ≤ length buffer.new.items) }
+    ensures kept { OnOk result (take len buffer.new.items ≡ take len buffer.old.items) }
+{
+    buffer.resize(2 * (len + more) + 16 * STEP, 0)?;
+    Ok(())
+}
+
+// Writes the bytes between the places behind the first `len` ones. Most are few, and one step writes them with what
+// stands behind them.
+#[inline(always)]
+fn put_plain(buffer: &mut [u8], len: usize, bytes: &[u8], from: usize, to: usize)
+    requires between { (from ≤ to) × (to ≤ length bytes.now) }
+    requires room { len + (to - from) + 20 ≤ length buffer.old }
+    ensures put { take (len + (to - from)) buffer.new ≡ take len buffer.old ++ take (to - from) (drop from bytes.now) }
+    ensures same { length buffer.new ≡ length buffer.old }
+{
+    if bytes.len() - from < STEP || to - from > STEP {
+        buffer[len..len + (to - from)].copy_from_slice(&bytes[from..to]);
+        return;
+    }
+    u8x16::from_slice(&bytes[from..]).copy_to_slice(&mut buffer[len..]);
+}
+
+// Writes the character behind the first `len` bytes, and says how many bytes it has.
+#[inline(always)]
+fn put_char(buffer: &mut [u8], len: usize, c: char) -> usize
+    requires { len + 4 ≤ length buffer.old }
+    ensures put { take (len + result) buffer.new ≡ take len buffer.old ++ encode_utf8 c }
+    ensures utf8 { IsUtf8 (encode_utf8 c) }
+    ensures few { result ≤ 4 }
+    ensures same { length buffer.new ≡ length buffer.old }
+{
+    if c.is_ascii() {
+        buffer[len] = c as u8;
+        return 1;
+    }
+    let mut encoded = [0u8; LONGEST_CHAR];
+    let put = c.encode_utf8(&mut encoded).as_bytes();
+    buffer[len..len + put.len()].copy_from_slice(put);
+    put.len()
+}
+
+// Puts the text of the string that begins at `from`, behind its quotation mark, at the front of the buffer.
 pub(crate) fn unescape(
     text: &str,
     from: usize,
-    buffer: &mut String,
-) -> Result<Option<usize>, Memory>
+    buffer: &mut Vec<u8>,
+) -> Result<Option<Unescaped>, Memory>
     requires within { (0 < from) × (from ≤ length text.now) }
+    requires short { length text.now ≤ max_length }
     requires quote { slice_index text.now (from - 1) ≡ 34 }
-    ensures { IfOk result (λ r. MatchOption r (NoString text.now from) (λ end. FindsString text.now from end (string_bytes buffer.new))) }
+    ensures { IfOk result (λ r. MatchOption r (NoString text.now from) (HoldsString text.now from buffer.new.items)) }
 {
-    buffer.clear();
     let bytes = text.as_bytes();
     let mut at = from;
+    let mut len = 0;
     while at < text.len() {
         let end = plain_end(bytes, at);
-        push_plain(buffer, &text[at..end])?;
+        make_room(buffer, len, end - at)?;
+        put_plain(buffer.as_mut_slice(), len, bytes, at, end);
+        len += end - at;
         if end == text.len() {
             return Ok(None);
         }
         match bytes[end] {
-            b'"' => return Ok(Some(end)),
+            b'"' => return Ok(Some(Unescaped { end, len })),
             b'\\' => match escaped_char(bytes, end + 1) {
                 Some((c, next)) => {
-                    buffer.push(c)?;
+                    len += put_char(buffer.as_mut_slice(), len, c);
                     at = next;
                 }
                 None => return Ok(None),

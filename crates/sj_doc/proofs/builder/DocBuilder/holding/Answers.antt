@@ -5,7 +5,7 @@ use Rattle.sj_doc.proofs.builder.DocBuilder.holding.Goals as goal
 use Rattle.sj_doc.proofs.builder.DocBuilder.holding.Goals.{In_ok-store}
 
 held : (c : In_ok-store) → c.store.new.arena.items ≡ c.args.line.now
-held c = c.in_ok-store.ensures.ok.grown ∙ ap (λ (x : List ℕ). x ++ c.args.line.now) c.clear.ensures.items
+held c = c.in_ok-store.ensures.ok.grown ∙ ap (λ (x : List ℕ). x ++ c.as_bytes.result.now) c.clear.ensures.items ∙ c.as_bytes.ensures.value
 
 pub overflow_cast-result : goal.overflow_cast-result
 overflow_cast-result c = omega (arith, ap length (held (goal.at.overflow_cast-result c).In_ok-store), c.in_ok-store.ensures.ok.narrow)

@@ -1,4 +1,4 @@
-use Rattle.std.proofs.Common.{List, ℕ, Some, ap, sym, subst}
+use Rattle.std.proofs.Common.{List, ℕ, Some, ap, sym, ◌∙◌, subst}
 use Rattle.sj_json.specs.Tree.{number}
 use Rattle.sj_doc.specs.declared.node.Body.TheVariants.{Numeral}
 use Rattle.sj_doc.specs.Nodes.{IsNumeral, spelled}
@@ -7,12 +7,13 @@ use Rattle.sj_doc.proofs.builder.DocBuilder.number.Goals as goal
 use Rattle.sj_doc.proofs.builder.DocBuilder.number.Goals.{In_ok-span}
 
 stored : (c : In_ok-span) → Stands c.store.new.arena.items c.self.inside.line c.self.inside.tree c.args.self.now
-stored c = text_stored _ _ c.self.inside.tree _ (c.self.invariant, c.self.view_is) c.args.spelling.now _ c.in_ok-span.ensures.ok.grown c.in_ok-span.ensures.ok.narrow
+stored c = text_stored _ _ c.self.inside.tree _ (c.self.invariant, c.self.view_is) c.as_bytes.result.now _ c.in_ok-span.ensures.ok.grown c.in_ok-span.ensures.ok.narrow
 
 added : (c : goal.After-add) → Comes c.store.new.arena.items c.self.inside.line c.add.new.self c.args.self.now (number (spelled c.args.spelling.now)) c.add.result
 added c =
     let st = c.in_ok-span.ensures.ok in
-    scalar_added _ _ c.self.inside.tree _ (stored (goal.at.returns-clause-ok c).In_ok-span) c.requires.room c.requires.wanted (Numeral c.in_ok-span.span) (st.fits, subst IsNumeral (sym st.same) c.requires.number) (number (spelled c.args.spelling.now)) (ap (λ (x : List ℕ). Some (number (spelled x))) st.same) c.add.new.self c.add.result c.add.ensures
+    let same = st.same ∙ c.as_bytes.ensures.value in
+    scalar_added _ _ c.self.inside.tree _ (stored (goal.at.returns-clause-ok c).In_ok-span) c.requires.room c.requires.wanted (Numeral c.in_ok-span.span) (st.fits, subst IsNumeral (sym same) c.requires.number) (number (spelled c.args.spelling.now)) (ap (λ (x : List ℕ). Some (number (spelled x))) same) c.add.new.self c.add.result c.add.ensures
 
 pub add-requires : goal.add-requires
 add-requires c = has_room _ _ c.self.inside.tree _ (stored (goal.at.add-requires c).In_ok-span) c.requires.room

@@ -1,9 +1,9 @@
 use Rattle.sj_doc.proofs.Builders.{Stands, text_stored, key_given}
-use Rattle.sj_doc.proofs.builder.DocBuilder.key.Goals as goal
-use Rattle.sj_doc.proofs.builder.DocBuilder.key.Goals.{In_ok-store}
+use Rattle.sj_doc.proofs.builder.DocBuilder.key_bytes.Goals as goal
+use Rattle.sj_doc.proofs.builder.DocBuilder.key_bytes.Goals.{In_ok-store}
 
 stored : (c : In_ok-store) → Stands c.store.new.arena.items c.self.inside.line c.self.inside.tree c.args.self.now
-stored c = text_stored _ _ c.self.inside.tree _ (c.self.invariant, c.self.view_is) c.args.s.now _ c.in_ok-store.ensures.ok.grown c.in_ok-store.ensures.ok.narrow
+stored c = text_stored _ _ c.self.inside.tree _ (c.self.invariant, c.self.view_is) c.args.bytes.now _ c.in_ok-store.ensures.ok.grown c.in_ok-store.ensures.ok.narrow
 
 pub invariant_of-self-2 : goal.invariant_of-self-2
 invariant_of-self-2 c =
