@@ -78,9 +78,27 @@ fn put_char(buffer: &mut [u8], len: usize, c: char) -> usize
         return 1;
     }
     let mut encoded = [0u8; LONGEST_CHAR];
-    let put = c.encode_utf8(&mut encoded).as_bytes();
-    buffer[len..len + put.len()].copy_from_slice(put);
-    put.len()
+    match c.encode_utf8(&mut encoded).as_bytes() {
+        [first, second] => {
+            buffer[len] = *first;
+            buffer[len + 1] = *second;
+            2
+        }
+        [first, second, third] => {
+            buffer[len] = *first;
+            buffer[len + 1] = *second;
+            buffer[len + 2] = *third;
+            3
+        }
+        [first, second, third, fourth] => {
+            buffer[len] = *first;
+            buffer[len + 1] = *second;
+            buffer[len + 2] = *third;
+            buffer[len + 3] = *fourth;
+            4
+        }
+        _ => unreachable!(),
+    }
 }
 
 // Puts the text of the string that begins at `from`, behind its quotation mark, at the front of the buffer.
