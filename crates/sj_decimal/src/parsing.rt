@@ -41,7 +41,13 @@ impl Decimal {
     {
         match Decimal::parse_short(bytes) {
             Some(number) => Parsed::Exact(number),
-            None => Decimal::parse_any(bytes),
+            // What the call gives is taken apart. A call that gave the whole answer would keep the answer of the
+            // short way in memory too.
+            None => match Decimal::parse_any(bytes) {
+                Parsed::Exact(number) => Parsed::Exact(number),
+                Parsed::Wide => Parsed::Wide,
+                Parsed::NotNumber => Parsed::NotNumber,
+            },
         }
     }
 

@@ -29,13 +29,14 @@ use sj_doc::{Kind, NodeRef, Num};
 pub fn to_number<'d>(item: Item<'d>) -> Result<Decimal, State>
     ensures { result ≡ number_cast (item_tree (item_value item.entry)) }
 {
+    // What the calls give is taken apart, so that the number of a node need not be kept in memory.
     match as_operand(item) {
         Operand::Null => Err(State::S2203G),
         Operand::Bool(_) => Err(State::S2203G),
         Operand::Num(number) => Ok(number),
         Operand::Wide(_) => Err(State::S22003),
-        Operand::Text(text) => spelled(text),
-        Operand::NumberText(number) => read_back(number),
+        Operand::Text(text) => Ok(spelled(text)?),
+        Operand::NumberText(number) => Ok(read_back(number)?),
         Operand::Structured => Err(State::S2203F),
     }
 }
