@@ -16,7 +16,7 @@ use sj_value::{SqlValue, Wrapper};
 use std::alloc::Global;
 
 // The room of a text when it begins, in bytes. Most texts are no longer, and take memory once.
-const FIRST_ROOM: usize = 64;
+const FIRST_ROOM: usize = 128;
 
 // A text of nothing yet, with room for what most have.
 pub(crate) fn empty_text(alloc: Global) -> Result<Bytes, Memory>
