@@ -1,4 +1,4 @@
--- for `ascii_end` and `text_of`
+-- for `ascii_end`, `is_text_from` and `text_of`
 pub mod Ascii
 -- for `far_string_end`, `string_end` and `unescape`, and for other lemmas
 pub mod Scanned

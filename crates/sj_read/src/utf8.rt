@@ -1,13 +1,16 @@
 // The text of a line, where it is well-formed UTF-8. Most lines are ASCII but for a few characters, which is told faster
 // than by decoding each block.
-ghost use Rattle.std.specs.Prelude.{◌≡◌, ◌≤◌, length, map, IsUtf8, MatchOption};
+ghost use Rattle.std.specs.Prelude.{◌≡◌, ◌<◌, ◌≤◌, length, take, map, IsUtf8, MatchOption};
+ghost use Rattle.std.specs.Bool.{MatchBool};
 ghost use Rattle.std.specs.Simd.Lanes.{mask_l};
 ghost use Rattle.sj_read.specs.Scans.{is_high, AsciiBetween};
 
 use std::simd::prelude::*;
 
-// A line with more characters that are no ASCII is decoded in blocks.
-const FEW: u32 = 6;
+// A line with more characters that are no ASCII, and with more than one among so many bytes, is decoded in blocks.
+const FEW: usize = 6;
+
+const APART: usize = 16;
 
 // Which of the bytes are above 127.
 #[inline(always)]
@@ -54,7 +57,9 @@ fn ascii_end(bytes: &[u8], from: usize) -> usize
 }
 
 // How many bytes a character has that begins with this byte, which is no ASCII.
-fn char_len(first: u8) -> usize {
+fn char_len(first: u8) -> usize
+    ensures { 0 < result }
+{
     if first < 0xe0 {
         2
     } else if first < 0xf0 {
@@ -64,15 +69,40 @@ fn char_len(first: u8) -> usize {
     }
 }
 
-// The text, if the line is one, whatever it has.
-#[inline(never)]
-fn decoded(line: &[u8]) -> Option<&str>
-    ensures { MatchOption result (IsUtf8 line.now → ⊥) (λ text. (text.now ≡ line.now) × IsUtf8 line.now) }
+// Whether the line is a text, whatever it has.
+fn decodes(line: &[u8]) -> bool
+    ensures { MatchBool result (IsUtf8 line.now) (IsUtf8 line.now → ⊥) }
 {
     match simdutf8::compat::from_utf8(line) {
-        Ok(text) => Some(text),
-        Err(_) => None,
+        Ok(_) => true,
+        Err(_) => false,
     }
+}
+
+// Whether the line is a text, which it is up to the place.
+#[inline(never)]
+fn is_text_from(line: &[u8], from: usize) -> bool
+    requires within { from ≤ length line.now }
+    requires text { IsUtf8 (take from line.now) }
+    ensures { MatchBool result (IsUtf8 line.now) (IsUtf8 line.now → ⊥) }
+{
+    let mut at = from;
+    let mut others = 0;
+    while at < line.len() {
+        if others >= FEW + at / APART {
+            return decodes(line);
+        }
+        let len = char_len(line[at]);
+        if len > line.len() - at {
+            return decodes(line);
+        }
+        match std::str::from_utf8(&line[at..at + len]) {
+            Ok(_) => at = ascii_end(line, at + len),
+            Err(_) => return decodes(line),
+        }
+        others += 1;
+    }
+    true
 }
 
 // The text, if the line is one.
@@ -80,19 +110,9 @@ fn decoded(line: &[u8]) -> Option<&str>
 pub(crate) fn text_of(line: &[u8]) -> Option<&str>
     ensures { MatchOption result (IsUtf8 line.now → ⊥) (λ text. (text.now ≡ line.now) × IsUtf8 line.now) }
 {
-    let mut at = ascii_end(line, 0);
-    for _ in 0..FEW {
-        if at == line.len() {
-            return Some(unsafe { std::str::from_utf8_unchecked(line) });
-        }
-        let len = char_len(line[at]);
-        if len > line.len() - at {
-            return decoded(line);
-        }
-        match std::str::from_utf8(&line[at..at + len]) {
-            Ok(_) => at = ascii_end(line, at + len),
-            Err(_) => return decoded(line),
-        }
+    let at = ascii_end(line, 0);
+    if at < line.len() && !is_text_from(line, at) {
+        return None;
     }
-    decoded(line)
+    Some(unsafe { std::str::from_utf8_unchecked(line) })
 }

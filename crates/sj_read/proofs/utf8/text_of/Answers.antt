@@ -1,19 +1,18 @@
-use Rattle.std.proofs.Common.{◌≡◌, ◌+◌, ◌-◌, ℕ, take, subst, arith, IsUtf8}
+use Rattle.std.proofs.Common.{take, subst, arith, IsUtf8}
+use Rattle.std.proofs.lemmas.List.{take_all}
 use Rattle.std.proofs.lemmas.Str.{IsUtf8-nil}
-use Rattle.sj_read.proofs.Ascii.{text_more, ascii_more}
+use Rattle.sj_read.proofs.Ascii.{ascii_more}
 use Rattle.sj_read.proofs.utf8.text_of.Goals as goal
+use Rattle.sj_read.proofs.utf8.text_of.Goals.{After-ascii_end-at, else-at-line-via-then-at-line+else-not-is_text_from, else-at-line-via-else-at-line}
 
-pub loop-init : goal.loop-init
-loop-init c =
-    let e = c.ascii_end-at.ensures in
-    record { within = e.within; text = ascii_more c.args.line.now 0 c.ascii_end-at.result e.later e.within e.ascii IsUtf8-nil }
+front : (c : After-ascii_end-at) → IsUtf8 (take c.ascii_end-at.result c.args.line.now)
+front c = let e = c.ascii_end-at.ensures in ascii_more c.args.line.now 0 c.ascii_end-at.result e.later e.within e.ascii IsUtf8-nil
 
-pub loop-preserved : goal.loop-preserved
-loop-preserved c =
-    let t = c.args.line.now in
-    let at = c.loop.at in
-    let n = at + c.char_len-len.result - at in
-    let end : at + n ≡ at + c.char_len-len.result = omega arith in
-    let more : IsUtf8 (take (at + c.char_len-len.result) t) = subst (λ (j : ℕ). IsUtf8 (take j t)) end (text_more t at n c.loop.invariant.text c.in-Ok.ensures.cases.1) in
-    let e = c.ascii_end-at-in-Ok.ensures in
-    record { within = e.within; text = ascii_more t (at + c.char_len-len.result) c.ascii_end-at-in-Ok.result e.later e.within e.ascii more }
+pub is_text_from-requires-clause-text : goal.is_text_from-requires-clause-text
+is_text_from-requires-clause-text c = front (goal.at.is_text_from-requires-clause-text c).After-ascii_end-at
+
+pub from_utf8_unchecked-requires : goal.from_utf8_unchecked-requires
+from_utf8_unchecked-requires c = elim c.else-at-line.branch [
+  | else-at-line-via-then-at-line+else-not-is_text_from w ↦ w.if-not-is_text_from.ensures
+  | else-at-line-via-else-at-line w ↦ subst IsUtf8 (take_all c.ascii_end-at.result c.args.line.now (omega (arith, w.if-at-line.false))) (front (goal.at.from_utf8_unchecked-requires c).After-ascii_end-at)
+]
