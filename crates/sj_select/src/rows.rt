@@ -177,6 +177,7 @@ impl<'d> RowsOf<'d> {
     }
 
     /// The same for another line, wherever the rows stood. It takes no memory.
+    #[inline(always)]
     pub fn rewind(&mut self, line: LineDoc<'d>)
         ensures bound { self.new.bound ≡ self.old.bound }
         ensures line { self.new.line ≡ line_of line.entry }
@@ -195,6 +196,7 @@ impl<'d> RowsOf<'d> {
     /// # Errors
     /// [`Memory`] where memory runs out. What is said of the counter holds then too. The rows then stand anywhere, and are rewound before
     /// they are used again.
+    #[inline(always)]
     pub fn next<L: Ledger>(&mut self, steps: &mut Steps<L>) -> Result<Turn, Memory>
         ensures gives { IfOk result (Gives self.old self.new) }
         ensures spends { Spends self.old.due self.new.due steps.old steps.new }
@@ -220,6 +222,15 @@ impl<'d> RowsOf<'d> {
             Stage::Ended => true,
             Stage::Going | Stage::Raised(_) => false,
         }
+    }
+
+    /// Lends the row just given, whose values can be printed. Before the first row and after an end it is empty.
+    #[inline(always)]
+    pub fn row(&self) -> &[SqlValue]
+        ensures is { result.now ≡ self.now.row }
+        ensures printable { All IsPrintable result.now }
+    {
+        self.source.stack.values.as_slice()
     }
 
     /// Takes the row just given, whose values can be printed. Before the first row and after an end it is empty. Then no row is at hand;
