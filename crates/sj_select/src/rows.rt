@@ -246,17 +246,4 @@ impl<'d> RowsOf<'d> {
     {
         mem::replace(&mut self.source.stack.values, Vec::new(self.alloc))
     }
-
-    /// Takes a row's vector back, so that the next row needs no memory of its own where it has room in it. Then no row is at hand; what
-    /// is left, and what is due, stays.
-    pub fn give_back(&mut self, row: Vec<SqlValue>)
-        ensures row { self.new.row ≡ [] }
-        ensures left { self.new.left ≡ self.old.left }
-        ensures due { self.new.due ≡ self.old.due }
-        ensures bound { self.new.bound ≡ self.old.bound }
-        ensures line { self.new.line ≡ self.old.line }
-    {
-        self.source.stack.values = row;
-        self.source.stack.clear();
-    }
 }
