@@ -2,14 +2,14 @@
 ghost use Rattle.std.specs.Prelude.{◌≡◌, ◌≤◌};
 ghost use Rattle.sj_base.specs.Count.{raised};
 ghost use Rattle.sj_cursor.specs.Answers.{exists_answer, single_value, answer_in};
-ghost use Rattle.sj_plain_path.specs.Looks.{Finds, look_value};
+ghost use Rattle.sj_plain_path.specs.Looks.{Finds, look_value, nodes_look};
 ghost use Rattle.sj_cursor.specs.Looks.{single_in};
 ghost use Rattle.sj_cursor.specs.Single.{need, single};
 
 use crate::cursor::{Cursor, Stands};
 use sj_base::{Ledger, State, Steps};
 use sj_item::Item;
-use sj_plain_path::{Found, Limit, Look};
+use sj_plain_path::{Found, FoundNodes, Limit, Look};
 use sj_step::Answer;
 
 impl<'d> Cursor<'d> {
@@ -47,8 +47,13 @@ impl<'d> Cursor<'d> {
         ensures vars { self.new.vars ≡ self.old.vars }
         ensures root { self.new.root ≡ self.old.root }
     {
-        let look = self.look(Limit::of_single(self.mode()), steps);
-        single_or_fault(look, several)
+        let limit = Limit::of_single(self.mode());
+        match (self.stands, &self.chain, &self.root) {
+            (Stands::AtTheBeginning, Some(chain), Item::Node(root)) => {
+                single_node(chain.nodes(*root, limit, steps), several)
+            }
+            _ => single_or_fault(self.look_on(limit, steps), several),
+        }
     }
 
     // Goes on until enough was found. A plain path is gone through without cells, from its beginning on.
@@ -105,6 +110,18 @@ fn exists_or_fault(look: Look<'_>) -> Result<bool, State>
         (Some(state), _) => Err(state),
         (None, Found::Nothing) => Ok(false),
         (None, _) => Ok(true),
+    }
+}
+
+// The only node as an item, unless there are several.
+#[inline(always)]
+fn single_node<'d>(nodes: FoundNodes<'d>, several: State) -> Result<Option<Item<'d>>, State>
+    ensures { single_value result ≡ single_in several (nodes_look nodes.entry) }
+{
+    match nodes {
+        FoundNodes::Nothing => Ok(None),
+        FoundNodes::One(node) => Ok(Some(Item::Node(node))),
+        FoundNodes::Several => Err(several),
     }
 }
 
