@@ -10,6 +10,7 @@ use sj_cursor::Cursor;
 use sj_item::Item;
 
 // The only item, and `None` where there is none. Several items are 22034, and an error is its state.
+#[inline(always)]
 pub(crate) fn single_item<'d, L: Ledger>(
     cursor: &mut Cursor<'d>,
     context: Context<'d>,
