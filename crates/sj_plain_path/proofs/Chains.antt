@@ -41,6 +41,11 @@ pub first_rest : (ls : List Link) (d l : Link) → 1 ≤ length ls → get_or ls
 first_rest [] d l some e = absurd (omega arith)
 first_rest (x ∷ ls) d l some e = ap (λ (y : Link). y ∷ ls) e ∙ ap (λ (rest : List Link). l ∷ rest) (sym (take_all (length (x ∷ ls) - 1) ls (omega arith)))
 
+pub first_only : (ls : List Link) (d l : Link) → length ls ≡ 1 → get_or ls 0 d ≡ l → ls ≡ l ∷ []
+first_only [] d l one e = absurd (omega (arith, one))
+first_only (x ∷ []) d l one e = ap (λ (y : Link). y ∷ []) e
+first_only (x ∷ y ∷ ls) d l one e = absurd (omega (arith, one))
+
 pub link_behind : (e : t.Expr) (ls : List Link) (l : Link) → accessed e (ls ++ (l ∷ [])) ≡ t.Access (accessed e ls) (accessor l)
 link_behind e [] l = refl
 link_behind e (x ∷ ls) l = link_behind (t.Access e (accessor x)) ls l

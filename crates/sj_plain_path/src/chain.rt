@@ -119,6 +119,7 @@ fn nodes_below<'d, L: Ledger>(
 
 /// The pairs of what accessors give of a node with what stands beside them; with `early`, up to the first true one. The counter rises
 /// by no more than the children of nodes that are handed out before.
+#[inline(always)]
 pub fn see_below<'d, L: Ledger>(
     how: Opening,
     links: &[Link<'d>],
@@ -130,7 +131,7 @@ pub fn see_below<'d, L: Ledger>(
     ensures { PairingSeen early (beside_truth beside.entry) (below how links.now (node_value node.entry)) result.found result.doubt steps.old steps.new }
 {
     let mut gathered = Gathered::nothing();
-    seek(
+    seek_short(
         how,
         &Aim::Pairs(early, beside),
         links,
@@ -139,6 +140,53 @@ pub fn see_below<'d, L: Ledger>(
         steps,
     );
     gathered.pairing
+}
+
+// Goes through what accessors give of a node, as `seek` does. Most operands are one member of an object: where this is inlined, its
+// members are gone through in place, and nothing that recurs is called.
+#[inline(always)]
+fn seek_short<'d, L: Ledger>(
+    how: Opening,
+    aim: &Aim<'_, 'd>,
+    links: &[Link<'d>],
+    node: NodeRef<'d>,
+    gathered: &mut Gathered<'d>,
+    steps: &mut Steps<L>,
+) -> bool
+    ensures { Sought (taken_value aim.now gathered.old) (below how links.now (node_value node.entry)) (taken_value aim.now gathered.new) result steps.old steps.new }
+{
+    match links {
+        [Link::Member(key)] => match node.kind() {
+            Kind::Array => seek(how, aim, links, node, gathered, steps),
+            _ => take_members(how, aim, key, node, gathered, steps),
+        },
+        _ => seek(how, aim, links, node, gathered, steps),
+    }
+}
+
+// The members under a key of a node that is not unwrapped, each at the end of the accessors.
+#[inline(always)]
+fn take_members<'d, L: Ledger>(
+    how: Opening,
+    aim: &Aim<'_, 'd>,
+    key: &str,
+    node: NodeRef<'d>,
+    gathered: &mut Gathered<'d>,
+    steps: &mut Steps<L>,
+) -> bool
+    ensures { Sought (taken_value aim.now gathered.old) (under how key.now [] (node_value node.entry)) (taken_value aim.now gathered.new) result steps.old steps.new }
+{
+    match node.kind() {
+        Kind::Object => {}
+        _ => return false,
+    }
+    let mut members = node.children();
+    'members: while let Some(member) = members.next_under(key, steps) {
+        if take_opened(how, aim, member, gathered, steps) {
+            return true;
+        }
+    }
+    false
 }
 
 // Takes the accessors of an expression, and tells whether it is plain.
@@ -221,6 +269,7 @@ fn seek<'d, L: Ledger>(
 }
 
 // A node at the end of the accessors.
+#[inline(always)]
 fn take_opened<'d, L: Ledger>(
     how: Opening,
     aim: &Aim<'_, 'd>,

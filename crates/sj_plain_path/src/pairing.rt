@@ -1,6 +1,7 @@
 // What was seen of pairs of items.
 ghost use Rattle.std.specs.Prelude.{◌≡◌, ◌||◌, ◌&&◌};
 ghost use Rattle.sj_item.specs.Items.{item_value};
+ghost use Rattle.sj_item.specs.Pairs.{item_starts_with};
 ghost use Rattle.sj_plain_path.specs.Truths.{is_true, is_unknown};
 ghost use Rattle.sj_plain_path.specs.Pairings.{beside_truth, pairing_truth};
 
@@ -20,15 +21,24 @@ pub enum Beside<'a, 'd> {
 
 impl<'a, 'd> Beside<'a, 'd> {
     /// The truth of the pair with an item.
+    #[inline(always)]
     pub fn truth(self, item: &Item<'d>) -> Truth
         ensures { result ≡ beside_truth self.entry (item_value item.now) }
     {
         match self {
             Beside::Left(op, left) => left.compare(op, item),
             Beside::Right(op, right) => item.compare(op, right),
-            Beside::Initial(initial) => item.starts_with(initial),
+            Beside::Initial(initial) => starts_with(item, initial),
         }
     }
+}
+
+// Whether an item starts with a string. It is kept out of the way of comparisons, which need far less room.
+#[inline(never)]
+fn starts_with(item: &Item<'_>, start: &Item<'_>) -> Truth
+    ensures { result ≡ item_starts_with (item_value item.now) (item_value start.now) }
+{
+    item.starts_with(start)
 }
 
 /// What was seen of the pairs of one item.
