@@ -40,6 +40,7 @@ impl<'d> Keyed<'d> {
     }
 
     /// Their pairs with what stands beside them; with `early`, up to the first true one.
+    #[inline(always)]
     pub(crate) fn see_pairing<L: Ledger>(
         self,
         early: bool,
@@ -54,6 +55,7 @@ impl<'d> Keyed<'d> {
 }
 
 // The node that an item is.
+#[inline(always)]
 fn node_of<'d>(item: &Item<'d>) -> Option<NodeRef<'d>>
     ensures { IfSome result (λ node. item_value item.now ≡ node_value node) }
 {
@@ -65,6 +67,7 @@ fn node_of<'d>(item: &Item<'d>) -> Option<NodeRef<'d>>
 
 impl<'d> Source<'d> {
     // The node that `$` or `@` is.
+    #[inline(always)]
     fn node(self, env: &Env<'_, 'd>) -> Option<NodeRef<'d>>
         ensures { IfSome result (λ node. source_value self.entry (env_value env.now) ≡ node_value node) }
     {
@@ -79,6 +82,7 @@ impl<'d> Source<'d> {
 impl<'d> Cell<'d> {
     // The same of its source, in lax mode.
     #[tactic(auto, using(crate::proofs::SingleItems::lax_one))]
+    #[inline(always)]
     fn lax_node(&self, env: &Env<'_, 'd>) -> Option<NodeRef<'d>>
         ensures { IfSome result (IsLaxNode (left_of.core self.now) (env_value env.now)) }
     {
@@ -94,6 +98,7 @@ impl<'d> Cell<'d> {
 
 impl<'d> Each<'d> {
     // The key of an accessor of a member.
+    #[inline(always)]
     fn key(&self) -> Option<&'d str>
         ensures { IfSome result (λ key. left_of.each_core self.now ≡ tree.Access (operand_core self.now.input) (tree.Member key.now)) }
     {
@@ -109,6 +114,7 @@ impl<'d> Each<'d> {
 
 impl<'d> Operand<'d> {
     /// Its node and key, where it is such an operand and its `$` or `@` is a node.
+    #[inline(always)]
     pub(crate) fn keyed(&self, env: &Env<'_, 'd>) -> Option<Keyed<'d>>
         ensures { IfSome result (λ keyed. (how : HowOpened) → operand_whole how (operand_core self.now) (env_value env.now) ≡ below how (Link.Member keyed.key ∷ []) (node_value keyed.node)) }
     {

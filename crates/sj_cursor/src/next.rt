@@ -92,6 +92,7 @@ impl<'d> Operand<'d> {
     }
 
     #[cycle(next)]
+    #[inline(always)]
     pub(crate) fn next<L: Ledger>(
         &mut self,
         how: Opening,
@@ -279,7 +280,7 @@ fn kept(truth: Truth) -> Answer
 impl<'d> Filter<'d> {
     // The item, where its predicate is true.
     #[cycle(next)]
-    #[inline(never)]
+    #[inline(always)]
     pub(crate) fn begin<L: Ledger>(
         &mut self,
         env: &Env<'_, 'd>,

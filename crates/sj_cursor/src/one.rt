@@ -15,6 +15,7 @@ use sj_path_tree::{Initial, Literal, Vars};
 use sj_step::{Answer, whole_number};
 
 impl<'d> Source<'d> {
+    #[inline(always)]
     pub(crate) fn put(self, env: &Env<'_, 'd>, place: &mut Item<'d>)
         ensures { item_value place.new ≡ source_value self.entry (env_value env.now) }
     {
@@ -28,6 +29,7 @@ impl<'d> Source<'d> {
     }
 }
 
+#[inline(always)]
 fn literal_item<'d>(literal: &'d Literal) -> Item<'d>
     ensures { item_value result ≡ item_of literal.now }
 {
@@ -40,6 +42,7 @@ fn literal_item<'d>(literal: &'d Literal) -> Item<'d>
 }
 
 // The value of a variable, which is there where the variables cover the path.
+#[inline(never)]
 fn variable_item<'d>(vars: &'d Vars, name: &str) -> Item<'d>
     ensures { item_value result ≡ variable_of vars.now name.now }
 {

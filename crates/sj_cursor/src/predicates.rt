@@ -25,7 +25,26 @@ use sj_step::Answer;
 
 impl<'d> Test<'d> {
     #[cycle(next)]
+    #[inline(always)]
     pub(crate) fn holds<L: Ledger>(&mut self, env: &Env<'_, 'd>, steps: &mut Steps<L>) -> Truth
+        ensures decides { Decides (verdict (left_of.test_core self.old) (env_value env.now)) result steps.old steps.new }
+        ensures same { left_of.test_core self.new ≡ left_of.test_core self.old }
+    {
+        // Most predicates are one comparison.
+        match self {
+            Test::Compare(comparison) => comparison.holds(env, steps),
+            _ => self.holds_of_any(env, steps),
+        }
+    }
+
+    // The same of any predicate.
+    #[cycle(next)]
+    #[inline(never)]
+    pub(crate) fn holds_of_any<L: Ledger>(
+        &mut self,
+        env: &Env<'_, 'd>,
+        steps: &mut Steps<L>,
+    ) -> Truth
         ensures decides { Decides (verdict (left_of.test_core self.old) (env_value env.now)) result steps.old steps.new }
         ensures same { left_of.test_core self.new ≡ left_of.test_core self.old }
     {
@@ -52,6 +71,7 @@ fn is_unknown(truth: Truth) -> Truth
 
 impl<'d> Operand<'d> {
     #[cycle(next)]
+    #[inline(never)]
     pub(crate) fn exists<L: Ledger>(&mut self, env: &Env<'_, 'd>, steps: &mut Steps<L>) -> Truth
         ensures decides { Decides (verdict (exists_of (operand_core self.old)) (env_value env.now)) result steps.old steps.new }
         ensures same { operand_core self.new ≡ operand_core self.old }
@@ -64,6 +84,7 @@ impl<'d> Operand<'d> {
 impl<'d> Operand<'d> {
     // Puts its one item into the place, where it is a literal, a variable or the like and no array. It tells whether it is.
     #[tactic(auto, using(crate::proofs::SingleItems::whole_is_one))]
+    #[inline(always)]
     pub(crate) fn put_one(&self, env: &Env<'_, 'd>, place: &mut Item<'d>) -> bool
         ensures { result ≡ true → operand_whole Opening.Unwrapped (operand_core self.now) (env_value env.now) ≡ only (item_value place.new) }
     {
@@ -95,7 +116,44 @@ impl<'d> Operand<'d> {
 
     // The pairs of its items with what stands beside them; with `early`, up to the first true one.
     #[cycle(next)]
+    #[inline(always)]
     pub(crate) fn see_pairing<L: Ledger>(
+        &mut self,
+        early: bool,
+        beside: Beside<'_, 'd>,
+        env: &Env<'_, 'd>,
+        steps: &mut Steps<L>,
+    ) -> Pairing
+        ensures seen { PairingSeen early (beside_truth beside.entry) (operand_whole Opening.Unwrapped (operand_core self.old) (env_value env.now)) result.found result.doubt steps.old steps.new }
+        ensures same { operand_core self.new ≡ operand_core self.old }
+    {
+        // Most operands are one member of `@`, and need no cell.
+        if let Some(keyed) = self.keyed(env) {
+            return keyed.see_pairing(early, beside, steps);
+        }
+        self.see_pairing_by_cells(early, beside, env, steps)
+    }
+
+    // The same out of line, for those that are asked in few predicates: what it is inlined into has room on the stack for all of it.
+    #[cycle(next)]
+    #[inline(never)]
+    pub(crate) fn see_pairing_apart<L: Ledger>(
+        &mut self,
+        early: bool,
+        beside: Beside<'_, 'd>,
+        env: &Env<'_, 'd>,
+        steps: &mut Steps<L>,
+    ) -> Pairing
+        ensures seen { PairingSeen early (beside_truth beside.entry) (operand_whole Opening.Unwrapped (operand_core self.old) (env_value env.now)) result.found result.doubt steps.old steps.new }
+        ensures same { operand_core self.new ≡ operand_core self.old }
+    {
+        self.see_pairing(early, beside, env, steps)
+    }
+
+    // The same, asked of its cells.
+    #[cycle(next)]
+    #[inline(never)]
+    pub(crate) fn see_pairing_by_cells<L: Ledger>(
         &mut self,
         early: bool,
         beside: Beside<'_, 'd>,
@@ -107,9 +165,6 @@ impl<'d> Operand<'d> {
     {
         if let Some(pairing) = self.see_one(beside, env) {
             return pairing;
-        }
-        if let Some(keyed) = self.keyed(env) {
-            return keyed.see_pairing(early, beside, steps);
         }
         self.rewind();
         let mut pairing = Pairing {
@@ -167,6 +222,7 @@ impl<'d> Both<'d> {
 
 impl<'d> Start<'d> {
     #[cycle(next)]
+    #[inline(never)]
     pub(crate) fn holds<L: Ledger>(&mut self, env: &Env<'_, 'd>, steps: &mut Steps<L>) -> Truth
         ensures decides { Decides (verdict (left_of.start_core self.old) (env_value env.now)) result steps.old steps.new }
         ensures same { left_of.start_core self.new ≡ left_of.start_core self.old }
@@ -175,7 +231,7 @@ impl<'d> Start<'d> {
         let initial = initial_item(self.initial, env);
         let beside = Beside::Initial(&initial);
         self.text
-            .see_pairing(early, beside, env, steps)
+            .see_pairing_apart(early, beside, env, steps)
             .truth(early)
     }
 }
@@ -203,7 +259,9 @@ impl<'d> Comparison<'d> {
             match self.left.next(Opening::Unwrapped, env, steps, &mut place) {
                 Answer::Item => {
                     let beside = Beside::Left(self.op, &place);
-                    pairings = pairings.saw(self.right.see_pairing(early, beside, env, steps));
+                    pairings = pairings.saw(
+                        self.right.see_pairing_apart(early, beside, env, steps),
+                    );
                     if pairings.halts(early) {
                         return pairings;
                     }
@@ -241,6 +299,7 @@ impl<'d> Comparison<'d> {
     }
 
     #[cycle(next)]
+    #[inline(never)]
     pub(crate) fn holds<L: Ledger>(&mut self, env: &Env<'_, 'd>, steps: &mut Steps<L>) -> Truth
         ensures decides { Decides (verdict (left_of.comparison_core self.old) (env_value env.now)) result steps.old steps.new }
         ensures same { left_of.comparison_core self.new ≡ left_of.comparison_core self.old }
@@ -254,6 +313,21 @@ impl<'d> Comparison<'d> {
                 .see_pairing(early, beside, env, steps)
                 .truth(early);
         }
+        self.holds_pairwise(env, steps)
+    }
+
+    // The same, where the right operand may be several items.
+    #[cycle(next)]
+    #[inline(never)]
+    pub(crate) fn holds_pairwise<L: Ledger>(
+        &mut self,
+        env: &Env<'_, 'd>,
+        steps: &mut Steps<L>,
+    ) -> Truth
+        ensures decides { Decides (verdict (left_of.comparison_core self.old) (env_value env.now)) result steps.old steps.new }
+        ensures same { left_of.comparison_core self.new ≡ left_of.comparison_core self.old }
+    {
+        let early = is_early(env.mode);
         let pairings = self.see_pairings(early, env, steps);
         if pairings.halts(early) {
             return Truth::True;

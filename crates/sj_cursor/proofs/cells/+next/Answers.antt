@@ -86,27 +86,27 @@ Operand::exists-returns-clause-decides g t c = exists_decides _ _ _ _ _ _ (rw (c
 
 -- ---- pairs
 
-pub Operand::see_pairing-pairing-init : goal.Operand::see_pairing-pairing-init
-Operand::see_pairing-pairing-init g t c = record { same = c.rewind.ensures.same; pairing = pairing_from _ _ _ _ _ (c.rewind.ensures.whole Unwrapped _) }
+pub Operand::see_pairing_by_cells-pairing-init : goal.Operand::see_pairing_by_cells-pairing-init
+Operand::see_pairing_by_cells-pairing-init g t c = record { same = c.rewind.ensures.same; pairing = pairing_from _ _ _ _ _ (c.rewind.ensures.whole Unwrapped _) }
 
-pub Operand::see_pairing-returns-then-halts-clause-seen : goal.Operand::see_pairing-returns-then-halts-clause-seen
-Operand::see_pairing-returns-then-halts-clause-seen g t c =
+pub Operand::see_pairing_by_cells-returns-then-halts-clause-seen : goal.Operand::see_pairing_by_cells-returns-then-halts-clause-seen
+Operand::see_pairing_by_cells-returns-then-halts-clause-seen g t c =
     pairing_stop _ _ _ _ _ _ _ _ _ _ _ _ _ c.pairing.invariant.pairing c.in-Item.ensures.answers (rw c.truth.ensures at c.saw-pairing.ensures.found) (sym c.halts.ensures ∙ c.if-halts.true)
 
-pub Operand::see_pairing-pairing-smaller : goal.Operand::see_pairing-pairing-smaller
-Operand::see_pairing-pairing-smaller g t c = count_draws _ _ _ _ _ c.in-Item.ensures.answers
+pub Operand::see_pairing_by_cells-pairing-smaller : goal.Operand::see_pairing_by_cells-pairing-smaller
+Operand::see_pairing_by_cells-pairing-smaller g t c = count_draws _ _ _ _ _ c.in-Item.ensures.answers
 
-pub Operand::see_pairing-pairing-preserved : goal.Operand::see_pairing-pairing-preserved
-Operand::see_pairing-pairing-preserved g t c = record {
+pub Operand::see_pairing_by_cells-pairing-preserved : goal.Operand::see_pairing_by_cells-pairing-preserved
+Operand::see_pairing_by_cells-pairing-preserved g t c = record {
   same = c.in-Item.ensures.same ∙ c.pairing.invariant.same;
   pairing = pairing_item _ _ _ _ _ _ _ _ _ _ _ _ _ c.pairing.invariant.pairing c.in-Item.ensures.answers (rw c.truth.ensures at c.saw-pairing.ensures.found) (rw c.truth.ensures at c.saw-pairing.ensures.doubt) (sym c.halts.ensures ∙ c.if-halts.false);
 }
 
-pub Operand::see_pairing-returns-in-End-clause-seen : goal.Operand::see_pairing-returns-in-End-clause-seen
-Operand::see_pairing-returns-in-End-clause-seen g t c = pairing_end _ _ _ _ _ _ _ _ _ _ c.pairing.invariant.pairing c.in-End.ensures.answers
+pub Operand::see_pairing_by_cells-returns-in-End-clause-seen : goal.Operand::see_pairing_by_cells-returns-in-End-clause-seen
+Operand::see_pairing_by_cells-returns-in-End-clause-seen g t c = pairing_end _ _ _ _ _ _ _ _ _ _ c.pairing.invariant.pairing c.in-End.ensures.answers
 
-pub Operand::see_pairing-returns-in-Fault-clause-seen : goal.Operand::see_pairing-returns-in-Fault-clause-seen
-Operand::see_pairing-returns-in-Fault-clause-seen g t c = pairing_fault _ _ _ _ _ _ _ _ _ _ _ c.pairing.invariant.pairing c.in-Fault.ensures.answers
+pub Operand::see_pairing_by_cells-returns-in-Fault-clause-seen : goal.Operand::see_pairing_by_cells-returns-in-Fault-clause-seen
+Operand::see_pairing_by_cells-returns-in-Fault-clause-seen g t c = pairing_fault _ _ _ _ _ _ _ _ _ _ _ c.pairing.invariant.pairing c.in-Fault.ensures.answers
 
 pub Comparison::see_pairings-pairings-init : goal.Comparison::see_pairings-pairings-init
 Comparison::see_pairings-pairings-init g t c = record {
@@ -122,19 +122,19 @@ pub Comparison::see_pairings-pairings-preserved : goal.Comparison::see_pairings-
 Comparison::see_pairings-pairings-preserved g t c =
     let right : operand_core c.pairings.self.right ≡ operand_core c.args.self.now.right = cc c.pairings.invariant.same in
     record {
-      same = ap (λ k. Rattle.sj_path_tree.specs.Tree.Compares c.pairings.self.op k (operand_core c.see_pairing.new.self)) c.in-Item.ensures.same
-          ∙ ap (λ k. Rattle.sj_path_tree.specs.Tree.Compares c.pairings.self.op (operand_core c.pairings.self.left) k) c.see_pairing.ensures.same
+      same = ap (λ k. Rattle.sj_path_tree.specs.Tree.Compares c.pairings.self.op k (operand_core c.see_pairing_apart.new.self)) c.in-Item.ensures.same
+          ∙ ap (λ k. Rattle.sj_path_tree.specs.Tree.Compares c.pairings.self.op (operand_core c.pairings.self.left) k) c.see_pairing_apart.ensures.same
           ∙ c.pairings.invariant.same;
       op = c.pairings.invariant.op;
       pairings = rw c.saw-pairings.ensures.some (pairings_item _ _ _ _ _ _ _ _ _ _ _ _ _ _ _ _ _ _ c.pairings.invariant.pairings c.in-Item.ensures.answers
-          (rw (right, c.pairings.invariant.op) at c.see_pairing.ensures.seen) c.saw-pairings.ensures.found c.saw-pairings.ensures.doubt (sym c.halts.ensures ∙ c.if-halts.false));
+          (rw (right, c.pairings.invariant.op) at c.see_pairing_apart.ensures.seen) c.saw-pairings.ensures.found c.saw-pairings.ensures.doubt (sym c.halts.ensures ∙ c.if-halts.false));
     }
 
 pub Comparison::see_pairings-returns-then-halts-clause-seen : goal.Comparison::see_pairings-returns-then-halts-clause-seen
 Comparison::see_pairings-returns-then-halts-clause-seen g t c =
     let right : operand_core c.pairings.self.right ≡ operand_core c.args.self.now.right = cc c.pairings.invariant.same in
     pairings_stop _ _ _ _ _ _ _ _ _ _ _ _ _ _ _ _ _ _ _ c.pairings.invariant.pairings c.in-Item.ensures.answers
-    (rw (right, c.pairings.invariant.op) at c.see_pairing.ensures.seen) c.saw-pairings.ensures.found (sym c.halts.ensures ∙ c.if-halts.true)
+    (rw (right, c.pairings.invariant.op) at c.see_pairing_apart.ensures.seen) c.saw-pairings.ensures.found (sym c.halts.ensures ∙ c.if-halts.true)
 
 pub Comparison::see_pairings-returns-in-End-clause-seen : goal.Comparison::see_pairings-returns-in-End-clause-seen
 Comparison::see_pairings-returns-in-End-clause-seen g t c = pairings_end _ _ _ _ _ _ _ _ _ _ _ _ c.pairings.invariant.pairings c.in-End.ensures.answers
@@ -148,14 +148,14 @@ Comparison::asks_right-returns-clause-asked g t c = rw c.if-some.false (record {
   costs = end_price _ _ _ _ c.look.ensures.finds;
 })
 
-pub Comparison::holds-returns-then-halts-clause-decides : goal.Comparison::holds-returns-then-halts-clause-decides
-Comparison::holds-returns-then-halts-clause-decides g t c =
+pub Comparison::holds_pairwise-returns-then-halts-clause-decides : goal.Comparison::holds_pairwise-returns-then-halts-clause-decides
+Comparison::holds_pairwise-returns-then-halts-clause-decides g t c =
     compare_early _ _ _ _ _ _ _ _ _ (rw c.is_early-early.ensures at c.see_pairings-pairings.ensures.seen) (rw c.is_early-early.ensures at (sym c.halts.ensures ∙ c.if-halts.true))
 
-pub Comparison::holds-returns-clause-decides : goal.Comparison::holds-returns-clause-decides
-Comparison::holds-returns-clause-decides g t c =
+pub Comparison::holds_pairwise-returns-clause-decides : goal.Comparison::holds_pairwise-returns-clause-decides
+Comparison::holds_pairwise-returns-clause-decides g t c =
     let right : operand_core c.see_pairings-pairings.new.self.right ≡ operand_core c.args.self.now.right = cc c.see_pairings-pairings.ensures.same in
-    rw c.truth-2.ensures (compare_all _ _ _ _ _ _ _ _ _ _ _ (rw c.is_early-early.ensures at c.see_pairings-pairings.ensures.seen) (rw c.is_early-early.ensures at (sym c.halts.ensures ∙ c.if-halts.false)) (rw right at c.asks_right-faulty.ensures.asked))
+    rw c.truth.ensures (compare_all _ _ _ _ _ _ _ _ _ _ _ (rw c.is_early-early.ensures at c.see_pairings-pairings.ensures.seen) (rw c.is_early-early.ensures at (sym c.halts.ensures ∙ c.if-halts.false)) (rw right at c.asks_right-faulty.ensures.asked))
 
 pub Comparison::holds-returns-then-put_one : goal.Comparison::holds-returns-then-put_one
 Comparison::holds-returns-then-put_one g t c = record {
@@ -165,7 +165,7 @@ Comparison::holds-returns-then-put_one g t c = record {
 
 pub Start::holds-returns-clause-decides : goal.Start::holds-returns-clause-decides
 Start::holds-returns-clause-decides g t c =
-    right_decides _ _ _ _ _ _ _ _ _ _ _ (ap Rattle.sj_step.specs.Trace.only (sym c.initial_item-initial.ensures)) c.is_early-early.ensures c.truth.ensures c.see_pairing.ensures.seen
+    right_decides _ _ _ _ _ _ _ _ _ _ _ (ap Rattle.sj_step.specs.Trace.only (sym c.initial_item-initial.ensures)) c.is_early-early.ensures c.truth.ensures c.see_pairing_apart.ensures.seen
 
 -- ---- connectives and filters
 
@@ -189,11 +189,11 @@ Both::or-returns-in_default g t c = record {
       ∙ ap (λ k. Rattle.sj_path_tree.specs.Tree.Or (Rattle.sj_cursor.specs.Left.test_core c.args.self.now.left.value) k) (c.holds.ensures.same ∙ ap Rattle.sj_cursor.specs.Left.test_core c.deref_mut-in_default.ensures.value);
 }
 
-pub Test::holds-returns-in-Not-clause-decides : goal.Test::holds-returns-in-Not-clause-decides
-Test::holds-returns-in-Not-clause-decides g t c = rw (c.in-Not.is, c.not.ensures) (not_decides _ _ _ _ (rw c.deref_mut-in-Not.ensures.value at c.holds-in-Not.ensures.decides))
+pub Test::holds_of_any-returns-in-Not-clause-decides : goal.Test::holds_of_any-returns-in-Not-clause-decides
+Test::holds_of_any-returns-in-Not-clause-decides g t c = rw (c.in-Not.is, c.not.ensures) (not_decides _ _ _ _ (rw c.deref_mut-in-Not.ensures.value at c.holds-in-Not.ensures.decides))
 
-pub Test::holds-returns-in-IsUnknown-clause-decides : goal.Test::holds-returns-in-IsUnknown-clause-decides
-Test::holds-returns-in-IsUnknown-clause-decides g t c = rw (c.in-IsUnknown.is, c.is_unknown.ensures) (unknown_decides _ _ _ _ (rw c.deref_mut-in-IsUnknown.ensures.value at c.holds-in-IsUnknown.ensures.decides))
+pub Test::holds_of_any-returns-in-IsUnknown-clause-decides : goal.Test::holds_of_any-returns-in-IsUnknown-clause-decides
+Test::holds_of_any-returns-in-IsUnknown-clause-decides g t c = rw (c.in-IsUnknown.is, c.is_unknown.ensures) (unknown_decides _ _ _ _ (rw c.deref_mut-in-IsUnknown.ensures.value at c.holds-in-IsUnknown.ensures.decides))
 
 pub Filter::begin-returns-clause-answers : goal.Filter::begin-returns-clause-answers
 Filter::begin-returns-clause-answers g t c =

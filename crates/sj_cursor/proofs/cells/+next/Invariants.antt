@@ -32,6 +32,12 @@ decreases-Operand::index g l = 16 * expr_nodes (operand_core l.self.now) + 6
 abbrev pub decreases-Operand::see_pairing : goal.decreases-Operand::see_pairing
 decreases-Operand::see_pairing g l = 16 * expr_nodes (operand_core l.self.now) + 5
 
+abbrev pub decreases-Operand::see_pairing_apart : goal.decreases-Operand::see_pairing_apart
+decreases-Operand::see_pairing_apart g l = 16 * expr_nodes (operand_core l.self.now) + 6
+
+abbrev pub decreases-Operand::see_pairing_by_cells : goal.decreases-Operand::see_pairing_by_cells
+decreases-Operand::see_pairing_by_cells g l = 16 * expr_nodes (operand_core l.self.now) + 4
+
 abbrev pub decreases-Operand::element : goal.decreases-Operand::element
 decreases-Operand::element g l = 16 * expr_nodes (operand_core l.self.now) + 7
 
@@ -48,7 +54,7 @@ abbrev pub decreases-Operator::begin : goal.decreases-Operator::begin
 decreases-Operator::begin g l = 16 * doing_nodes (doing l.self.now) + 14
 
 abbrev pub decreases-Filter::begin : goal.decreases-Filter::begin
-decreases-Filter::begin g l = 16 * pred_nodes (filter_core l.self.now) + 11
+decreases-Filter::begin g l = 16 * pred_nodes (filter_core l.self.now) + 12
 
 abbrev pub decreases-Elements::begin : goal.decreases-Elements::begin
 decreases-Elements::begin g l = 16 * subs_nodes (elements_core l.self.now) + 11
@@ -78,7 +84,10 @@ abbrev pub decreases-Binary::next : goal.decreases-Binary::next
 decreases-Binary::next g l = 16 * expr_nodes (binary_core l.self.now) + 1
 
 abbrev pub decreases-Test::holds : goal.decreases-Test::holds
-decreases-Test::holds g l = 16 * pred_nodes (test_core l.self.now) + 10
+decreases-Test::holds g l = 16 * pred_nodes (test_core l.self.now) + 11
+
+abbrev pub decreases-Test::holds_of_any : goal.decreases-Test::holds_of_any
+decreases-Test::holds_of_any g l = 16 * pred_nodes (test_core l.self.now) + 10
 
 abbrev pub decreases-Both::and : goal.decreases-Both::and
 decreases-Both::and g l = 16 * pred_nodes (both_and l.self.now) + 9
@@ -92,11 +101,14 @@ decreases-Start::holds g l = 16 * pred_nodes (start_core l.self.now) + 9
 abbrev pub decreases-Comparison::holds : goal.decreases-Comparison::holds
 decreases-Comparison::holds g l = 16 * pred_nodes (comparison_core l.self.now) + 9
 
+abbrev pub decreases-Comparison::holds_pairwise : goal.decreases-Comparison::holds_pairwise
+decreases-Comparison::holds_pairwise g l = 16 * pred_nodes (comparison_core l.self.now) + 8
+
 abbrev pub decreases-Comparison::see_pairings : goal.decreases-Comparison::see_pairings
-decreases-Comparison::see_pairings g l = 16 * pred_nodes (comparison_core l.self.now) + 8
+decreases-Comparison::see_pairings g l = 16 * pred_nodes (comparison_core l.self.now) + 7
 
 abbrev pub decreases-Comparison::asks_right : goal.decreases-Comparison::asks_right
-decreases-Comparison::asks_right g l = 16 * pred_nodes (comparison_core l.self.now) + 8
+decreases-Comparison::asks_right g l = 16 * pred_nodes (comparison_core l.self.now) + 7
 
 -- ---- the items of an expression, opened
 
@@ -131,14 +143,14 @@ invariant-Operand::look-looking g l = record {
 abbrev pub decreases-Operand::look-looking : goal.decreases-Operand::look-looking
 decreases-Operand::look-looking g l = count (operand_left l.how l.self (env_value l.env))
 
-abbrev pub invariant-Operand::see_pairing-pairing : goal.invariant-Operand::see_pairing-pairing
-invariant-Operand::see_pairing-pairing g l = record {
+abbrev pub invariant-Operand::see_pairing_by_cells-pairing : goal.invariant-Operand::see_pairing_by_cells-pairing
+invariant-Operand::see_pairing_by_cells-pairing g l = record {
   same : operand_core l.self ≡ operand_core l.fn.self;
   pairing : PairingLeft l.early (beside_truth l.beside) (operand_whole Unwrapped (operand_core l.fn.self) (env_value l.env)) (operand_left Unwrapped l.self (env_value l.env)) l.pairing.found l.pairing.doubt l.fn.steps l.steps;
 }
 
-abbrev pub decreases-Operand::see_pairing-pairing : goal.decreases-Operand::see_pairing-pairing
-decreases-Operand::see_pairing-pairing g l = count (operand_left Unwrapped l.self (env_value l.env))
+abbrev pub decreases-Operand::see_pairing_by_cells-pairing : goal.decreases-Operand::see_pairing_by_cells-pairing
+decreases-Operand::see_pairing_by_cells-pairing g l = count (operand_left Unwrapped l.self (env_value l.env))
 
 abbrev pub invariant-Comparison::see_pairings-pairings : goal.invariant-Comparison::see_pairings-pairings
 invariant-Comparison::see_pairings-pairings g l = record {
