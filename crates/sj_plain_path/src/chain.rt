@@ -113,7 +113,7 @@ fn nodes_below<'d, L: Ledger>(
     ensures { Finds limit (below how links.now (node_value node.entry)) (nodes_look result) steps.old steps.new }
 {
     let mut gathered = Gathered::nothing();
-    seek(how, &Aim::Look(limit), links, node, &mut gathered, steps);
+    seek_short(how, &Aim::Look(limit), links, node, &mut gathered, steps);
     gathered.nodes
 }
 
@@ -142,8 +142,8 @@ pub fn see_below<'d, L: Ledger>(
     gathered.pairing
 }
 
-// Goes through what accessors give of a node, as `seek` does. Most operands are one member of an object: where this is inlined, its
-// members are gone through in place, and nothing that recurs is called.
+// Goes through what accessors give of a node, as `seek` does. Most operands and columns are one member of an object: its members are
+// gone through in place, and nothing that recurs is called.
 #[inline(always)]
 fn seek_short<'d, L: Ledger>(
     how: Opening,
