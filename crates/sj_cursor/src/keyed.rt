@@ -36,6 +36,19 @@ impl<'d> Keyed<'d> {
     ) -> Look<'d>
         ensures { Finds limit (below how (Link.Member self.entry.key ∷ []) (node_value self.entry.node)) (look_value result) steps.old steps.new }
     {
+        self.look_in_place(how, limit, steps)
+    }
+
+    /// The same, inlined where it is called.
+    #[inline(always)]
+    pub(crate) fn look_in_place<L: Ledger>(
+        self,
+        how: Opening,
+        limit: Limit,
+        steps: &mut Steps<L>,
+    ) -> Look<'d>
+        ensures { Finds limit (below how (Link.Member self.entry.key ∷ []) (node_value self.entry.node)) (look_value result) steps.old steps.new }
+    {
         look_below(how, &[Link::Member(self.key)], self.node, limit, steps)
     }
 

@@ -76,8 +76,12 @@ impl<'d> Operand<'d> {
         ensures decides { Decides (verdict (exists_of (operand_core self.old)) (env_value env.now)) result steps.old steps.new }
         ensures same { operand_core self.new ≡ operand_core self.old }
     {
-        self.look(Opening::AsItIs, Limit::of_exists(env.mode), env, steps)
-            .exists()
+        let limit = Limit::of_exists(env.mode);
+        // Most operands are one member of `@`: what is found of it needs no place of its own.
+        if let Some(keyed) = self.keyed(env) {
+            return keyed.look_in_place(Opening::AsItIs, limit, steps).exists();
+        }
+        self.look(Opening::AsItIs, limit, env, steps).exists()
     }
 }
 
@@ -134,7 +138,7 @@ impl<'d> Operand<'d> {
         self.see_pairing_by_cells(early, beside, env, steps)
     }
 
-    // The same out of line, for those that are asked in few predicates: what it is inlined into has room on the stack for all of it.
+    // The same out of line, for those that few predicates ask. Each function that it is inlined into has room on the stack for it.
     #[cycle(next)]
     #[inline(never)]
     pub(crate) fn see_pairing_apart<L: Ledger>(

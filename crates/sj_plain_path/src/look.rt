@@ -139,6 +139,7 @@ pub struct Look<'d> {
 
 impl<'d> Look<'d> {
     /// Whether there is an item, where a fault leaves that unknown.
+    #[inline(always)]
     pub fn exists(self) -> Truth
         ensures { result ≡ looks.exists_in (looks.look_value self.entry) }
     {

@@ -1,7 +1,7 @@
 use Rattle.std.specs.Int.{w128}
 use Rattle.std.proofs.Common.{rules, to_z-of_z, SFits, ◌≡◌, ap, ◌∙◌, sym, refl, arith}
 use Rattle.sj_cursor.specs.Left.{core, left, doing, doing_on, doing_nodes, operand_core, operand_left, each_core, binary_core, comparison_core, parts_core, bounds_core, doing_opening, done}
-use Rattle.sj_plain_path.specs.declared.opening.Opening.TheVariants.{Unwrapped}
+use Rattle.sj_plain_path.specs.declared.opening.Opening.TheVariants.{AsItIs, Unwrapped}
 use Rattle.sj_cursor.proofs.Draws.{draws_after, draws_takes, join_answer, join_over, approaches_none, loop_answer, turn_near, turn_item, turn_begun, turn_over, turn_answer, count_draws}
 use Rattle.sj_cursor.proofs.ItemAnswers.{no_end, no_item}
 use Rattle.sj_cursor.proofs.Looks.{looking_from, looking_on, looking_enough, looking_end, looking_fault, exists_decides, single_answer, single_price, end_answer, end_price}
@@ -81,8 +81,12 @@ Operand::index-returns-clause-answers g t c = c.single_subscript.ensures ∙ ap 
 pub Operand::index-returns-clause-costs : goal.Operand::index-returns-clause-costs
 Operand::index-returns-clause-costs g t c = single_price _ _ _ _ _ (rw c.of_single.ensures at c.look-look.ensures.finds)
 
+pub Operand::exists-returns-in-Some-clause-decides : goal.Operand::exists-returns-in-Some-clause-decides
+Operand::exists-returns-in-Some-clause-decides g t c =
+    exists_decides _ _ _ _ _ _ (rw (c.of_exists-limit.ensures, ← c.in-Some.ensures AsItIs, as_it_is _ _) at c.look_in_place.ensures) c.exists.ensures
+
 pub Operand::exists-returns-clause-decides : goal.Operand::exists-returns-clause-decides
-Operand::exists-returns-clause-decides g t c = exists_decides _ _ _ _ _ _ (rw (c.of_exists.ensures, as_it_is _ _) at c.look.ensures.finds) c.exists.ensures
+Operand::exists-returns-clause-decides g t c = exists_decides _ _ _ _ _ _ (rw (c.of_exists-limit.ensures, as_it_is _ _) at c.look.ensures.finds) c.exists-2.ensures
 
 -- ---- pairs
 
