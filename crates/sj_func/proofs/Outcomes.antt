@@ -1,5 +1,5 @@
 -- What each function gives and may take on an item, and on a bad context.
-use Rattle.std.proofs.Common.{◌≡◌, ◌≤◌, ℕ, ◌+◌, Bool, Result, Err, IfOk, ap, sym, subst, ◌∙◌, refl, arith}
+use Rattle.std.proofs.Common.{◌≡◌, ◌≤◌, ℕ, ◌+◌, List, Bool, Option, Result, Ok, Err, IfOk, ap, sym, subst, ◌∙◌, refl, arith}
 use Rattle.sj_base.specs.Count.{raised}
 use Rattle.sj_base.specs.declared.memory.Memory.{Memory}
 use Rattle.sj_base.specs.declared.state.State.{State}
@@ -11,9 +11,14 @@ use Rattle.sj_cursor.specs.Answers.{exists_answer}
 use Rattle.sj_cursor.specs.Single.{need, Single, bad, single}
 use Rattle.sj_value.specs.declared.clauses.ExistsAction.{ExistsAction}
 use Rattle.sj_value.specs.declared.clauses.QuerySpec.{QuerySpec}
+use Rattle.sj_value.specs.Casts.{Cast}
+use Rattle.sj_value.specs.declared.clauses.ValueAction.{ValueAction}
 use Rattle.sj_value.specs.declared.clauses.ValueSpec.{ValueSpec}
-use Rattle.sj_func.specs.Functions.{ContextValue, on_item, on_bad, answer_on, cost_on, exists_given, exists_outcome, exists_cost, single_on, value_given, value_outcome, value_cost, single_below, query_one_cost, query_error, query_items, query_all, all_below, query_all_cost}
+use Rattle.sj_rows.specs.RowText.{HasField}
+use Rattle.sj_func.specs.Fields.{AppendsOutcome}
+use Rattle.sj_func.specs.Functions.{ContextValue, on_item, on_bad, answer_on, cost_on, exists_given, exists_outcome, exists_cost, single_on, value_cast, value_error, value_given, value_outcome, value_cost, single_below, query_one_cost, query_error, query_items, query_all, all_below, query_all_cost}
 use Rattle.sj_func.specs.declared.context.Outcome.{Outcome}
+use Rattle.sj_func.specs.declared.context.Outcome.TheVariants.{Value}
 
 -- ---- JSON_EXISTS
 
@@ -52,6 +57,20 @@ pub value_is : (clauses : ValueSpec) (mode : Mode) (context : ContextValue) (tra
     → answer ≡ single_on mode context trace → IfOk r (λ o. o ≡ value_given clauses answer) → IfOk r (λ o. o ≡ value_outcome clauses mode context trace)
 unfolding value_outcome
 value_is clauses mode context trace answer r e k = subst (λ s. IfOk r (λ o. o ≡ value_given clauses s)) e k
+
+-- the same of what is appended
+pub value_appends : (clauses : ValueSpec) (mode : Mode) (context : ContextValue) (trace : ItemValue → Trace) (answer : Single) (r : Result (Option State) Memory) (old new : List ℕ)
+    → answer ≡ single_on mode context trace → AppendsOutcome (value_given clauses answer) r old new → AppendsOutcome (value_outcome clauses mode context trace) r old new
+unfolding value_outcome
+value_appends clauses mode context trace answer r old new e k = subst (λ s. AppendsOutcome (value_given clauses s) r old new) e k
+
+-- an item whose cast gives a value
+pub cast_appends : (action : ValueAction) (cast : Cast) (old new : List ℕ) → HasField Ok cast old new → HasField Value (value_cast action cast) old new
+cast_appends action cast old new h = record { value = h.value; is = ap (value_cast action) h.is; grown = h.grown }
+
+-- and one that the cast refuses
+pub refused_appends : (action : ValueAction) (cast : Cast) (s : State) (r : Result (Option State) Memory) (old mid new : List ℕ) → cast ≡ Err s → mid ≡ old → AppendsOutcome (value_error action s) r mid new → AppendsOutcome (value_cast action cast) r old new
+refused_appends action cast s r old mid new e same k = subst (λ (c : Cast). AppendsOutcome (value_cast action c) r old new) (sym e) (subst (λ (l : List ℕ). AppendsOutcome (value_error action s) r l new) same k)
 
 -- ---- JSON_QUERY without a wrapper
 

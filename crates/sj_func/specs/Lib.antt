@@ -1,3 +1,4 @@
 pub mod Functions
+pub mod Fields
 pub mod Gathering
 pub mod Json

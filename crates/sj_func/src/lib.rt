@@ -10,6 +10,7 @@
 
 mod context;
 mod exists;
+mod field;
 mod json;
 mod query;
 mod single;
@@ -18,6 +19,7 @@ mod value;
 
 pub use context::{Context, Outcome};
 pub use exists::json_exists;
+pub use field::{json_value_field, outcome_field};
 pub use json::is_json;
 pub use query::json_query;
 pub use value::json_value;

@@ -4,6 +4,7 @@ use Rattle.sj_base.specs.Count.{Rose, raised}
 use Rattle.sj_base.specs.declared.state.State.{State}
 use Rattle.sj_value.specs.declared.value.SqlValue.{SqlValue}
 use Rattle.sj_rows.specs.RowText.{row_bytes, error_bytes}
+use Rattle.sj_page.specs.declared.page.Page.{Page}
 use Rattle.sj_page.specs.declared.stop.Stop.{Stop}
 use Rattle.sj_page.specs.declared.stop.Stop.TheVariants.{Memory, Output}
 use Rattle.sj_page.specs.Sides.{OutputSide, output_side, Grew}
@@ -26,6 +27,10 @@ nothing = record { text = []; rows = 0; errors = 0 }
 abbrev pub followed_by : Print → Print → Print
 followed_by p q = record { text = p.text ++ q.text; rows = p.rows + q.rows; errors = p.errors + q.errors }
 
+-- a row whose text is printed already
+abbrev pub one_row : Print
+one_row = record { text = []; rows = 1; errors = 0 }
+
 abbrev pub row_print : ℕ → ℕ → List SqlValue → Print
 row_print line statement fields = record { text = row_bytes line statement fields; rows = 1; errors = 0 }
 
@@ -34,21 +39,15 @@ error_print line statement state = record { text = error_bytes line statement st
 
 -- ---- where it stands
 
--- a page: the texts that are not written yet, and how many rows and error rows were printed
-pub record PageSeen : Type 0 where
-  pub text : List ℕ
-  pub rows : ℕ
-  pub errors : ℕ
-
-abbrev pub empty_page : PageSeen
+abbrev pub empty_page : Page
 empty_page = record { text = []; rows = 0; errors = 0 }
 
 -- a page with its sink, at one moment
 pub record PrintState : Type 0 where
   pub out : OutputSide
-  pub page : PageSeen
+  pub page : Page
 
-abbrev pub print_state : {O : Type 0} → (O → Option (List ℕ)) → (O → Option ℕ) → (O → ℕ) → O → PageSeen → PrintState
+abbrev pub print_state : {O : Type 0} → (O → Option (List ℕ)) → (O → Option ℕ) → (O → ℕ) → O → Page → PrintState
 print_state taken size faults out page = record { out = output_side taken size faults out; page = page }
 
 -- ALL WAS PRINTED: what was written, and then what the page has, is what it had and then the text.

@@ -1,16 +1,13 @@
 // The page.
-ghost use Rattle.std.specs.Prelude.{◌≡◌, ◌<◌, [], length, All, OnOk};
-ghost use Rattle.sj_value.specs.Values.{IsPrintable};
-ghost use Rattle.sj_page.specs.Pages.{max_page, empty_page, print_state, nothing, row_print, error_print, Prints};
+ghost use Rattle.std.specs.Prelude.{◌≡◌, ◌<◌, [], length, OnOk};
+ghost use Rattle.sj_page.specs.Pages.{max_page, empty_page, print_state, nothing, one_row, error_print, Prints};
 
 use crate::stop::Stop;
 use crate::writes::write_all;
 use sj_base::{Bytes, State};
 use sj_outside::Sink;
-use sj_rows::{error_text, row_text};
-use sj_value::SqlValue;
+use sj_rows::error_text;
 use std::alloc::Global;
-use std::marker::Model;
 
 /// A page of so many bytes is written.
 const MAX_PAGE: usize = 65_536;
@@ -22,24 +19,19 @@ pub struct Counts {
     pub errors: u64,
 }
 
-/// The texts of rows that are not written yet. A page of 65,536 bytes or more is written at once, so it holds fewer
-/// between two calls.
+/// The texts of rows that are not written yet, and how many rows and error rows were printed.
 ///
-/// Contracts see the texts, and how many rows and error rows were printed. After a call that failed the page is not
-/// used again.
+/// Whoever finds a row appends its text to `text`, so that it is copied from nowhere, and then calls [`Page::row_came`]. A
+/// page of 65,536 bytes or more is written at once there, so it holds fewer between two rows. After a call that failed the
+/// page is not used again.
 #[derive(Drop)]
 pub struct Page {
-    text: Bytes,
-    rows: u64,
-    errors: u64,
-}
-
-impl Model for Page {
-    ghost use Rattle.sj_page.specs.Pages.{PageSeen};
-
-    ghost Value = { PageSeen };
-
-    ghost view = { λ p. record { text = p.text; rows = p.rows; errors = p.errors } };
+    /// The texts that are not written yet.
+    pub text: Bytes,
+    /// How many rows were printed. The number stays at 2^64 - 1.
+    pub rows: u64,
+    /// How many error rows were printed. The number stays at 2^64 - 1.
+    pub errors: u64,
 }
 
 impl Page {
@@ -65,24 +57,15 @@ impl Page {
         }
     }
 
-    /// Prints a row.
+    /// Counts a row, whose text stands at the end of the page.
     ///
     /// # Errors
-    /// Where memory runs out, and where a write fails. What was written is a front of what the page had and the row.
-    pub fn row<O: Sink>(
-        &mut self,
-        out: &mut O,
-        line: u64,
-        statement: u32,
-        fields: &[SqlValue],
-    ) -> Result<(), Stop>
-        requires { All IsPrintable fields.now }
-        ensures prints { Prints (row_print line statement fields.now) (print_state O.taken O.size O.faults out.old self.old) (print_state O.taken O.size O.faults out.new self.new) result }
+    /// Where a write fails. What was written is a front of what the page had.
+    #[inline(always)]
+    pub fn row_came<O: Sink>(&mut self, out: &mut O) -> Result<(), Stop>
+        ensures prints { Prints one_row (print_state O.taken O.size O.faults out.old self.old) (print_state O.taken O.size O.faults out.new self.new) result }
         ensures short { OnOk result (length self.new.text < max_page) }
     {
-        if row_text(&mut self.text, line, statement, fields).is_err() {
-            return Err(Stop::Memory);
-        }
         self.rows = self.rows.saturating_add(1);
         self.pass_on(out)
     }
@@ -90,7 +73,7 @@ impl Page {
     /// Prints an error row.
     ///
     /// # Errors
-    /// As [`Page::row`].
+    /// Where memory runs out, and where a write fails. What was written is a front of what the page had and the row.
     pub fn error_row<O: Sink>(
         &mut self,
         out: &mut O,

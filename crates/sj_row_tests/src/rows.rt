@@ -4,7 +4,7 @@ ghost use Rattle.std.specs.Prelude.{◌≡◌, ◌+◌, ◌≤◌, false, length
 ghost use Rattle.sj_rows.specs.Lines.{max_input};
 
 use sj_base::{Bytes, State};
-use sj_rows::{Line, Lines, error_text, row_text};
+use sj_rows::{Line, Lines, begin_row, end_row, error_text};
 use std::process::Abort;
 use std::test::Fail;
 
@@ -104,7 +104,8 @@ fn no_byte_is_searched_twice(rt: HostRuntime) -> Result<(), Fail> {
 #[test]
 fn prints_the_ends_of_numbers_and_states(rt: HostRuntime) -> Result<(), Fail> {
     let mut out = Bytes::new(rt.alloc());
-    row_text(&mut out, 1, 2, &[])?;
+    begin_row(&mut out, 1, 2)?;
+    end_row(&mut out)?;
     error_text(&mut out, u64::MAX, u32::MAX, State::S22034)?;
     assert_eq!(rt;
         out.as_slice(),

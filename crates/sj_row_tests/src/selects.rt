@@ -5,7 +5,7 @@ ghost use Rattle.sj_bound.specs.Sound.{IsSound};
 ghost use Rattle.sj_bound.specs.View.{bound_of};
 
 use super::cases::expect;
-use sj_base::{Steps, Tally};
+use sj_base::{Bytes, Steps, Tally};
 use sj_bind::{BindRefusal, Bound, bind};
 use sj_doc::Doc;
 use sj_read::read;
@@ -32,16 +32,16 @@ fn bound(alloc: Global, text: &str) -> Result<Bound, Fail>
     }
 }
 
-/// How many rows are left and the end behind them. The end comes again, with no row and without a step.
+/// How many rows are left and the end behind them. The end comes again, with no text and without a step.
 fn shown(rt: &impl Abort, alloc: Global, rows: &mut RowsOf<'_>) -> Result<String, Fail> {
     let mut steps = Steps::new(Tally::new());
     for count in 0..100 {
-        let turn = rows.next(&mut steps)?;
+        let mut out = Bytes::new(alloc);
+        let turn = rows.print(&mut out, 3, 2, &mut steps)?;
         if turn != Turn::Row {
-            assert!(rt; rows.take_row().is_empty());
             let spent = steps.ledger().count();
-            assert!(rt; rows.next(&mut steps)? == turn);
-            assert!(rt; rows.take_row().is_empty() && steps.ledger().count() == spent);
+            assert!(rt; rows.print(&mut out, 3, 2, &mut steps)? == turn);
+            assert!(rt; out.as_slice().is_empty() && steps.ledger().count() == spent);
             let end = if let Turn::Raised(state) = turn {
                 state.code()
             } else {
@@ -49,7 +49,7 @@ fn shown(rt: &impl Abort, alloc: Global, rows: &mut RowsOf<'_>) -> Result<String
             };
             return Ok(format!(in alloc; "{count} {end}")?);
         }
-        assert!(rt; !rows.take_row().is_empty());
+        assert!(rt; out.as_slice().starts_with(b"3\t2\tR\t"));
     }
     Err("too many rows")?
 }
@@ -81,9 +81,8 @@ fn expect_lines<'d>(
     for _ in 0..2 {
         for (line, want) in lines.iter().zip(wants.split(" ; ")) {
             rows.rewind(LineDoc::Json(first));
-            rows.next(&mut Steps::new(Tally::new()))?;
+            rows.print(&mut Bytes::new(alloc), 3, 2, &mut Steps::new(Tally::new()))?;
             rows.rewind(*line);
-            assert!(rt; rows.take_row().is_empty());
             expect(rt, shown(rt, alloc, &mut rows)?.as_str(), want, wants);
         }
     }

@@ -78,7 +78,7 @@ no_ends (b ∷ bs) = All-append IsNoEnd (escaped_byte b) (escaped bs) (ends_noth
 
 -- ---- bytes that stand for themselves
 
-stands_alone : (b : ℕ) → stands b ≡ true → escaped_byte b ≡ b ∷ []
+pub stands_alone : (b : ℕ) → stands b ≡ true → escaped_byte b ≡ b ∷ []
 stands_alone =
     by_escape (λ b. stands b ≡ true → escaped_byte b ≡ b ∷ [])
     (λ h. let no : ◌≡◌ {A = Bool} false true = h in cc)

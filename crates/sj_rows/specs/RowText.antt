@@ -1,9 +1,12 @@
 -- The texts of rows.
-use Rattle.std.specs.Prelude.{◌≢◌, ℕ, List, [], ◌∷◌, ◌++◌, Bool as Logical, true, false, not, ◌||◌, ◌==◌, if◌then◌else◌, codes, decimal, ℤ}
+use Rattle.std.specs.Prelude.{◌≡◌, ◌≢◌, ℕ, List, [], ◌∷◌, ◌++◌, Bool as Logical, true, false, not, ◌||◌, ◌==◌, if◌then◌else◌, codes, decimal, ℤ, Result, Ok, Err}
 use Rattle.std.specs.List.{flat_map}
 use Rattle.sj_base.specs.State.{code_of}
-use Rattle.sj_base.specs.declared.state.State.{State}
+use Rattle.sj_base.specs.declared.state.State.{State as SqlState}
 use Rattle.sj_decimal.specs.Text.{decimal_text, with_places}
+use Rattle.sj_value.specs.Casts.{Cast}
+use Rattle.sj_value.specs.declared.refusal.CastRefusal.{CastRefusal}
+use Rattle.sj_value.specs.declared.refusal.CastRefusal.TheVariants.{State, Memory}
 use Rattle.sj_value.specs.declared.value.SqlValue.{SqlValue}
 use Rattle.sj_value.specs.declared.value.SqlValue.TheVariants.{Null, Text, Num, Bool, Json}
 
@@ -50,6 +53,10 @@ field (Json s) = escaped s
 abbrev pub row_head : ℕ → ℕ → List ℕ
 row_head line statement = decimal line ++ (codes "\t" ++ decimal statement)
 
+-- what stands before the fields of a row
+abbrev pub row_front : ℕ → ℕ → List ℕ
+row_front line statement = row_head line statement ++ codes "\tR"
+
 -- a TAB and a field
 abbrev pub tabbed : SqlValue → List ℕ
 tabbed value = codes "\t" ++ field value
@@ -59,5 +66,24 @@ abbrev pub row_bytes : ℕ → ℕ → List SqlValue → List ℕ
 row_bytes line statement fields = row_head line statement ++ (codes "\tR" ++ (flat_map tabbed fields ++ codes "\n"))
 
 -- line, TAB, statement, TAB, E, TAB, the state, and LF
-abbrev pub error_bytes : ℕ → ℕ → State → List ℕ
+abbrev pub error_bytes : ℕ → ℕ → SqlState → List ℕ
 error_bytes line statement state = row_head line statement ++ (codes "\tE\t" ++ (code_of state ++ codes "\n"))
+
+-- ---- what a call that appends fields leaves
+
+-- what stood there stays, and something may stand behind it
+pub record Extends (old new : List ℕ) : Type 0 where
+  pub behind : List ℕ
+  pub grown : new ≡ old ++ behind
+
+-- x is made of a value, whose field was appended with its TAB
+pub record HasField {X : Type 0} (made : SqlValue → X) (x : X) (old new : List ℕ) : Type 0 where
+  pub value : SqlValue
+  pub is : x ≡ made value
+  pub grown : new ≡ old ++ tabbed value
+
+-- the field of what a cast gives was appended, or the cast is refused
+abbrev pub AppendsCast : Cast → Result Unit CastRefusal → List ℕ → List ℕ → Type 0
+AppendsCast cast (Ok u) old new = HasField Ok cast old new
+AppendsCast cast (Err (State s)) old new = (cast ≡ Err s) × (new ≡ old)
+AppendsCast cast (Err Memory) old new = Extends old new

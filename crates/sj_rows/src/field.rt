@@ -13,12 +13,20 @@ use sj_base::{Bytes, Memory};
 use sj_decimal::Decimal;
 use sj_value::SqlValue;
 
-// Appends a TAB and a field. What has few bytes comes with its TAB at once.
-pub(crate) fn tabbed_text(out: &mut Bytes, value: &SqlValue) -> Result<(), Memory>
+/// Appends a TAB and the field of a value.
+///
+/// The field of NULL is `\N`, and that of a truth value `TRUE` or `FALSE`. A number has its text, with the decimals
+/// that it is to print. A text and a JSON value stand as they are, but for backslash, TAB, LF and CR, which are `\\`,
+/// `\t`, `\n` and `\r`. So a field has no TAB and no LF, and the text `\N` is not the field of NULL.
+///
+/// # Errors
+/// `Memory` where memory ran out. `out` has then grown by a first part of both.
+pub fn tabbed_text(out: &mut Bytes, value: &SqlValue) -> Result<(), Memory>
     requires { IsPrintable value.now }
     ensures ok { OnOk result (out.new ≡ out.old ++ tabbed value.now) }
     ensures err { OnErr result (AppendsPrefix out.old (tabbed value.now) out.new) }
 {
+    // What has few bytes comes with its TAB at once.
     match value {
         SqlValue::Null => out.push(b"\t\\N"),
         SqlValue::Text(text) => tabbed_bytes(out, text.as_str().as_bytes()),
@@ -29,7 +37,7 @@ pub(crate) fn tabbed_text(out: &mut Bytes, value: &SqlValue) -> Result<(), Memor
     }
 }
 
-fn tabbed_bytes(out: &mut Bytes, bytes: &[u8]) -> Result<(), Memory>
+pub(crate) fn tabbed_bytes(out: &mut Bytes, bytes: &[u8]) -> Result<(), Memory>
     ensures ok { OnOk result (out.new ≡ out.old ++ (codes "\t" ++ escaped bytes.now)) }
     ensures err { OnErr result (AppendsPrefix out.old (codes "\t" ++ escaped bytes.now) out.new) }
 {

@@ -1,9 +1,9 @@
 // The texts of rows and error rows.
-ghost use Rattle.std.specs.Prelude.{◌≡◌, ◌∷◌, [], ◌++◌, All, OnOk, OnErr};
+ghost use Rattle.std.specs.Prelude.{◌≡◌, ◌∷◌, [], ◌++◌, All, codes, OnOk, OnErr};
 ghost use Rattle.std.specs.List.{flat_map};
 ghost use Rattle.sj_text.specs.Prefixes.{AppendsPrefix};
 ghost use Rattle.sj_value.specs.Values.{IsPrintable};
-ghost use Rattle.sj_rows.specs.RowText.{row_head, tabbed, row_bytes, error_bytes};
+ghost use Rattle.sj_rows.specs.RowText.{row_head, row_front, tabbed, error_bytes};
 
 use crate::field::tabbed_text;
 use crate::window::push_front;
@@ -14,27 +14,28 @@ use sj_value::SqlValue;
 /// The most bytes before the fields of a row: 20 digits, TAB, 10 digits, TAB and a letter.
 const MAX_HEAD: usize = 33;
 
-/// Appends a row: the line's number, TAB, the statement's number, TAB, `R`, then TAB and a field for each value, and
-/// LF.
-///
-/// The field of NULL is `\N`, and that of a truth value `TRUE` or `FALSE`. A number has its text, with the decimals
-/// that it is to print. A text and a JSON value stand as they are, but for backslash, TAB, LF and CR, which are `\\`,
-/// `\t`, `\n` and `\r`. So a field has no TAB and no LF, and the text `\N` is not the field of NULL.
+/// Appends what stands before the fields of a row: the line's number, TAB, the statement's number, TAB and `R`. Each field
+/// comes with a TAB before it.
 ///
 /// # Errors
-/// `Memory` where memory ran out. `out` has then grown by a first part of the row.
-pub fn row_text(
-    out: &mut Bytes,
-    line: u64,
-    statement: u32,
-    fields: &[SqlValue],
-) -> Result<(), Memory>
-    requires { All IsPrintable fields.now }
-    ensures ok { OnOk result (out.new ≡ out.old ++ row_bytes line statement fields.now) }
-    ensures err { OnErr result (AppendsPrefix out.old (row_bytes line statement fields.now) out.new) }
+/// `Memory` where memory ran out. `out` stays as it was.
+#[inline(always)]
+pub fn begin_row(out: &mut Bytes, line: u64, statement: u32) -> Result<(), Memory>
+    ensures ok { OnOk result (out.new ≡ out.old ++ row_front line statement) }
+    ensures err { OnErr result (out.new ≡ out.old) }
 {
-    head_text(out, line, statement, b'R')?;
-    fields_text(out, fields)?;
+    head_text(out, line, statement, b'R')
+}
+
+/// Appends what stands behind the fields of a row: LF.
+///
+/// # Errors
+/// `Memory` where memory ran out. `out` stays as it was.
+#[inline(always)]
+pub fn end_row(out: &mut Bytes) -> Result<(), Memory>
+    ensures ok { OnOk result (out.new ≡ out.old ++ codes "\n") }
+    ensures err { OnErr result (out.new ≡ out.old) }
+{
     out.push(b"\n")
 }
 
@@ -68,8 +69,11 @@ fn head_text(out: &mut Bytes, line: u64, statement: u32, letter: u8) -> Result<(
     push_front(out, &head[first..first + MAX_HEAD], MAX_HEAD - first)
 }
 
-// Appends a TAB and a field for each value.
-fn fields_text(out: &mut Bytes, fields: &[SqlValue]) -> Result<(), Memory>
+/// Appends a TAB and a field for each value.
+///
+/// # Errors
+/// `Memory` where memory ran out. `out` has then grown by a first part of them.
+pub fn fields_text(out: &mut Bytes, fields: &[SqlValue]) -> Result<(), Memory>
     requires { All IsPrintable fields.now }
     ensures ok { OnOk result (out.new ≡ out.old ++ flat_map tabbed fields.now) }
     ensures err { OnErr result (AppendsPrefix out.old (flat_map tabbed fields.now) out.new) }

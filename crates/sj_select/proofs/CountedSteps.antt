@@ -15,3 +15,7 @@ spent_less m a b n less spent = omega (arith, less, spent)
 -- what is due falls by what is spent, at least
 pub falls_by : (due due' spent m n : ℕ) → due' + spent ≤ due → n ≤ raised m spent → Spends due due' m n
 falls_by due due' spent m n falls spends = record { falls = omega (arith, falls); costs = omega (arith, falls, spends) }
+
+-- where nothing is due any more, at most all that was due was spent
+pub spends_rest : (due due' m n : ℕ) → Spends due due' m n → Spends due 0 m n
+spends_rest due due' m n s = record { falls = omega arith; costs = omega (arith, s.costs) }

@@ -2,13 +2,13 @@
 mod SoundColumns
 -- for `columns_of`
 mod MadeColumns
--- for `find_listed`
+-- for `print_listed`
 mod Listing
--- for `RowSource::find`
+-- for `RowSource::print`
 mod Sourced
 -- for `take_row`, and for other lemmas
 mod CountedSteps
 -- for `take_row` and `take_rows`
 mod TakingRows
--- for `RowsOf::next`
+-- for `RowsOf::print_behind`
 mod AnsweredRows

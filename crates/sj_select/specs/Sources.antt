@@ -4,7 +4,9 @@ use Rattle.std.specs.Prelude.{◌≡◌, ℕ, ◌+◌, List, [], ◌∷◌, ◌+
 use Rattle.std.specs.declared.alloc.Global.{Global}
 use Rattle.sj_base.specs.declared.memory.Memory.{Memory}
 use Rattle.sj_base.specs.declared.state.State.{State}
+use Rattle.std.specs.List.{flat_map}
 use Rattle.sj_value.specs.Values.{IsPrintable}
+use Rattle.sj_rows.specs.RowText.{tabbed, Extends}
 use Rattle.sj_value.specs.declared.value.SqlValue.{SqlValue}
 use Rattle.sj_table.specs.Rows.{Row}
 use Rattle.sj_table.specs.Series.{done, raises, more}
@@ -70,11 +72,17 @@ pub record IsReadySource (r : RowSource) : Type 0 where
 
 -- ---- what is found
 
-abbrev pub Finds : StatementRows → Found → List SqlValue → StatementRows → Type 0
-Finds left found.Row row left' = left ≡ more row left'
-Finds left found.LastRow row left' = left ≡ more row done
-Finds left found.End row left' = left ≡ done
-Finds left (found.Raised s) row left' = left ≡ raises s
+-- a row is the next one, and a TAB and a field was appended for each of its values
+pub record HasRow (left left' : StatementRows) (old new : List ℕ) : Type 0 where
+  pub row : List SqlValue
+  pub is : left ≡ more row left'
+  pub grown : new ≡ old ++ flat_map tabbed row
+
+abbrev pub Prints : StatementRows → Found → List ℕ → List ℕ → StatementRows → Type 0
+Prints left found.Row old new left' = HasRow left left' old new
+Prints left found.LastRow old new left' = HasRow left done old new
+Prints left found.End old new left' = (left ≡ done) × Extends old new
+Prints left (found.Raised s) old new left' = (left ≡ raises s) × Extends old new
 
 -- what may still be taken: nothing, unless more rows may follow
 abbrev pub found_due : Found → ℕ → ℕ

@@ -1,6 +1,5 @@
 -- How far rows have come, and what is left then. Private clauses alone cite this.
-use Rattle.std.specs.Prelude.{ℕ, List, []}
-use Rattle.sj_value.specs.declared.value.SqlValue.{SqlValue}
+use Rattle.std.specs.Prelude.{◌≡◌, ℕ, List, ◌++◌, take, codes}
 use Rattle.sj_table.specs.Series.{done, raises}
 use Rattle.sj_select.specs.Rows.{StatementRows}
 use Rattle.sj_select.specs.declared.rows.Stage.{Stage}
@@ -36,9 +35,9 @@ stage_behind found.LastRow = stage.Ended
 stage_behind found.End = stage.Ended
 stage_behind (found.Raised s) = stage.Raised s
 
--- no row stands behind an end
-abbrev pub row_kept : Found → List SqlValue → List SqlValue
-row_kept found.Row row = row
-row_kept found.LastRow row = row
-row_kept found.End row = []
-row_kept (found.Raised s) row = []
+-- the text of a row has its end, and where there is none nothing is left behind the place
+abbrev pub EndsText : Found → ℕ → List ℕ → List ℕ → Type 0
+EndsText found.Row start old new = new ≡ old ++ codes "\n"
+EndsText found.LastRow start old new = new ≡ old ++ codes "\n"
+EndsText found.End start old new = new ≡ take start old
+EndsText (found.Raised s) start old new = new ≡ take start old

@@ -1,6 +1,6 @@
 // The rows of a statement for a line.
-ghost use Rattle.std.specs.Prelude.{◌≡◌, [], All, IfOk, None, true};
-ghost use Rattle.sj_value.specs.Values.{IsPrintable};
+ghost use Rattle.std.specs.Prelude.{◌≡◌, ◌≤◌, ◌++◌, length, IfOk, OnOk, OnErr, None, true};
+ghost use Rattle.sj_rows.specs.RowText.{Extends};
 ghost use Rattle.sj_table.specs.Series.{done};
 ghost use Rattle.sj_table.specs.Takes.{Spends};
 ghost use Rattle.sj_bound.specs.Bound as b;
@@ -8,23 +8,23 @@ ghost use Rattle.sj_bound.specs.Sound.{IsSound};
 ghost use Rattle.sj_bound.specs.View.{bound_of};
 ghost use Rattle.sj_select_list.specs.Line.{line_of};
 ghost use Rattle.sj_select.specs.Rows.{statement_rows, statement_cost};
-ghost use Rattle.sj_select.specs.Seen.{Gives};
-ghost use Rattle.sj_select.specs.Sources.{IsFor, IsReadySource, Finds, source_left, source_due, due_behind};
-ghost use Rattle.sj_select.specs.Stages.{left_at, due_at, turn_for, stage_behind, row_kept};
+ghost use Rattle.sj_select.specs.Seen.{Gives, next_text};
+ghost use Rattle.sj_select.specs.Sources.{IsFor, IsReadySource, Prints, source_left, source_due, due_behind};
+ghost use Rattle.sj_select.specs.Stages.{left_at, due_at, turn_for, stage_behind, EndsText};
 
 use crate::source::{Found, RowSource};
-use sj_base::{Ledger, Memory, State, Steps};
+use sj_base::{Bytes, Ledger, Memory, State, Steps};
 use sj_bound::Bound;
-use sj_select_list::{LineDoc, Stack};
-use sj_value::SqlValue;
+use sj_rows::{begin_row, end_row};
+use sj_select_list::LineDoc;
 use std::alloc::Global;
 use std::marker::Model;
 use std::mem;
 
-/// One answer of [`RowsOf::next`].
+/// One answer of [`RowsOf::print`].
 #[derive(Clone, Copy, Debug, PartialEq, Eq)]
 pub enum Turn {
-    /// A row was given.
+    /// The text of a row was appended.
     Row,
     /// No row is left.
     End,
@@ -70,39 +70,44 @@ impl Stage {
         }
     }
 
-    // What comes next of the rows that have come so far. An end comes again, without a step.
+    // Appends the fields of what comes next of the rows that have come so far. An end comes again, without a step.
     #[inline(always)]
-    fn find<'d, L: Ledger>(
+    fn print<'d, L: Ledger>(
         self,
         alloc: Global,
         source: &mut RowSource<'d>,
         line: LineDoc<'d>,
+        out: &mut Bytes,
         steps: &mut Steps<L>,
     ) -> Result<Found, Memory>
         requires { IsReadySource source.old }
-        ensures finds { (s : b.Bound) → IsFor s source.old → IfOk result (λ found. Finds (left_at self (source_left s (line_of line.entry) source.old)) found source.new.stack.values.items (source_left s (line_of line.entry) source.new)) }
+        ensures prints { (s : b.Bound) → IsFor s source.old → IfOk result (λ found. Prints (left_at self (source_left s (line_of line.entry) source.old)) found out.old out.new (source_left s (line_of line.entry) source.new)) }
+        ensures err { (s : b.Bound) → IsFor s source.old → OnErr result (Extends out.old out.new) }
         ensures costs { (s : b.Bound) → IsFor s source.old → Spends (due_at self (source_due s (line_of line.entry) source.old)) (due_behind result (source_due s (line_of line.entry) source.new)) steps.old steps.new }
         ensures is_for { (s : b.Bound) → IsFor s source.old → IsFor s source.new }
         ensures ready { IsReadySource source.new }
     {
         match self {
-            Stage::Going => source.find(alloc, line, steps),
+            Stage::Going => source.print(alloc, line, out, steps),
             Stage::Ended => Ok(Found::End),
             Stage::Raised(state) => Ok(Found::Raised(state)),
         }
     }
 }
 
-// Keeps the row that was found, or none behind an end.
+// Ends the text of a row. Where no row was found, takes back what stands behind the place where it would begin.
 #[inline(always)]
-fn keep_row(found: Found, stack: &mut Stack)
-    requires { All IsPrintable stack.old.values.items }
-    ensures row { stack.new.values.items ≡ row_kept found stack.old.values.items }
-    ensures printable { All IsPrintable stack.new.values.items }
+fn end_text(out: &mut Bytes, start: usize, found: Found) -> Result<(), Memory>
+    requires { start ≤ length out.old }
+    ensures ends { OnOk result (EndsText found start out.old out.new) }
+    ensures err { OnErr result (out.new ≡ out.old) }
 {
     match found {
-        Found::Row | Found::LastRow => {}
-        Found::End | Found::Raised(_) => stack.clear(),
+        Found::Row | Found::LastRow => end_row(out),
+        Found::End | Found::Raised(_) => {
+            out.truncate(start);
+            Ok(())
+        }
     }
 }
 
@@ -111,7 +116,7 @@ fn keep_row(found: Found, stack: &mut Stack)
 /// No list of rows is kept: one row is found at a time. The aggregates of a statement take one row of its table after another, and
 /// keep the text of what they took.
 ///
-/// Contracts see the statement, the line, the rows that are left, the row just given, and the steps that may still be taken.
+/// Contracts see the statement, the line, the rows that are left, and the steps that may still be taken.
 ///
 /// Its `drop` is written out, so that whoever holds one gives it up by one call, and not part by part at each place where the holder
 /// may return early.
@@ -147,7 +152,7 @@ impl<'d> Model for RowsOf<'d> {
     ghost use Rattle.sj_select.specs.Sources.{IsFor, IsReadySource, source_left, source_due};
     ghost use Rattle.sj_select.specs.Stages.{left_at, due_at};
 
-    ghost view = { λ r. record { bound = r.bound.now; line = line_of r.line; left = left_at r.stage (source_left (bound_of r.bound.now) (line_of r.line) r.source); row = r.source.stack.values.items; due = due_at r.stage (source_due (bound_of r.bound.now) (line_of r.line) r.source) } };
+    ghost view = { λ r. record { bound = r.bound.now; line = line_of r.line; left = left_at r.stage (source_left (bound_of r.bound.now) (line_of r.line) r.source); due = due_at r.stage (source_due (bound_of r.bound.now) (line_of r.line) r.source) } };
 
     ghost invariant = { λ r. IsReadySource r.source × IsFor (bound_of r.bound.now) r.source };
 }
@@ -162,7 +167,6 @@ impl<'d> RowsOf<'d> {
         ensures bound { IfOk result (λ r. r.bound ≡ bound.now) }
         ensures line { IfOk result (λ r. r.line ≡ line_of line.entry) }
         ensures left { IfOk result (λ r. r.left ≡ statement_rows (bound_of bound.now) (line_of line.entry)) }
-        ensures row { IfOk result (λ r. r.row ≡ []) }
         ensures due { IfOk result (λ r. r.due ≡ statement_cost (bound_of bound.now) (line_of line.entry)) }
     {
         let mut source = RowSource::new(alloc, bound)?;
@@ -182,7 +186,6 @@ impl<'d> RowsOf<'d> {
         ensures bound { self.new.bound ≡ self.old.bound }
         ensures line { self.new.line ≡ line_of line.entry }
         ensures left { self.new.left ≡ statement_rows (bound_of self.old.bound) (line_of line.entry) }
-        ensures row { self.new.row ≡ [] }
         ensures due { self.new.due ≡ statement_cost (bound_of self.old.bound) (line_of line.entry) }
     {
         self.line = line;
@@ -190,24 +193,61 @@ impl<'d> RowsOf<'d> {
         self.source.rewind(line);
     }
 
-    /// Goes to the next row, or tells the end. After an end the same end comes again, without a step. What is due never grows, and
-    /// the counter rises by no more than it falls.
+    /// Appends the text of the next row, which has this number of a line and of a statement, or tells the end. After an end the same end
+    /// comes again, without a step. What is due never grows, and the counter rises by no more than it falls.
     ///
     /// # Errors
-    /// [`Memory`] where memory runs out. What is said of the counter holds then too. The rows then stand anywhere, and are rewound before
-    /// they are used again.
+    /// [`Memory`] where memory runs out. `out` stays as it was, and what is said of the counter holds. The rows then stand anywhere, and are
+    /// rewound before they are used again.
     #[inline(always)]
-    pub fn next<L: Ledger>(&mut self, steps: &mut Steps<L>) -> Result<Turn, Memory>
+    pub fn print<L: Ledger>(
+        &mut self,
+        out: &mut Bytes,
+        number: u64,
+        statement: u32,
+        steps: &mut Steps<L>,
+    ) -> Result<Turn, Memory>
         ensures gives { IfOk result (Gives self.old self.new) }
+        ensures text { OnOk result (out.new ≡ out.old ++ next_text number statement self.old.left) }
+        ensures err { OnErr result (out.new ≡ out.old) }
         ensures spends { Spends self.old.due self.new.due steps.old steps.new }
         ensures bound { self.new.bound ≡ self.old.bound }
         ensures line { self.new.line ≡ self.old.line }
     {
+        let start = out.len();
+        match self.print_behind(start, out, number, statement, steps) {
+            Ok(turn) => Ok(turn),
+            Err(memory) => {
+                out.truncate(start);
+                Err(memory)
+            }
+        }
+    }
+
+    // The same, behind the place. Where memory runs out, something may stand there.
+    #[inline(always)]
+    fn print_behind<L: Ledger>(
+        &mut self,
+        start: usize,
+        out: &mut Bytes,
+        number: u64,
+        statement: u32,
+        steps: &mut Steps<L>,
+    ) -> Result<Turn, Memory>
+        requires { start ≡ length out.old }
+        ensures gives { IfOk result (Gives self.old self.new) }
+        ensures text { OnOk result (out.new ≡ out.old ++ next_text number statement self.old.left) }
+        ensures err { OnErr result (Extends out.old out.new) }
+        ensures spends { Spends self.old.due self.new.due steps.old steps.new }
+        ensures bound { self.new.bound ≡ self.old.bound }
+        ensures line { self.new.line ≡ self.old.line }
+    {
+        begin_row(out, number, statement)?;
         // Where memory runs out, nothing is left.
         let stage = mem::replace(&mut self.stage, Stage::Ended);
-        let found = stage.find(self.alloc, &mut self.source, self.line, steps)?;
+        let found = stage.print(self.alloc, &mut self.source, self.line, out, steps)?;
+        end_text(out, start, found)?;
         self.stage = Stage::behind(found);
-        keep_row(found, &mut self.source.stack);
         Ok(Turn::of(found))
     }
 
@@ -222,28 +262,5 @@ impl<'d> RowsOf<'d> {
             Stage::Ended => true,
             Stage::Going | Stage::Raised(_) => false,
         }
-    }
-
-    /// Lends the row just given, whose values can be printed. Before the first row and after an end it is empty.
-    #[inline(always)]
-    pub fn row(&self) -> &[SqlValue]
-        ensures is { result.now ≡ self.now.row }
-        ensures printable { All IsPrintable result.now }
-    {
-        self.source.stack.values.as_slice()
-    }
-
-    /// Takes the row just given, whose values can be printed. Before the first row and after an end it is empty. Then no row is at hand;
-    /// what is left, and what is due, stays.
-    pub fn take_row(&mut self) -> Vec<SqlValue>
-        ensures is { result.items ≡ self.old.row }
-        ensures printable { All IsPrintable result.items }
-        ensures row { self.new.row ≡ [] }
-        ensures left { self.new.left ≡ self.old.left }
-        ensures due { self.new.due ≡ self.old.due }
-        ensures bound { self.new.bound ≡ self.old.bound }
-        ensures line { self.new.line ≡ self.old.line }
-    {
-        mem::replace(&mut self.source.stack.values, Vec::new(self.alloc))
     }
 }

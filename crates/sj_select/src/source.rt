@@ -1,7 +1,8 @@
 // What the rows of a statement are made of, and how the next one is found.
-ghost use Rattle.std.specs.Prelude.{◌≡◌, ◌≤◌, ℕ, ◌+◌, [], List, All, IfOk, map};
+ghost use Rattle.std.specs.Prelude.{◌≡◌, ◌≤◌, ℕ, ◌+◌, [], List, All, IfOk, OnErr, map};
 ghost use Rattle.sj_base.specs.Count.{raised};
 ghost use Rattle.sj_value.specs.Values.{IsPrintable};
+ghost use Rattle.sj_rows.specs.RowText.{Extends};
 ghost use Rattle.sj_value.specs.declared.value.SqlValue.{SqlValue as Value};
 ghost use Rattle.sj_table.specs.Takes.{Spends};
 ghost use Rattle.sj_bound.specs.Bound as b;
@@ -13,15 +14,16 @@ ghost use Rattle.sj_select_list.specs.Performing.{CanBeGiven};
 ghost use Rattle.sj_select_list.specs.Taking.{IsReady, HasTaken, aggregate_of};
 ghost use Rattle.sj_select_list.specs.Values.{given_list, list_cost};
 ghost use Rattle.sj_select.specs.Rows.{StatementRows, one_row, listed, aggregated, aggregated_cost, statement_rows, statement_cost};
-ghost use Rattle.sj_select.specs.Sources.{IsFor, IsReadySource, source_left, source_due, listed_due, due_behind, Finds, TakesRow, TakesRows, taken_cost};
+ghost use Rattle.sj_select.specs.Sources.{IsFor, IsReadySource, source_left, source_due, listed_due, due_behind, Prints, TakesRow, TakesRows, taken_cost};
 ghost use Rattle.sj_select.specs.Tables.{IsPlaced, plan_left, plan_due};
 
 use crate::table::TableRows;
-use sj_base::{Ledger, Memory, State, Steps, boxed};
+use sj_base::{Bytes, Ledger, Memory, State, Steps, boxed};
 use sj_bound::Bound;
+use sj_rows::fields_text;
 use sj_select_list::{
-    Aggregate, LineDoc, Operation, Stack, aggregates_of, begin_all, find_list, finish_all,
-    operations_of, take_all,
+    Aggregate, LineDoc, Operation, Stack, aggregates_of, begin_all, finish_all, operations_of,
+    print_list, take_all,
 };
 use sj_table::RowPull;
 use std::alloc::Global;
@@ -48,7 +50,7 @@ pub(crate) struct RowSource<'d> {
     pub(crate) operations: Vec<Operation<'d>>,
     /// The aggregates of the SELECT list.
     pub(crate) aggregates: Vec<Aggregate<'d>>,
-    /// The values of the row that was found last.
+    /// Where values are found that are made of others, and those of aggregates.
     pub(crate) stack: Stack,
 }
 
@@ -81,64 +83,67 @@ impl<'d> RowSource<'d> {
         ensures left { (s : b.Bound) → IsFor s self.old → source_left s (line_of line.entry) self.new ≡ statement_rows s (line_of line.entry) }
         ensures due { (s : b.Bound) → IsFor s self.old → source_due s (line_of line.entry) self.new ≡ statement_cost s (line_of line.entry) }
         ensures is_for { (s : b.Bound) → IsFor s self.old → IsFor s self.new }
-        ensures empty { self.new.stack.values.items ≡ [] }
         ensures ready { IsReadySource self.new }
     {
         if let Some(table) = &mut self.table {
             table.rewind(line.context());
         }
-        self.stack.clear();
     }
 
-    /// What comes next of the rows for a line, which is that of the last rewinding. The counter rises by no more than what may still be
-    /// taken falls.
+    /// Appends the fields of what comes next of the rows for a line, which is that of the last rewinding. The counter rises by no more than
+    /// what may still be taken falls.
     ///
     /// # Errors
     /// [`Memory`] where memory runs out. The rows then stand anywhere.
     #[inline(always)]
-    pub(crate) fn find<L: Ledger>(
+    pub(crate) fn print<L: Ledger>(
         &mut self,
         alloc: Global,
         line: LineDoc<'d>,
+        out: &mut Bytes,
         steps: &mut Steps<L>,
     ) -> Result<Found, Memory>
         requires { IsReadySource self.old }
-        ensures finds { (s : b.Bound) → IsFor s self.old → IfOk result (λ found. Finds (source_left s (line_of line.entry) self.old) found self.new.stack.values.items (source_left s (line_of line.entry) self.new)) }
+        ensures prints { (s : b.Bound) → IsFor s self.old → IfOk result (λ found. Prints (source_left s (line_of line.entry) self.old) found out.old out.new (source_left s (line_of line.entry) self.new)) }
+        ensures err { (s : b.Bound) → IsFor s self.old → OnErr result (Extends out.old out.new) }
         ensures costs { (s : b.Bound) → IsFor s self.old → Spends (source_due s (line_of line.entry) self.old) (due_behind result (source_due s (line_of line.entry) self.new)) steps.old steps.new }
         ensures is_for { (s : b.Bound) → IsFor s self.old → IsFor s self.new }
         ensures ready { IsReadySource self.new }
     {
         let operations = self.operations.as_mut_slice();
         let Some(table) = &mut self.table else {
-            return find_alone(alloc, operations, line, &mut self.stack, steps);
+            return print_alone(alloc, operations, line, out, &mut self.stack, steps);
         };
         if self.aggregates.is_empty() {
-            find_listed(alloc, table, operations, line, &mut self.stack, steps)
+            print_listed(alloc, table, operations, line, out, &mut self.stack, steps)
         } else {
             let aggregates = self.aggregates.as_mut_slice();
-            find_aggregated(alloc, table, aggregates, line, &mut self.stack, steps)
+            print_aggregated(alloc, table, aggregates, line, out, &mut self.stack, steps)
         }
     }
 }
 
 // The row of a statement without a table.
 #[inline(always)]
-fn find_alone<'d, L: Ledger>(
+fn print_alone<'d, L: Ledger>(
     alloc: Global,
     operations: &mut [Operation<'d>],
     line: LineDoc<'d>,
+    out: &mut Bytes,
     stack: &mut Stack,
     steps: &mut Steps<L>,
 ) -> Result<Found, Memory>
-    requires { All CanBeGiven (steps_of operations.old) }
-    ensures finds { (list : List b.Value) (left : StatementRows) → steps_of operations.old ≡ steps_to_all list →
-        IfOk result (λ found. Finds (one_row (given_list (line_of line.entry) [] list)) found stack.new.values.items left) }
+    requires given { All CanBeGiven (steps_of operations.old) }
+    requires printable { All IsPrintable stack.old.values.items }
+    ensures prints { (list : List b.Value) (left : StatementRows) → steps_of operations.old ≡ steps_to_all list →
+        IfOk result (λ found. Prints (one_row (given_list (line_of line.entry) [] list)) found out.old out.new left) }
+    ensures err { (list : List b.Value) → steps_of operations.old ≡ steps_to_all list → OnErr result (Extends out.old out.new) }
     ensures costs { (list : List b.Value) (due : ℕ) → steps_of operations.old ≡ steps_to_all list →
         Spends (list_cost (line_of line.entry) [] list) (due_behind result due) steps.old steps.new }
     ensures steps { steps_of operations.new ≡ steps_of operations.old }
     ensures printable { All IsPrintable stack.new.values.items }
 {
-    match find_list(alloc, operations, line, &[], stack, steps)? {
+    match print_list(alloc, operations, line, &[], out, stack, steps)? {
         None => Ok(Found::LastRow),
         Some(state) => Ok(Found::Raised(state)),
     }
@@ -146,19 +151,22 @@ fn find_alone<'d, L: Ledger>(
 
 // The next row of a table, beside which the SELECT list is found.
 #[inline(never)]
-fn find_listed<'d, L: Ledger>(
+fn print_listed<'d, L: Ledger>(
     alloc: Global,
     table: &mut TableRows<'d>,
     operations: &mut [Operation<'d>],
     line: LineDoc<'d>,
+    out: &mut Bytes,
     stack: &mut Stack,
     steps: &mut Steps<L>,
 ) -> Result<Found, Memory>
     requires placed { IsPlaced table.old }
     requires given { All CanBeGiven (steps_of operations.old) }
-    ensures finds { (list : List b.Value) → steps_of operations.old ≡ steps_to_all list →
-        IfOk result (λ found. Finds (listed (line_of line.entry) (table_of table.old.table.now) list (plan_left table.old)) found stack.new.values.items
+    requires printable { All IsPrintable stack.old.values.items }
+    ensures prints { (list : List b.Value) → steps_of operations.old ≡ steps_to_all list →
+        IfOk result (λ found. Prints (listed (line_of line.entry) (table_of table.old.table.now) list (plan_left table.old)) found out.old out.new
         (listed (line_of line.entry) (table_of table.old.table.now) list (plan_left table.new))) }
+    ensures err { (list : List b.Value) → steps_of operations.old ≡ steps_to_all list → OnErr result (Extends out.old out.new) }
     ensures costs { (list : List b.Value) → steps_of operations.old ≡ steps_to_all list →
         Spends (listed_due (line_of line.entry) list table.old) (due_behind result (listed_due (line_of line.entry) list table.new)) steps.old steps.new }
     ensures steps { steps_of operations.new ≡ steps_of operations.old }
@@ -166,7 +174,6 @@ fn find_listed<'d, L: Ledger>(
     ensures table { table.new.table ≡ table.old.table }
     ensures placed { IsPlaced table.new }
 {
-    stack.clear();
     match table.next_row(steps) {
         RowPull::Row => {}
         RowPull::End => return Ok(Found::End),
@@ -175,7 +182,7 @@ fn find_listed<'d, L: Ledger>(
     if let Some(state) = table.fill(alloc, steps)? {
         return Ok(Found::Raised(state));
     }
-    match find_list(alloc, operations, line, table.values(), stack, steps)? {
+    match print_list(alloc, operations, line, table.values(), out, stack, steps)? {
         None => Ok(Found::Row),
         Some(state) => Ok(Found::Raised(state)),
     }
@@ -183,17 +190,19 @@ fn find_listed<'d, L: Ledger>(
 
 // The one row of the aggregates over all rows of a table that are left.
 #[inline(never)]
-fn find_aggregated<'d, L: Ledger>(
+fn print_aggregated<'d, L: Ledger>(
     alloc: Global,
     table: &mut TableRows<'d>,
     aggregates: &mut [Aggregate<'d>],
     line: LineDoc<'d>,
+    out: &mut Bytes,
     stack: &mut Stack,
     steps: &mut Steps<L>,
 ) -> Result<Found, Memory>
     requires placed { IsPlaced table.old }
     requires ready { All IsReady aggregates.old }
-    ensures finds { (left : StatementRows) → IfOk result (λ found. Finds (aggregated (line_of line.entry) (table_of table.old.table.now) (map aggregate_of aggregates.old) [] (plan_left table.old)) found stack.new.values.items left) }
+    ensures prints { (left : StatementRows) → IfOk result (λ found. Prints (aggregated (line_of line.entry) (table_of table.old.table.now) (map aggregate_of aggregates.old) [] (plan_left table.old)) found out.old out.new left) }
+    ensures err { OnErr result (Extends out.old out.new) }
     ensures costs { (due : ℕ) → Spends (plan_due table.old + aggregated_cost (line_of line.entry) (table_of table.old.table.now) (map aggregate_of aggregates.old) [] (plan_left table.old)) (due_behind result due) steps.old steps.new }
     ensures calls { map aggregate_of aggregates.new ≡ map aggregate_of aggregates.old }
     ensures ready { All IsReady aggregates.new }
@@ -206,6 +215,7 @@ fn find_aggregated<'d, L: Ledger>(
         return Ok(Found::Raised(state));
     }
     finish_all(alloc, aggregates, &mut stack.values)?;
+    fields_text(out, stack.values.as_slice())?;
     Ok(Found::LastRow)
 }
 

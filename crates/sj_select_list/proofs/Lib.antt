@@ -14,3 +14,5 @@ mod Predicates
 mod Printed
 -- for crates above
 pub mod SoundOperations
+-- for `print_each`, `print_list` and `print_found`
+mod PrintedFields

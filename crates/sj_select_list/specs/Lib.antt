@@ -4,4 +4,5 @@ pub mod Aggregates
 pub mod Operations
 pub mod Performing
 pub mod Gathers
+pub mod Printing
 pub mod Taking

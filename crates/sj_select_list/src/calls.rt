@@ -1,6 +1,7 @@
 // The functions that have a path, on a context item.
 ghost use Rattle.std.specs.Prelude.{◌≡◌, ◌≤◌, All, IfOk};
 ghost use Rattle.sj_base.specs.Count.{raised};
+ghost use Rattle.sj_func.specs.Fields.{AppendsOutcome};
 ghost use Rattle.sj_func.specs.Functions.{context_value, exists_outcome, exists_cost, value_outcome, value_cost, query_outcome, query_cost, IsPrinted};
 ghost use Rattle.sj_value.specs.Clauses.{IsValueSpec};
 ghost use Rattle.sj_value.specs.Values.{IsPrintable};
@@ -12,8 +13,10 @@ ghost use Rattle.sj_select_list.specs.Values.{trace_of};
 use crate::line::LineDoc;
 use crate::operation::{ExistsCall, QueryCall, ValueCall};
 use crate::stack::Stack;
-use sj_base::{Ledger, Memory, State, Steps};
-use sj_func::{Context, Outcome, json_exists, json_query, json_value};
+use sj_base::{Bytes, Ledger, Memory, State, Steps};
+use sj_func::{
+    Context, Outcome, json_exists, json_query, json_value, json_value_field, outcome_field,
+};
 use std::alloc::Global;
 
 impl<'d> ExistsCall<'d> {
@@ -44,6 +47,22 @@ impl<'d> ExistsCall<'d> {
     {
         let outcome = self.outcome(line.context(), steps);
         stack.put(outcome)
+    }
+
+    /// Appends a TAB and the field of the value, or gives the state that it raises.
+    #[inline(never)]
+    pub(crate) fn print<L: Ledger>(
+        &mut self,
+        line: LineDoc<'d>,
+        out: &mut Bytes,
+        steps: &mut Steps<L>,
+    ) -> Result<Option<State>, Memory>
+        ensures appends { let x = path_with self.old.cursor.value in AppendsOutcome (exists_outcome self.old.on_error x.path.mode (context (line_of line.entry)) (trace_of x)) result out.old out.new }
+        ensures costs { let x = path_with self.old.cursor.value in steps.new ≤ raised steps.old (exists_cost x.path.mode (context (line_of line.entry)) (trace_of x)) }
+        ensures step { exists_step self.new ≡ exists_step self.old }
+    {
+        let outcome = self.outcome(line.context(), steps);
+        outcome_field(out, &outcome)
     }
 }
 
@@ -87,6 +106,30 @@ impl<'d> ValueCall<'d> {
         let outcome = self.outcome(alloc, line.context(), steps)?;
         stack.put(outcome)
     }
+
+    /// Appends a TAB and the field of the value, or gives the state that it raises.
+    #[inline(never)]
+    pub(crate) fn print<L: Ledger>(
+        &mut self,
+        alloc: Global,
+        line: LineDoc<'d>,
+        out: &mut Bytes,
+        steps: &mut Steps<L>,
+    ) -> Result<Option<State>, Memory>
+        requires { IsValueSpec self.old.clauses.now }
+        ensures appends { let x = path_with self.old.cursor.value in AppendsOutcome (value_outcome self.old.clauses.now x.path.mode (context (line_of line.entry)) (trace_of x)) result out.old out.new }
+        ensures costs { let x = path_with self.old.cursor.value in steps.new ≤ raised steps.old (value_cost x.path.mode (context (line_of line.entry)) (trace_of x)) }
+        ensures step { value_step self.new ≡ value_step self.old }
+    {
+        json_value_field(
+            alloc,
+            &mut *self.cursor,
+            line.context(),
+            self.clauses,
+            out,
+            steps,
+        )
+    }
 }
 
 impl<'d> QueryCall<'d> {
@@ -125,5 +168,22 @@ impl<'d> QueryCall<'d> {
     {
         let outcome = self.outcome(alloc, line.context(), steps)?;
         stack.put(outcome)
+    }
+
+    /// Appends a TAB and the field of the value, or gives the state that it raises.
+    #[inline(never)]
+    pub(crate) fn print<L: Ledger>(
+        &mut self,
+        alloc: Global,
+        line: LineDoc<'d>,
+        out: &mut Bytes,
+        steps: &mut Steps<L>,
+    ) -> Result<Option<State>, Memory>
+        ensures appends { let x = path_with self.old.cursor.value in AppendsOutcome (query_outcome self.old.clauses x.path.mode (context (line_of line.entry)) (trace_of x)) result out.old out.new }
+        ensures costs { let x = path_with self.old.cursor.value in steps.new ≤ raised steps.old (query_cost self.old.clauses.wrapper x.path.mode (context (line_of line.entry)) (trace_of x)) }
+        ensures step { query_step self.new ≡ query_step self.old }
+    {
+        let outcome = self.outcome(alloc, line.context(), steps)?;
+        outcome_field(out, &outcome)
     }
 }

@@ -28,7 +28,7 @@ use std::alloc::Global;
 /// # Errors
 /// [`Memory`] where memory runs out. What is said of the counter holds then too.
 #[inline(always)]
-pub fn find_list<'d, L: Ledger>(
+pub(crate) fn find_list<'d, L: Ledger>(
     alloc: Global,
     operations: &mut [Operation<'d>],
     line: LineDoc<'d>,
@@ -171,7 +171,7 @@ fn put_member(stack: &mut Stack) -> Result<Option<State>, Memory>
 }
 
 // A literal as a value: a number prints its plain text.
-fn literal_outcome(alloc: Global, literal: &Literal) -> Result<Outcome, Memory>
+pub(crate) fn literal_outcome(alloc: Global, literal: &Literal) -> Result<Outcome, Memory>
     ensures is { IfOk result (λ o. o ≡ meaning.literal_outcome literal.now) }
     ensures printed { IfOk result IsPrinted }
 {
@@ -199,7 +199,11 @@ fn column_outcome(alloc: Global, columns: &[SqlValue], number: u32) -> Result<Ou
 }
 
 // IS JSON or IS NOT JSON of a line.
-fn is_json_outcome(alloc: Global, doc: Option<&Doc>, call: IsJsonCall) -> Result<Outcome, Memory>
+pub(crate) fn is_json_outcome(
+    alloc: Global,
+    doc: Option<&Doc>,
+    call: IsJsonCall,
+) -> Result<Outcome, Memory>
     ensures is { IfOk result (λ o. o ≡ meaning.is_json_outcome call (option_map (λ d. d.now) doc.entry)) }
     ensures printed { IfOk result IsPrinted }
 {

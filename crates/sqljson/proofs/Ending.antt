@@ -8,7 +8,8 @@ use Rattle.sj_sql_grammar.specs.declared.refusal.FileKind.{FileKind}
 use Rattle.sj_bound.specs.Bound.{Bound}
 use Rattle.sj_generated.specs.Lines.{generated}
 use Rattle.sj_page.specs.Sides.{OutputSide, Grew}
-use Rattle.sj_page.specs.Pages.{PageSeen, PrintState}
+use Rattle.sj_page.specs.Pages.{PrintState}
+use Rattle.sj_page.specs.declared.page.Page.{Page}
 use Rattle.sj_page.proofs.Writing.{grew_none}
 use Rattle.sj_sql_grammar.specs.Answers.{max_file}
 use Rattle.sj_rows.specs.Lines.{max_input}
@@ -80,7 +81,7 @@ either f b a status file K Q shown accepts (inr d) h g = g (does_with f b a stat
 -- What holds where no file was accepted, and where its statements were run, holds of a run. So for the other two forms.
 on_run : (f : Option Form) (b a : Moment) (status : Status) (P : Keys → List Bound → Type 0) → Ran f b a status
     → ((keys : Keys) (K : List Bound) (name : List ℕ) → Idle name b a status → P keys K)
-    → ((keys : Keys) (K : List Bound) (page : PageSeen) → Streamed (job keys K) b.input a.input b.out (record { out = a.out; page = page }) status → P keys K)
+    → ((keys : Keys) (K : List Bound) (page : Page) → Streamed (job keys K) b.input a.input b.out (record { out = a.out; page = page }) status → P keys K)
     → IfRuns f b.shelf.files (λ keys file. IfAccepted file (P keys))
 on_run f b a status P r idle ran =
     for_run f b.shelf.files (λ keys file. IfAccepted file (P keys))

@@ -9,7 +9,7 @@ use Rattle.sj_bound.specs.declared.bound.Bound.{Bound as BoundHeld}
 use Rattle.sj_generated.specs.Lines.{most_lines, generated}
 use Rattle.sj_generated.proofs.Lengths.{generated_short}
 use Rattle.sj_page.specs.Sides.{OutputSide, Grew, Wrote, joined}
-use Rattle.sj_page.specs.Pages.{PageSeen}
+use Rattle.sj_page.specs.declared.page.Page.{Page}
 use Rattle.sj_file.specs.declared.job.Keys.TheVariants.{Any}
 use Rattle.sj_file.specs.declared.status.Status.{Status}
 use Rattle.sj_file.specs.declared.status.Status.TheVariants.{Done, Memory, WriteFault}
@@ -51,13 +51,13 @@ check_cut name s s' from o o' items r accepted w bad =
 -- ---- runs over generated lines
 
 -- a run over the generated lines, of which this is left, to a sink that counted so many bytes
-abbrev pub OverLines : ℕ → List Bound → List ℕ → ℕ → ℕ → ℕ → PageSeen → Status → Type 0
+abbrev pub OverLines : ℕ → List Bound → List ℕ → ℕ → ℕ → ℕ → Page → Status → Type 0
 OverLines number K rest steps steps' size page status =
     Streamed (job Any K) (record { left = Some (generated number); faults = 0; steps = steps }) (record { left = Some rest; faults = 0; steps = steps' })
     (record { taken = None; size = Some 0; faults = 0 }) (record { out = record { taken = None; size = Some size; faults = 0 }; page = page }) status
 
 -- the lines and the sink as they begin
-pub over_lines : (number : ℕ) (K : List Bound) (lines rest : List ℕ) (steps steps' start size : ℕ) (page : PageSeen) (status : Status) → lines ≡ generated number → start ≡ 0
+pub over_lines : (number : ℕ) (K : List Bound) (lines rest : List ℕ) (steps steps' start size : ℕ) (page : Page) (status : Status) → lines ≡ generated number → start ≡ 0
     → Streamed (job Any K) (record { left = Some lines; faults = 0; steps = steps }) (record { left = Some rest; faults = 0; steps = steps' })
     (record { taken = None; size = Some start; faults = 0 }) (record { out = record { taken = None; size = Some size; faults = 0 }; page = page }) status
     → OverLines number K rest steps steps' size page status
@@ -65,13 +65,13 @@ over_lines number K lines rest steps steps' start size page status these none s 
     subst (λ (z : ℕ). Streamed (job Any K) (record { left = Some (generated number); faults = 0; steps = steps }) (record { left = Some rest; faults = 0; steps = steps' }) (record { taken = None; size = Some z; faults = 0 }) (record { out = record { taken = None; size = Some size; faults = 0 }; page = page }) status) none
     (subst (λ (l : List ℕ). Streamed (job Any K) (record { left = Some l; faults = 0; steps = steps }) (record { left = Some rest; faults = 0; steps = steps' }) (record { taken = None; size = Some start; faults = 0 }) (record { out = record { taken = None; size = Some size; faults = 0 }; page = page }) status) these s)
 
-steps_over : (number : ℕ) (K : List Bound) (rest : List ℕ) (steps steps' size : ℕ) (page : PageSeen) (status : Status) → OverLines number K rest steps steps' size page status → steps' ≤ raised steps (allowed (job Any K) (generated number))
+steps_over : (number : ℕ) (K : List Bound) (rest : List ℕ) (steps steps' size : ℕ) (page : Page) (status : Status) → OverLines number K rest steps steps' size page status → steps' ≤ raised steps (allowed (job Any K) (generated number))
 steps_over number K rest steps steps' size page status s =
     let t = told (Some (generated number)) (Some rest) (generated number) s.bytes refl s.consumed in
     subst (λ (l : List ℕ). steps' ≤ raised steps (allowed (job Any K) l)) (sym t.2) (s.costs_of_all t.0 t.1)
 
 -- the numbers are those of the output
-summed : (number : ℕ) (K : List Bound) (rest : List ℕ) (steps steps' size : ℕ) (page : PageSeen) → OverLines number K rest steps steps' size page Done → counts_text number page.rows page.errors size ≡ summary_text number K
+summed : (number : ℕ) (K : List Bound) (rest : List ℕ) (steps steps' size : ℕ) (page : Page) → OverLines number K rest steps steps' size page Done → counts_text number page.rows page.errors size ≡ summary_text number K
 summed number K rest steps steps' size page s =
     let bytes : s.bytes ≡ generated number = all_taken (Some (generated number)) (Some rest) (generated number) s.bytes refl s.consumed s.why.1 in
     let rows : page.rows ≡ u64_saturate (rows_in (asked (job Any K) (generated number))) = s.why.5.rows ∙ ap (λ (b : List ℕ). u64_saturate (rows_in (asked (job Any K) b))) bytes in
@@ -85,7 +85,7 @@ abbrev pub RanLines : ℕ → List ℕ → ShelfSide → ShelfSide → Option (L
 RanLines number name s s' left faults steps steps' o o' status =
     Ran (Some (generating number name)) (moment s (record { left = left; faults = faults; steps = steps }) o) (moment s' (record { left = left; faults = faults; steps = steps' }) o') status
 
-pub lines_done : {T E : Type 0} (number : ℕ) (name : List ℕ) (s s' : ShelfSide) (left : Option (List ℕ)) (faults steps steps' size : ℕ) (o o' : OutputSide) (K : List Bound) (rest : List ℕ) (page : PageSeen) (r : Result T E) (x : T)
+pub lines_done : {T E : Type 0} (number : ℕ) (name : List ℕ) (s s' : ShelfSide) (left : Option (List ℕ)) (faults steps steps' size : ℕ) (o o' : OutputSide) (K : List Bound) (rest : List ℕ) (page : Page) (r : Result T E) (x : T)
     → Accepted name s s' K → OverLines number K rest steps steps' size page Done → Wrote o o' (counts_text number page.rows page.errors size) r → r ≡ Ok x → RanLines number name s s' left faults steps steps' o o' Done
 lines_done number name s s' left faults steps steps' size o o' K rest page r x accepted over w ok = inr (record {
   statements = K;
@@ -96,7 +96,7 @@ lines_done number name s s' left faults steps steps' size o o' K rest page r x a
   );
 })
 
-pub lines_cut : {T E : Type 0} (number : ℕ) (name : List ℕ) (s s' : ShelfSide) (left : Option (List ℕ)) (faults steps steps' size : ℕ) (o o' : OutputSide) (K : List Bound) (rest : List ℕ) (page : PageSeen) (r : Result T E)
+pub lines_cut : {T E : Type 0} (number : ℕ) (name : List ℕ) (s s' : ShelfSide) (left : Option (List ℕ)) (faults steps steps' size : ℕ) (o o' : OutputSide) (K : List Bound) (rest : List ℕ) (page : Page) (r : Result T E)
     → Accepted name s s' K → OverLines number K rest steps steps' size page Done → Wrote o o' (counts_text number page.rows page.errors size) r → (IsOk r → ⊥) → RanLines number name s s' left faults steps steps' o o' WriteFault
 lines_cut number name s s' left faults steps steps' size o o' K rest page r accepted over w bad = inr (record {
   statements = K;
@@ -108,7 +108,7 @@ lines_cut number name s s' left faults steps steps' size o o' K rest page r acce
 })
 
 -- nothing but being out of memory stops it
-pub lines_stopped : (number : ℕ) (name : List ℕ) (s s' : ShelfSide) (left : Option (List ℕ)) (faults steps steps' size : ℕ) (o : OutputSide) (K : List Bound) (rest : List ℕ) (page : PageSeen) (status : Status)
+pub lines_stopped : (number : ℕ) (name : List ℕ) (s s' : ShelfSide) (left : Option (List ℕ)) (faults steps steps' size : ℕ) (o : OutputSide) (K : List Bound) (rest : List ℕ) (page : Page) (status : Status)
     → number ≤ most_lines → Accepted name s s' K → OverLines number K rest steps steps' size page status → status ≢ Done → RanLines number name s s' left faults steps steps' o o status
 lines_stopped number name s s' left faults steps steps' size o K rest page status few accepted over not_done = by_status (streamed_complete (job Any K) _ _ _ _ status (generated number) refl (generated_short number few) (λ rose. omega (arith, rose)) (λ rose. omega (arith, rose)) over)
   where

@@ -1,0 +1,114 @@
+// The fields of items that are cast.
+ghost use Rattle.std.specs.Prelude.{◌≡◌, ◌<◌, length, IfSome};
+ghost use Rattle.sj_json.specs.Tree.{string, number};
+ghost use Rattle.sj_doc.specs.Nodes.{spelled};
+ghost use Rattle.sj_item.specs.Items.{item_value};
+ghost use Rattle.sj_value.specs.Casts.{cast_of, tree_cast};
+ghost use Rattle.sj_value.specs.Types.{IsCastType};
+ghost use Rattle.sj_value.specs.declared.value.SqlValue.TheVariants.{Text};
+ghost use Rattle.sj_rows.specs.RowText.{AppendsCast};
+ghost use Rattle.sj_rows.specs.Numerals.{room, HasDigits, GivesField, IsFieldOf};
+
+use crate::field::{tabbed_bytes, tabbed_text};
+use crate::numeral::{MOST_DIGITS, ROOM, fixed_point, plain_point, tabbed_digits, whole_end};
+use crate::window::push_front;
+use sj_base::Bytes;
+use sj_doc::Kind;
+use sj_item::Item;
+use sj_value::{CastRefusal, SqlType, cast};
+use std::alloc::Global;
+
+/// Appends a TAB and the field of an item as a value of a type, by the table of casts (`sj_value::cast`).
+///
+/// # Errors
+/// `State` exactly where the table refuses the item, with its state: `out` stays as it was. `Memory` where memory ran
+/// out: what stood in `out` stays, and something may stand behind it.
+pub fn tabbed_cast<'d>(
+    alloc: Global,
+    out: &mut Bytes,
+    item: Item<'d>,
+    ty: SqlType,
+) -> Result<(), CastRefusal>
+    requires { IsCastType ty }
+    ensures { AppendsCast (cast_of (item_value item.entry) ty) result out.old out.new }
+{
+    // The bytes of most fields stand in the document, and are copied from there.
+    if let Item::Node(node) = item {
+        match node.kind() {
+            Kind::String => {
+                if let Some(bytes) = whole_text(node.text(), ty) {
+                    tabbed_bytes(out, bytes)?;
+                    return Ok(());
+                }
+            }
+            Kind::Number => {
+                let numeral = node.numeral().as_bytes();
+                if let Some(window) = numeral_field(numeral, ty) {
+                    push_front(out, &window, numeral.len() + 1)?;
+                    return Ok(());
+                }
+            }
+            _ => {}
+        }
+    }
+    tabbed_value(alloc, out, item, ty)
+}
+
+// The same for every item, over the value that the cast makes.
+#[inline(never)]
+fn tabbed_value<'d>(
+    alloc: Global,
+    out: &mut Bytes,
+    item: Item<'d>,
+    ty: SqlType,
+) -> Result<(), CastRefusal>
+    requires { IsCastType ty }
+    ensures { AppendsCast (cast_of (item_value item.entry) ty) result out.old out.new }
+{
+    let value = cast(alloc, item, ty)?;
+    tabbed_text(out, &value)?;
+    Ok(())
+}
+
+// The bytes of a string, where the type takes its text as it stands.
+#[inline(always)]
+fn whole_text(text: &str, ty: SqlType) -> Option<&[u8]>
+    ensures { IfSome result (λ bytes. tree_cast (string text.now) ty ≡ Ok (Text bytes.now)) }
+{
+    let bytes = text.as_bytes();
+    match ty {
+        SqlType::Varchar => Some(bytes),
+        // It has no more characters than bytes.
+        SqlType::VarcharMax(n) if bytes.len() <= n as usize => Some(bytes),
+        _ => None,
+    }
+}
+
+// A TAB and a numeral behind it, where the type prints its number with the same bytes.
+#[inline(always)]
+fn numeral_field(numeral: &[u8], ty: SqlType) -> Option<[u8; ROOM]>
+    requires { IsCastType ty }
+    ensures { IfSome result (λ window. IsFieldOf (tree_cast (number (spelled numeral.now)) ty) numeral.now window) }
+{
+    let point = numeral_point(numeral, ty)?;
+    tabbed_digits(numeral, point)
+}
+
+// Where such a numeral has its point, or ends without one. That its other bytes are digits is still to be seen.
+#[inline(always)]
+fn numeral_point(numeral: &[u8], ty: SqlType) -> Option<usize>
+    requires { IsCastType ty }
+    ensures short { IfSome result (λ point. length numeral.now < room) }
+    ensures field { IfSome result (λ point. HasDigits point numeral.now → GivesField (tree_cast (number (spelled numeral.now)) ty) numeral.now) }
+{
+    match ty {
+        // A number of so few digits is in the bounds of the type.
+        SqlType::Integer => whole_end(numeral, 9),
+        SqlType::Bigint => whole_end(numeral, MOST_DIGITS),
+        // What the call gives is put together anew, so that the others do not go through memory.
+        SqlType::Numeric | SqlType::Varchar => Some(plain_point(numeral)?),
+        SqlType::VarcharMax(n) if numeral.len() <= n as usize => Some(plain_point(numeral)?),
+        SqlType::NumericFixed(digits, places) => fixed_point(numeral, digits, places),
+        _ => None,
+    }
+}
