@@ -2,7 +2,7 @@
 ghost use Rattle.std.specs.Prelude.{◌≡◌, ◌≤◌};
 ghost use Rattle.sj_base.specs.Count.{raised};
 ghost use Rattle.sj_cursor.specs.Answers.{exists_answer, single_value, answer_in};
-ghost use Rattle.sj_plain_path.specs.Looks.{Finds, look_value, nodes_look};
+ghost use Rattle.sj_plain_path.specs.Looks.{Finds, limit_of_single, look_value, nodes_look};
 ghost use Rattle.sj_cursor.specs.Looks.{single_in};
 ghost use Rattle.sj_cursor.specs.Single.{need, single};
 
@@ -36,6 +36,7 @@ impl<'d> Cursor<'d> {
     /// # Errors
     /// `several` where there are several items, and the state of a fault. In lax mode several items come first, and in strict mode
     /// a fault does.
+    #[inline(always)]
     pub fn single<L: Ledger>(
         &mut self,
         several: State,
@@ -52,8 +53,28 @@ impl<'d> Cursor<'d> {
             (Stands::AtTheBeginning, Some(chain), Item::Node(root)) => {
                 single_node(chain.nodes(*root, limit, steps), several)
             }
-            _ => single_or_fault(self.look_on(limit, steps), several),
+            // Its answer is made anew here. Else this call would be handed the place of the other arm's answer, which could then not
+            // stay in registers.
+            _ => Ok(self.single_on(limit, several, steps)?),
         }
+    }
+
+    // The same, cell by cell.
+    #[inline(never)]
+    fn single_on<L: Ledger>(
+        &mut self,
+        limit: Limit,
+        several: State,
+        steps: &mut Steps<L>,
+    ) -> Result<Option<Item<'d>>, State>
+        requires { limit ≡ limit_of_single self.old.path.mode }
+        ensures answers { single_value result ≡ single self.old.path.mode several self.old.left }
+        ensures costs { steps.new ≤ raised steps.old (need self.old.path.mode 2 self.old.left) }
+        ensures path { self.new.path ≡ self.old.path }
+        ensures vars { self.new.vars ≡ self.old.vars }
+        ensures root { self.new.root ≡ self.old.root }
+    {
+        single_or_fault(self.look_on(limit, steps), several)
     }
 
     // Goes on until enough was found. A plain path is gone through without cells, from its beginning on.

@@ -17,9 +17,3 @@ returns-in-AtTheBeginning-Some-Node-clause-answers g c =
 pub returns-in-AtTheBeginning-Some-Node-clause-costs : goal.returns-in-AtTheBeginning-Some-Node-clause-costs
 returns-in-AtTheBeginning-Some-Node-clause-costs g c =
     single_price _ _ _ _ _ (rw (c.of_single-limit.ensures, c.mode.ensures) at (finds g (goal.at.returns-in-AtTheBeginning-Some-Node-clause-costs g c).After-nodes))
-
-pub returns-in_default-clause-answers : goal.returns-in_default-clause-answers
-returns-in_default-clause-answers g c = c.single_or_fault.ensures ∙ single_answer _ _ _ _ _ _ (rw (c.of_single-limit.ensures, c.mode.ensures) at c.look_on.ensures.finds)
-
-pub returns-in_default-clause-costs : goal.returns-in_default-clause-costs
-returns-in_default-clause-costs g c = single_price _ _ _ _ _ (rw (c.of_single-limit.ensures, c.mode.ensures) at c.look_on.ensures.finds)
