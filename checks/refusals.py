@@ -30,16 +30,21 @@ AS_IT_WAS, LONGER, BY_CLAUSES = "as it was", "as it was, and a front of the text
 # The arguments of which a call that is out of memory says only in part what they are, and why that does.
 LEFT_ANYWHERE = {
     ("json_value", "cursor"): "it is rewound before its next use",
+    ("json_value_field", "cursor"): "it is rewound before its next use",
     ("json_query", "cursor"): "it is rewound before its next use",
-    ("find_list", "operations"): "their cursors are rewound before their next use",
-    ("find_list", "stack"): "it is cleared before its next use",
+    ("tabbed_cast", "out"): "it is cut back to what stood there",
+    ("outcome_field", "out"): "it is cut back to what stood there",
+    ("json_value_field", "out"): "it is cut back to what stood there",
+    ("print_list", "out"): "it is cut back to what stood there",
+    ("print_list", "operations"): "their cursors are rewound before their next use",
+    ("print_list", "stack"): "it is cleared before its next use",
     ("take_all", "all"): "they begin anew before their next use",
     ("take_all", "stack"): "it is cleared before its next use",
     ("finish_all", "all"): "they begin anew before their next use",
     ("finish_all", "values"): "they are cleared before their next use",
     ("ValueCall::outcome", "self"): "its cursor is rewound before its next use",
     ("QueryCall::outcome", "self"): "its cursor is rewound before its next use",
-    ("RowsOf::next", "self"): "the rows are rewound before their next use",
+    ("RowsOf::print", "self"): "the rows are rewound before their next use",
 }
 INTRODUCTION = """# What a refused call leaves
 
