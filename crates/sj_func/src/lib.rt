@@ -4,7 +4,7 @@
 //! take. The calls here rewind a cursor on the item and ask it no further than they must.
 //!
 //! The crate stands on `sj_cursor` for paths on items, on `sj_value` for values, casts and the clauses of the
-//! functions, and on `sj_text` for the texts of items. It promises that each call gives exactly the outcome of the
+//! functions, on `sj_text` for the texts of items, and on `sj_rows` for fields of rows. It promises that each call gives exactly the outcome of the
 //! definitions, where memory suffices, and that the counter rises by no more than they allow.
 #![tactic(auto)]
 

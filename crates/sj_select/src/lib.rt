@@ -3,13 +3,14 @@
 //! The definitions are whole lists: `specs/Columns.antt` says what the columns of a table are in a row of its plan, and `specs/Rows.antt` which
 //! rows a statement has.
 //!
-//! [`RowsOf`] gives one row after another and keeps no list of them. Without a table the values of the SELECT list are the only row. Over a
+//! [`RowsOf`] prints one row after another and keeps no list of them. Without a table the values of the SELECT list are the only row. Over a
 //! table the columns of each row are found first, each by a cursor of its own that is moved to the item of the row; then the values of the
 //! SELECT list are found beside them, or the aggregates take them.
 //!
 //! The crate stands on `sj_bound` for statements, on `sj_select_list` for the values and the aggregates of a SELECT list, on `sj_table` for the
-//! rows of plans, and on `sj_func` for the outcomes of the query functions. It promises that the rows and the state behind them are exactly
-//! those of the definitions, where memory suffices, and that the counter rises by no more than they allow.
+//! rows of plans, on `sj_func` for the outcomes of the query functions, and on `sj_rows` for the texts of rows. It promises that the rows, their
+//! texts and the state behind them are exactly those of the definitions, where memory suffices, and that the counter rises by no more than they
+//! allow.
 #![tactic(auto)]
 
 mod columns;
