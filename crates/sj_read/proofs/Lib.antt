@@ -2,10 +2,10 @@
 pub mod Ascii
 -- for `far_string_end`, `string_end` and `unescape`, and for other lemmas
 pub mod Scanned
--- for `any_number`, `colon_and_value`, `escaped_key`, `escaped_value`, `number`, `quoted_key`, `scalar`,
--- `separator`, `turn` and `value`, and for other lemmas
+-- for `any_number`, `behind_scalar`, `colon_and_value`, `escaped_key`, `escaped_value`, `plain_number`, `quoted_key`,
+-- `scalar`, `scalar_and_separator`, `separator`, `turn` and `value`, and for other lemmas
 pub mod Steps
--- for `any_number` and `number`
+-- for `any_number` and `plain_number`
 pub mod Numerals
 -- for `digit`, `escaped_char`, `letter`, `pair_at`, `unit_at` and `unit_char`
 pub mod Escapes
@@ -15,5 +15,5 @@ pub mod Unescaping
 pub mod Ends
 -- for `high_in_32`, `others_in_16`, `stops_in_16`, `stops_in_32` and `stops_in_8`, and for other lemmas
 pub mod Lanes
--- for `digits_end`, `long_plain_end`, `near_end` and `plain_end_of_31`
+-- for `long_plain_end`, `near_digits_end`, `near_end` and `plain_end_of_31`
 pub mod Runs

@@ -1,5 +1,5 @@
 -- Steps of the reader of bytes, as the code takes them.
-use Rattle.std.proofs.Common.{◌≡◌, ◌≢◌, ℕ, ◌+◌, ◌-◌, ◌<◌, ◌≤◌, List, [], ◌∷◌, ◌++◌, length, take, drop, get_or, Bool, true, false, cond, ◌==◌, nat_lt, Option, Some, None, Result, Ok, Err, option_and_then, MatchResult, OnOk, OnErr, codes, refl, sym, ap, ◌∙◌, subst, arith, ◌⊎◌, inl, inr}
+use Rattle.std.proofs.Common.{◌≡◌, ◌≢◌, ℕ, ◌+◌, ◌-◌, ◌<◌, ◌≤◌, List, [], ◌∷◌, ◌++◌, length, take, drop, get_or, Bool, true, false, cond, ◌==◌, nat_lt, Option, Some, None, Result, Ok, Err, option_and_then, MatchResult, IfOk, OnOk, OnErr, codes, refl, sym, ap, ◌∙◌, subst, arith, ◌⊎◌, inl, inr}
 use Rattle.std.proofs.lemmas.List.{drop_more, drop-drop, take-append-drop, length-drop, length-append}
 use Rattle.std.proofs.lemmas.Bool.Decides.{eqb_tells}
 use borrow.Author.Tests.{lt-ltb, le-ltb, eqb-true, eqb-false}
@@ -15,11 +15,13 @@ use Rattle.sj_doc.specs.Kinds.{want_of}
 use Rattle.sj_doc.specs.declared.node.Want.TheVariants as wants
 use Rattle.sj_read.specs.declared.reader.Mode as coded
 use Rattle.sj_read.specs.declared.reader.Mode.TheVariants as modes
+use Rattle.sj_read.specs.declared.reader.Place as coded_place
+use Rattle.sj_read.specs.declared.reader.Place.TheVariants as places
 use Rattle.sj_read.specs.declared.reader.ReadRefusal.{ReadRefusal}
 use Rattle.sj_read.specs.declared.reader.ReadRefusal.TheVariants.{NotJson, Memory}
 use Rattle.sj_read.specs.Scans.{EndsPlain}
 use Rattle.sj_read.specs.Strings.{FindsString, NoString}
-use Rattle.sj_read.specs.Turns.{mode_of, closes_at, HasValue, FirstElement, Ready, Went, Turns}
+use Rattle.sj_read.specs.Turns.{mode_of, closes_at, HasValue, HasKey, HasTaken, FirstElement, Ready, StandsIn, StoodIn, Went, Turns}
 
 pub cond_no : {A : Type 0} (b : Bool) (x y : A) → b ≡ false → cond b x y ≡ y
 cond_no b x y e = ap (λ (c : Bool). cond c x y) e
@@ -124,10 +126,32 @@ put_value t (top o) h = tt
 put_value t (elements ts) h = tt
 put_value t (pairs ms k) h = tt
 
-pub put_key_ready : (k : List ℕ) (p : Part) → TakesKey p → TakesValue (put_key k p)
+pub put_key_ready : (k : List ℕ) (p : Part) → TakesKey p → HasKey (put_key k p)
 put_key_ready k (top o) h = absurd h
 put_key_ready k (elements ts) h = absurd h
 put_key_ready k (pairs ms l) h = tt
+
+pub key_takes_value : (p : Part) → HasKey p → TakesValue p
+key_takes_value (top o) h = absurd h
+key_takes_value (elements ts) h = absurd h
+key_takes_value (pairs ms None) h = absurd h
+key_takes_value (pairs ms (Some k)) h = tt
+
+pub wants_member : (p : Part) → TakesKey p → want_of p ≡ wants.KeyOrClose
+wants_member (top o) h = absurd h
+wants_member (elements ts) h = absurd h
+wants_member (pairs ms None) h = refl
+wants_member (pairs ms (Some k)) h = absurd h
+
+member_put : (t : Tree) (p : Part) → HasKey p → TakesKey (put t p)
+member_put t (top o) h = absurd h
+member_put t (elements ts) h = absurd h
+member_put t (pairs ms None) h = absurd h
+member_put t (pairs ms (Some k)) h = tt
+
+pub stood_in : (k : coded_place.Place) (s new : State) → StandsIn k s → HasTaken s new → StoodIn k new
+stood_in places.Anywhere s new h taken = tt
+stood_in places.Member s new h taken = subst (λ (z : State). TakesKey z.0) (sym taken.1) (member_put taken.0 s.0 h)
 
 pub first_closes : (p : Part) → FirstElement p → TakesClose p
 first_closes (top o) h = absurd h
@@ -178,6 +202,12 @@ pub after_call : {A E : Type 0} (limit : ℕ) (d : Result A E) (r : Result ℕ R
     → MatchResult d (λ _. r ≡ Ok to) (λ _. r ≡ Err Memory) → OnOk d (new ≡ (t, line)) → Went limit m s text at n to t → Turns limit n r m s text at new.0
 after_call limit (Ok x) r n to m s text at new t line h e w = subst (λ z. Turns limit n z m s text at new.0) (sym h) (subst (Went limit m s text at n to) (sym (state_of_pair e)) w)
 after_call limit (Err x) r n to m s text at new t line h e w = subst (λ z. Turns limit n z m s text at new.0) (sym h) tt
+
+-- the value was put in
+pub taken_call : {A E : Type 0} (d : Result A E) (r : Result ℕ ReadRefusal) (to : ℕ) (t : Tree) (s : State) (new : Building) (line : List ℕ)
+    → MatchResult d (λ _. r ≡ Ok to) (λ _. r ≡ Err Memory) → OnOk d (new ≡ (with_value t s, line)) → IfOk r (λ _. HasTaken s new.0)
+taken_call (Ok x) r to t s new line h e = subst (λ z. IfOk z (λ _. HasTaken s new.0)) (sym h) (t, state_of_pair e)
+taken_call (Err x) r to t s new line h e = subst (λ z. IfOk z (λ _. HasTaken s new.0)) (sym h) tt
 
 -- the line stays
 pub line_after : {A E : Type 0} (d : Result A E) (new old : Building) (t : State) → OnOk d (new ≡ (t, old.1)) → OnErr d (new ≡ old) → new.1 ≡ old.1

@@ -1,11 +1,14 @@
 -- What a step of the reader does, against the reader of bytes.
 use Rattle.std.specs.Prelude.{◌≡◌, ℕ, ◌<◌, ◌≤◌, ◌==◌, List, length, drop, Bool, false, Some, None, Result, Ok, Err, ⊤}
-use Rattle.sj_json.specs.Building.{Part, top, elements, pairs, State, TakesValue, TakesKey}
+use Rattle.sj_json.specs.Tree.{Tree}
+use Rattle.sj_json.specs.Building.{Part, top, elements, pairs, State, TakesValue, TakesKey, with_value}
 use Rattle.sj_json.specs.Machine as machine
 use Rattle.sj_json.specs.Machine.{run}
 use Rattle.sj_doc.specs.Builders.{node_total}
 use Rattle.sj_read.specs.declared.reader.Mode.{Mode}
 use Rattle.sj_read.specs.declared.reader.Mode.TheVariants.{Value, ValueOrClose, Key, KeyOrClose, Colon, AfterValue}
+use Rattle.sj_read.specs.declared.reader.Place.{Place}
+use Rattle.sj_read.specs.declared.reader.Place.TheVariants.{Member, Anywhere}
 use Rattle.sj_read.specs.declared.reader.ReadRefusal.{ReadRefusal}
 use Rattle.sj_read.specs.declared.reader.ReadRefusal.TheVariants.{NotJson, Memory}
 
@@ -39,13 +42,34 @@ FirstElement (top o) = ⊥
 FirstElement (elements ts) = ⊤
 FirstElement (pairs ms k) = ⊥
 
+-- a key was given, and its value comes next
+abbrev pub HasKey : Part → Type 0
+HasKey (top o) = ⊥
+HasKey (elements ts) = ⊥
+HasKey (pairs ms None) = ⊥
+HasKey (pairs ms (Some k)) = ⊤
+
+-- a value comes where it is known to come
+abbrev pub StandsIn : Place → State → Type 0
+StandsIn Member s = HasKey s.0
+StandsIn Anywhere s = ⊤
+
+-- a value has come where it was known to come
+abbrev pub StoodIn : Place → State → Type 0
+StoodIn Member s = TakesKey s.0
+StoodIn Anywhere s = ⊤
+
+-- a value was put in
+abbrev pub HasTaken : State → State → Type 0
+HasTaken s new = (t : Tree) × (new ≡ with_value t s)
+
 -- the builder takes what the mode wants
 abbrev pub Ready : machine.Mode → State → Type 0
 Ready machine.value s = TakesValue s.0
 Ready machine.value_or_close s = FirstElement s.0
 Ready machine.key s = TakesKey s.0
 Ready machine.key_or_close s = TakesKey s.0
-Ready machine.colon s = TakesValue s.0
+Ready machine.colon s = HasKey s.0
 Ready machine.after_value s = HasValue s.0
 Ready (machine.letters r t) s = ⊥
 Ready (machine.quoted k x) s = ⊥

@@ -2,13 +2,11 @@
 ghost use Rattle.std.specs.Prelude.{◌≡◌, ◌+◌, ◌<◌, ◌≤◌, length, drop, map, slice_index, true, false, IfSome};
 ghost use Rattle.std.specs.List.{prefix_len};
 ghost use Rattle.std.specs.Simd.Lanes.{mask_l};
-ghost use Rattle.sj_decimal.specs.Number.{begins_number, is_number_byte as number_byte};
-ghost use Rattle.sj_decimal.specs.Shorts.{ReadsNumber};
-ghost use Rattle.sj_doc.specs.Nodes.{longest_kept};
+ghost use Rattle.sj_decimal.specs.Number.{is_number_byte as number_byte};
 ghost use Rattle.sj_read.specs.Scans.{is_other};
-ghost use Rattle.sj_read.specs.Numerals.{HasDigits, HasWhole, HasFraction, Tells};
+ghost use Rattle.sj_read.specs.Numerals.{HasDigits, HasWhole, HasPoint, HasFraction, EndsNear, EndsFraction, IsUnsigned, IsPlainNumber, Tells};
 
-use crate::scan::is_number_byte;
+use crate::scan::{begins_number, is_number_byte};
 use sj_decimal::{Decimal, Parsed, is_number};
 use std::simd::prelude::*;
 
@@ -51,25 +49,25 @@ fn others_in_16(v: u8x16) -> u64
     (v.simd_lt(u8x16::splat(b'0')) | v.simd_gt(u8x16::splat(b'9'))).to_bitmask()
 }
 
-// The place behind the digits from the place on. Most end among the next 16 bytes, where one step finds it.
+// The place behind the digits from the place on, if it is among the next 16 bytes, as that of most is.
 #[inline(always)]
-fn digits_end(bytes: &[u8], from: usize) -> usize
+fn near_digits_end(bytes: &[u8], from: usize) -> Option<usize>
     requires { from ≤ length bytes.now }
-    ensures { HasDigits bytes.now from result }
+    ensures { IfSome result (EndsNear bytes.now from) }
 {
     if bytes.len() - from < 16 {
-        return digits_end_by_one(bytes, from);
+        return None;
     }
     let found = others_in_16(u8x16::from_slice(&bytes[from..]));
     if found == 0 {
-        return digits_end_by_one(bytes, from);
+        return None;
     }
-    from + found.trailing_zeros() as usize
+    Some(from + found.trailing_zeros() as usize)
 }
 
-// The same, one byte at a step.
-#[inline(never)]
-fn digits_end_by_one(bytes: &[u8], from: usize) -> usize
+// The place behind the digits from the place on, one byte at a step.
+#[inline(always)]
+fn digits_end(bytes: &[u8], from: usize) -> usize
     requires { from ≤ length bytes.now }
     ensures { HasDigits bytes.now from result }
 {
@@ -80,26 +78,54 @@ fn digits_end_by_one(bytes: &[u8], from: usize) -> usize
     at
 }
 
-// Whether a number that has come to the place goes on there. Most have a comma behind them.
+// Whether the digits between the two places may stand before a point: there is one at least, and no zero before others.
+#[inline(always)]
+fn is_whole(bytes: &[u8], from: usize, end: usize) -> bool
+    requires { HasDigits bytes.now from end }
+    ensures whole { result ≡ true → HasWhole bytes.now from end }
+    ensures some { result ≡ true → from < end }
+{
+    if end == from || (bytes[from] == b'0' && end - from > 1) {
+        return false;
+    }
+    true
+}
+
+// The end of the fraction whose point stands at the place, if it is among the next 16 bytes behind that.
+#[inline(always)]
+fn near_fraction_end(bytes: &[u8], point: usize) -> Option<usize>
+    requires { HasPoint bytes.now point }
+    ensures { IfSome result (EndsFraction bytes.now point) }
+{
+    let end = near_digits_end(bytes, point + 1)?;
+    if end > point + 1 { Some(end) } else { None }
+}
+
+// Whether a number that has come to the place goes on there.
 #[inline(always)]
 fn goes_on(bytes: &[u8], at: usize) -> bool
     requires { at ≤ length bytes.now }
     ensures { result ≡ false → prefix_len number_byte (drop at bytes.now) ≡ 0 }
 {
-    at < bytes.len() && bytes[at] != b',' && is_number_byte(bytes[at])
+    at < bytes.len() && is_number_byte(bytes[at])
 }
 
-// The end of the digits before the point. There is one at least, and no zero before others.
+// The end of the number at the place, which has no sign, if it has no exponent and its digits end within 16 bytes.
 #[inline(always)]
-fn whole_end(bytes: &[u8], from: usize) -> Option<usize>
+fn near_number_end(bytes: &[u8], from: usize) -> Option<usize>
     requires { from ≤ length bytes.now }
-    ensures { IfSome result (HasWhole bytes.now from) }
+    ensures { IfSome result (IsUnsigned bytes.now from) }
 {
-    let end = digits_end(bytes, from);
-    if end == from || (bytes[from] == b'0' && end - from > 1) {
+    let point = near_digits_end(bytes, from)?;
+    if !is_whole(bytes, from, point) {
         return None;
     }
-    Some(end)
+    let end = if bytes[point] == b'.' {
+        near_fraction_end(bytes, point)?
+    } else {
+        point
+    };
+    if goes_on(bytes, end) { None } else { Some(end) }
 }
 
 // The end of the fraction at the place, or the place where none stands there.
@@ -115,20 +141,38 @@ fn fraction_end(bytes: &[u8], point: usize) -> Option<usize>
     if end == point + 1 { None } else { Some(end) }
 }
 
-// The end of the number that begins with the byte c at the place, if it has no exponent and is not long.
-#[inline(always)]
-pub(crate) fn plain_number_end(bytes: &[u8], at: usize, c: u8) -> Option<usize>
+// The same as `plain_number_end`, for numbers of more digits and for those near the end of the text.
+#[inline(never)]
+fn far_number_end(bytes: &[u8], at: usize, c: u8) -> Option<usize>
     requires within { at < length bytes.now }
     requires here { slice_index bytes.now at ≡ c }
-    requires begins { begins_number c ≡ true }
-    ensures reads { IfSome result (ReadsNumber bytes.now at) }
-    ensures short { IfSome result (λ end. end ≤ at + longest_kept) }
+    ensures { IfSome result (IsPlainNumber bytes.now at c) }
 {
+    if !begins_number(c) {
+        return None;
+    }
     let from = if c == b'-' { at + 1 } else { at };
-    let point = whole_end(bytes, from)?;
+    let point = digits_end(bytes, from);
+    if !is_whole(bytes, from, point) {
+        return None;
+    }
     let end = fraction_end(bytes, point)?;
     if end > at + LONGEST_KEPT || goes_on(bytes, end) {
         return None;
     }
     Some(end)
+}
+
+// The end of the number that begins with the byte c at the place, if it has no exponent and is not long.
+#[inline(always)]
+pub(crate) fn plain_number_end(bytes: &[u8], at: usize, c: u8) -> Option<usize>
+    requires within { at < length bytes.now }
+    requires here { slice_index bytes.now at ≡ c }
+    ensures { IfSome result (IsPlainNumber bytes.now at c) }
+{
+    let from = if c == b'-' { at + 1 } else { at };
+    match near_number_end(bytes, from) {
+        Some(end) => Some(end),
+        None => Some(far_number_end(bytes, at, c)?),
+    }
 }

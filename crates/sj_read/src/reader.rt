@@ -9,8 +9,9 @@ ghost use Rattle.sj_json.specs.Spelling.{SpellsText, IsJson};
 ghost use Rattle.sj_json.specs.Machine.{value as value_mode, key as key_mode, colon as colon_mode, after_value as after_mode};
 ghost use Rattle.sj_doc.specs.Builders.{node_total};
 ghost use Rattle.sj_read.specs.LinesRead.{IsReadAs};
+ghost use Rattle.sj_read.specs.Numerals.{IsPlainNumber};
 ghost use Rattle.sj_read.specs.Scans.{EndsPlain};
-ghost use Rattle.sj_read.specs.Turns.{mode_of, closes_at, Ready, TakesOneKey, Turns};
+ghost use Rattle.sj_read.specs.Turns.{mode_of, closes_at, Ready, StandsIn, StoodIn, HasTaken, TakesOneKey, Turns};
 
 use crate::numeral::{Numeral, judged, plain_number_end};
 use crate::scan::{begins_number, follows, number_end, string_end, token_at};
@@ -47,6 +48,14 @@ pub(crate) enum Mode {
     KeyOrClose,
     Colon,
     AfterValue,
+}
+
+// What is known where the code stands of where a value stands.
+#[derive(Clone, Copy, Drop)]
+enum Place {
+    // It is the value of a member.
+    Member,
+    Anywhere,
 }
 
 // Where to go on.
@@ -100,6 +109,7 @@ fn escaped_value(
     requires ready { Ready value_mode builder.old.0 }
     requires room { node_total builder.old.0 ≤ at }
     ensures turns { Turns MAX_DEPTH Mode.AfterValue result value_mode builder.old.0 text.now at builder.new.0 }
+    ensures taken { IfOk result (λ _. HasTaken builder.old.0 builder.new.0) }
     ensures line { builder.new.1 ≡ builder.old.1 }
 {
     match unescape(text, at + 1, buffer) {
@@ -155,6 +165,7 @@ fn rare_value(
     requires ready { Ready value_mode builder.old.0 }
     requires room { node_total builder.old.0 ≤ at }
     ensures turns { Turns MAX_DEPTH Mode.AfterValue result value_mode builder.old.0 text.now at builder.new.0 }
+    ensures taken { IfOk result (λ _. HasTaken builder.old.0 builder.new.0) }
     ensures line { builder.new.1 ≡ builder.old.1 }
 {
     anew(escaped_value(builder, buffer, text, at, c))
@@ -185,6 +196,7 @@ fn any_number(builder: &mut DocBuilder, text: &str, at: usize, c: u8) -> Advance
     requires ready { Ready value_mode builder.old.0 }
     requires room { node_total builder.old.0 ≤ at }
     ensures turns { Turns MAX_DEPTH Mode.AfterValue result value_mode builder.old.0 text.now at builder.new.0 }
+    ensures taken { IfOk result (λ _. HasTaken builder.old.0 builder.new.0) }
     ensures line { builder.new.1 ≡ builder.old.1 }
 {
     let end = number_end(text.as_bytes(), at + 1);
@@ -205,27 +217,26 @@ fn rare_number(builder: &mut DocBuilder, text: &str, at: usize, c: u8) -> Advanc
     requires ready { Ready value_mode builder.old.0 }
     requires room { node_total builder.old.0 ≤ at }
     ensures turns { Turns MAX_DEPTH Mode.AfterValue result value_mode builder.old.0 text.now at builder.new.0 }
+    ensures taken { IfOk result (λ _. HasTaken builder.old.0 builder.new.0) }
     ensures line { builder.new.1 ≡ builder.old.1 }
 {
     anew(any_number(builder, text, at, c))
 }
 
-// The same, where few numbers need the general way.
+// The number from the place up to the end, which begins with the byte c.
 #[inline(always)]
-fn number(builder: &mut DocBuilder, text: &str, at: usize, c: u8) -> Advance
+fn plain_number(builder: &mut DocBuilder, text: &str, at: usize, c: u8, end: usize) -> Advance
     requires line { builder.old.1 ≡ text.now }
     requires within { (at < length text.now) × (length text.now ≤ MAX_LENGTH) }
     requires here { slice_index text.now at ≡ c }
-    requires begins { beginning_byte c ≡ true }
+    requires plain { IsPlainNumber text.now at c end }
     requires ready { Ready value_mode builder.old.0 }
     requires room { node_total builder.old.0 ≤ at }
     ensures turns { Turns MAX_DEPTH Mode.AfterValue result value_mode builder.old.0 text.now at builder.new.0 }
+    ensures taken { IfOk result (λ _. HasTaken builder.old.0 builder.new.0) }
     ensures line { builder.new.1 ≡ builder.old.1 }
 {
-    match plain_number_end(text.as_bytes(), at, c) {
-        Some(end) => after(builder.number_at(at, end), end),
-        None => rare_number(builder, text, at, c),
-    }
+    after(builder.number_at(at, end), end)
 }
 
 // The value that begins with the byte c at the place, where that opens no container.
@@ -240,6 +251,7 @@ fn scalar(builder: &mut DocBuilder, buffer: &mut Vec<u8>, text: &str, at: usize,
     requires ready { Ready value_mode builder.old.0 }
     requires room { node_total builder.old.0 ≤ at }
     ensures turns { Turns MAX_DEPTH Mode.AfterValue result value_mode builder.old.0 text.now at builder.new.0 }
+    ensures taken { IfOk result (λ _. HasTaken builder.old.0 builder.new.0) }
     ensures line { builder.new.1 ≡ builder.old.1 }
 {
     match c {
@@ -266,11 +278,43 @@ fn scalar(builder: &mut DocBuilder, buffer: &mut Vec<u8>, text: &str, at: usize,
             after(builder.truth(false), at + 5)
         }
         _ => {
+            if let Some(end) = plain_number_end(text.as_bytes(), at, c) {
+                return plain_number(builder, text, at, c, end);
+            }
             if !begins_number(c) {
                 return Err(ReadRefusal::NotJson);
             }
-            number(builder, text, at, c)
+            rare_number(builder, text, at, c)
         }
+    }
+}
+
+// What stands at the place, right behind a scalar: a comma, or closing brackets as `separators` takes them. Behind the value of a
+// member a comma has a key behind it, so the builder is not asked.
+#[inline(always)]
+fn behind_scalar(
+    builder: &mut DocBuilder,
+    mode: &mut Mode,
+    text: &str,
+    at: usize,
+    c: u8,
+    place: Place,
+) -> Advance
+    requires within { (at < length text.now) × (length text.now ≤ MAX_LENGTH) }
+    requires here { slice_index text.now at ≡ c }
+    requires not_blank { blank_byte c ≡ false }
+    requires ready { Ready after_mode builder.old.0 }
+    requires stood { StoodIn place builder.old.0 }
+    requires room { node_total builder.old.0 ≤ at }
+    ensures turns { Turns MAX_DEPTH mode.new result after_mode builder.old.0 text.now at builder.new.0 }
+    ensures line { builder.new.1 ≡ builder.old.1 }
+{
+    match place {
+        Place::Member if c == b',' => {
+            *mode = Mode::Key;
+            Ok(at + 1)
+        }
+        _ => separators(builder, mode, text, at, c),
     }
 }
 
@@ -284,6 +328,7 @@ fn scalar_and_separator(
     text: &str,
     at: usize,
     c: u8,
+    place: Place,
 ) -> Advance
     requires line { builder.old.1 ≡ text.now }
     requires within { (at < length text.now) × (length text.now ≤ MAX_LENGTH) }
@@ -292,13 +337,14 @@ fn scalar_and_separator(
     requires no_array { c ≢ 91 }
     requires no_object { c ≢ 123 }
     requires ready { Ready value_mode builder.old.0 }
+    requires stands { StandsIn place builder.old.0 }
     requires room { node_total builder.old.0 ≤ at }
     ensures turns { Turns MAX_DEPTH mode.new result value_mode builder.old.0 text.now at builder.new.0 }
     ensures line { builder.new.1 ≡ builder.old.1 }
 {
     match scalar(builder, buffer, text, at, c) {
         Ok(end) => match token_at(text.as_bytes(), end) {
-            Some(next) => separators(builder, mode, text, end, next),
+            Some(next) => behind_scalar(builder, mode, text, end, next, place),
             None => {
                 *mode = Mode::AfterValue;
                 Ok(end)
@@ -318,12 +364,14 @@ fn value(
     text: &str,
     at: usize,
     c: u8,
+    place: Place,
 ) -> Advance
     requires line { builder.old.1 ≡ text.now }
     requires within { (at < length text.now) × (length text.now ≤ MAX_LENGTH) }
     requires here { slice_index text.now at ≡ c }
     requires not_blank { blank_byte c ≡ false }
     requires ready { Ready value_mode builder.old.0 }
+    requires stands { StandsIn place builder.old.0 }
     requires room { node_total builder.old.0 ≤ at }
     ensures turns { Turns MAX_DEPTH mode.new result value_mode builder.old.0 text.now at builder.new.0 }
     ensures line { builder.new.1 ≡ builder.old.1 }
@@ -343,7 +391,7 @@ fn value(
             *mode = Mode::KeyOrClose;
             after(builder.open_object(), at + 1)
         }
-        _ => scalar_and_separator(builder, buffer, mode, text, at, c),
+        _ => scalar_and_separator(builder, buffer, mode, text, at, c, place),
     }
 }
 
@@ -396,7 +444,7 @@ fn colon_and_value(
     ensures line { builder.new.1 ≡ builder.old.1 }
 {
     if let Some(c) = token_at(text.as_bytes(), at + 1) {
-        return value(builder, buffer, mode, text, at + 1, c);
+        return value(builder, buffer, mode, text, at + 1, c, Place::Member);
     }
     *mode = Mode::Value;
     Ok(at + 1)
@@ -496,7 +544,7 @@ fn elements(
     let mut from = at;
     let mut first = c;
     'elements: loop {
-        let to = match value(builder, buffer, mode, text, from, first) {
+        let to = match value(builder, buffer, mode, text, from, first, Place::Anywhere) {
             Ok(to) => to,
             Err(refusal) => return Err(refusal),
         };

@@ -1,33 +1,14 @@
-use Rattle.std.proofs.Common.{◌≡◌, ◌+◌, ◌*◌, ◌-◌, ◌<◌, ◌≤◌, ℕ, zero, suc, List, length, drop, get_or, Bool, true, false, not, refl, sym, ap, ◌∙◌, subst, arith}
+use Rattle.std.proofs.Common.{◌≡◌, ◌+◌, ◌-◌, ◌*◌, get_or, true, arith, sym, ◌∙◌}
 use Rattle.std.specs.Char.{is_ascii_digit}
-use Rattle.std.specs.List.{prefix_len}
-use Rattle.std.proofs.lemmas.List.{get_or-drop}
-use Rattle.std.proofs.lemmas.List.Sums.{prefix_len_passes}
-use lib.Count.{count_trailing_zeros}
 use Rattle.sj_decimal.proofs.OnePass.{digits_none, digits_more}
-use Rattle.sj_read.specs.Numerals.{HasDigits}
-use Rattle.sj_read.specs.Scans.{is_other}
-use Rattle.sj_read.proofs.Runs.{run_bound, run_stops}
 use Rattle.sj_read.proofs.numeral.digits_end.Goals as goal
 
-opposite : (b : Bool) → b ≡ not (not b)
-opposite true = refl
-opposite false = refl
+pub loop-at-init : goal.loop-at-init
+loop-at-init c = (0, digits_none c.args.bytes.now c.args.from 0 c.requires)
 
--- the first digits of a run of them
-digits_run : (b : List ℕ) (from k : ℕ) → from ≤ length b → k ≤ prefix_len is_ascii_digit (drop from b) → HasDigits b from (from + k)
-digits_run b from zero h l = subst (HasDigits b from) (omega arith) (0, digits_none b from 0 h)
-digits_run b from (suc k) h l =
-    let r = digits_run b from k h (omega arith) in
-    let yes : is_ascii_digit (get_or b (from + k) 0) ≡ true = ap is_ascii_digit (sym (get_or-drop from b k 0)) ∙ prefix_len_passes is_ascii_digit (drop from b) k 0 (omega arith) in
-    let within : from + k < length b = omega (arith, run_bound is_ascii_digit b from h) in
-    let further : from + k + 1 ≡ from + suc k = omega arith in
-    subst (HasDigits b from) further (r.0 * 10 + (get_or b (from + k) 0 - 48), digits_more b from 0 (from + k) r.0 r.1 within yes)
-
-pub returns : goal.returns
-returns c =
-    let b = c.args.bytes.now in
-    let from = c.args.from in
-    let found = c.others_in_16-found in
-    let run = run_stops is_other is_ascii_digit (λ x. opposite (is_ascii_digit x)) b from 16 (omega arith) (omega arith) (omega (arith, found.ensures)) ∙ ap (count_trailing_zeros 64) (sym found.ensures) in
-    subst (HasDigits b from) (ap (λ (n : ℕ). from + n) run) (digits_run b from (prefix_len is_ascii_digit (drop from b)) c.requires (omega arith))
+pub loop-at-preserved : goal.loop-at-preserved
+loop-at-preserved c =
+    let l = c.loop-at in
+    let b = get_or c.args.bytes.now l.at 0 in
+    let yes : is_ascii_digit b ≡ true = sym c.is_ascii_digit.ensures.value ∙ c.if-is_ascii_digit.true in
+    (l.invariant.0 * 10 + (b - 48), digits_more c.args.bytes.now c.args.from 0 l.at l.invariant.0 l.invariant.1 (omega (arith, c.loop-at-test.true)) yes)

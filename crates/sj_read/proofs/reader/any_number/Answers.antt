@@ -11,7 +11,7 @@ use Rattle.sj_doc.proofs.Numerals.{number_spelled}
 use Rattle.sj_read.specs.declared.reader.TheConstants.{MAX_DEPTH}
 use Rattle.sj_read.specs.declared.reader.Mode.TheVariants as modes
 use Rattle.sj_read.specs.Turns.{Went}
-use Rattle.sj_read.proofs.Steps.{after_call}
+use Rattle.sj_read.proofs.Steps.{after_call, taken_call}
 use Rattle.sj_read.proofs.Numerals.{number_value, no_number_value, within}
 use Rattle.sj_read.proofs.reader.any_number.Goals as goal
 use Rattle.sj_read.proofs.reader.any_number.Goals.{After-number_end-end}
@@ -63,3 +63,12 @@ returns-in-Kept-clause-turns c =
     number_value MAX_DEPTH s t c.args.at c.args.c c.requires.within.0 c.requires.here c.requires.begins end (end_is (goal.at.returns-in-Kept-clause-turns c).After-number_end-end) (spelled (between t c.args.at end)) (number_spelled (between t c.args.at end) numeral.number) c.requires.ready c.requires.room in
     let v = subst (λ (x : List ℕ). Went MAX_DEPTH value s t c.args.at modes.AfterValue end (with_value (number (spelled (between x c.args.at end))) s)) (sym c.requires.line) w in
     after_call MAX_DEPTH c.number_at.result c.after.result modes.AfterValue end value s t c.args.at c.number_at.new.self (with_value (number (spelled (between line c.args.at end))) s) line c.after.ensures c.number_at.ensures.ok v
+
+pub returns-in-Kept-clause-taken : goal.returns-in-Kept-clause-taken
+returns-in-Kept-clause-taken c =
+    let end = c.number_end-end.result in
+    let line = c.args.builder.now.1 in
+    taken_call c.number_at.result c.after.result end (number (spelled (between line c.args.at end))) c.args.builder.now.0 c.number_at.new.self line c.after.ensures c.number_at.ensures.ok
+
+pub returns-in-Exact-clause-taken : goal.returns-in-Exact-clause-taken
+returns-in-Exact-clause-taken c = taken_call c.exact.result c.after-in-Exact.result c.number_end-end.result (number (exact c.in-Exact.n)) c.args.builder.now.0 c.exact.new.self c.args.builder.now.1 c.after-in-Exact.ensures c.exact.ensures.ok

@@ -6,7 +6,7 @@ use Rattle.sj_read.specs.declared.reader.TheConstants.{MAX_DEPTH}
 use Rattle.sj_read.specs.declared.reader.Mode.TheVariants as modes
 use Rattle.sj_read.specs.declared.unescape.Unescaped.{Unescaped}
 use Rattle.sj_read.specs.Strings.{NoString, HoldsString}
-use Rattle.sj_read.proofs.Steps.{after_call, line_after, string_value, no_string_value}
+use Rattle.sj_read.proofs.Steps.{after_call, taken_call, line_after, string_value, no_string_value}
 use Rattle.sj_read.proofs.reader.escaped_value.Goals as goal
 use Rattle.sj_read.proofs.reader.escaped_value.Goals.{After-as_slice}
 
@@ -32,3 +32,6 @@ returns-in-Ok-None-clause-turns c = no_string_value MAX_DEPTH c.args.builder.now
 
 pub returns-in-Ok-Some-clause-line : goal.returns-in-Ok-Some-clause-line
 returns-in-Ok-Some-clause-line c = line_after c.text_bytes.result c.text_bytes.new.self c.args.builder.now (with_value (string (take c.in-Ok-Some.found.len c.as_slice.result.now)) c.args.builder.now.0) c.text_bytes.ensures.ok c.text_bytes.ensures.err
+
+pub returns-in-Ok-Some-clause-taken : goal.returns-in-Ok-Some-clause-taken
+returns-in-Ok-Some-clause-taken c = taken_call c.text_bytes.result c.after.result (c.in-Ok-Some.found.end + 1) (string (take c.in-Ok-Some.found.len c.as_slice.result.now)) c.args.builder.now.0 c.text_bytes.new.self c.args.builder.now.1 c.after.ensures c.text_bytes.ensures.ok

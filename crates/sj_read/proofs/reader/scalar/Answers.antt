@@ -6,7 +6,7 @@ use Rattle.sj_json.specs.Machine.{value}
 use Rattle.sj_read.specs.declared.reader.TheConstants.{MAX_DEPTH}
 use Rattle.sj_read.specs.declared.reader.Mode.TheVariants as modes
 use Rattle.sj_read.specs.Turns.{Went}
-use Rattle.sj_read.proofs.Steps.{after_call, line_after, string_value, plain_string, word_value, no_word_value, no_value, null_read, true_read, false_read}
+use Rattle.sj_read.proofs.Steps.{after_call, taken_call, line_after, string_value, plain_string, word_value, no_word_value, no_value, null_read, true_read, false_read}
 use Rattle.sj_read.proofs.reader.scalar.Goals as goal
 use Rattle.sj_read.proofs.reader.scalar.Goals.{Start}
 
@@ -93,3 +93,17 @@ returns-else-not-follows-2-clause-line c = line_after c.truth.result c.truth.new
 
 pub returns-else-not-follows-3-clause-line : goal.returns-else-not-follows-3-clause-line
 returns-else-not-follows-3-clause-line c = line_after c.truth-in-102.result c.truth-in-102.new.self c.args.builder.now (with_value (truth false) c.args.builder.now.0) c.truth-in-102.ensures.ok c.truth-in-102.ensures.err
+
+pub returns-in-Some-clause-taken : goal.returns-in-Some-clause-taken
+returns-in-Some-clause-taken c =
+    let line = c.args.builder.now.1 in
+    taken_call c.text_at.result c.after.result (c.in-Some.end + 1) (string (between line (c.args.at + 1) c.in-Some.end)) c.args.builder.now.0 c.text_at.new.self line c.after.ensures c.text_at.ensures.ok
+
+pub returns-else-not-follows-clause-taken : goal.returns-else-not-follows-clause-taken
+returns-else-not-follows-clause-taken c = taken_call c.null.result c.after-in-110.result (c.args.at + 4) null c.args.builder.now.0 c.null.new.self c.args.builder.now.1 c.after-in-110.ensures c.null.ensures.ok
+
+pub returns-else-not-follows-2-clause-taken : goal.returns-else-not-follows-2-clause-taken
+returns-else-not-follows-2-clause-taken c = taken_call c.truth.result c.after-in-116.result (c.args.at + 4) (truth true) c.args.builder.now.0 c.truth.new.self c.args.builder.now.1 c.after-in-116.ensures c.truth.ensures.ok
+
+pub returns-else-not-follows-3-clause-taken : goal.returns-else-not-follows-3-clause-taken
+returns-else-not-follows-3-clause-taken c = taken_call c.truth-in-102.result c.after-in-102.result (c.args.at + 5) (truth false) c.args.builder.now.0 c.truth-in-102.new.self c.args.builder.now.1 c.after-in-102.ensures c.truth-in-102.ensures.ok

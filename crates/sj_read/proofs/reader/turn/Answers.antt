@@ -5,7 +5,7 @@ use Rattle.sj_read.specs.declared.reader.TheConstants.{MAX_DEPTH}
 use Rattle.sj_read.specs.declared.reader.Mode as coded
 use Rattle.sj_read.specs.declared.reader.Mode.TheVariants as modes
 use Rattle.sj_read.specs.Turns.{mode_of, closes_at, Ready, Went}
-use Rattle.sj_read.proofs.Steps.{state_of_pair, one_byte, stops, blank_turn, moved, closes_first, opens_value, opens_key, closed_went, colon_turn, no_colon}
+use Rattle.sj_read.proofs.Steps.{state_of_pair, one_byte, stops, blank_turn, moved, closes_first, opens_value, opens_key, closed_went, colon_turn, key_takes_value, no_colon}
 use Rattle.sj_read.proofs.reader.turn.Goals as goal
 use Rattle.sj_read.proofs.reader.turn.Goals.{After-as_bytes}
 
@@ -31,7 +31,7 @@ returns-else-c-ne58-clause-turns c =
     let b = get_or c.as_bytes.result.now c.args.at 0 in
     let s = c.args.builder.now.0 in
     let ready : Ready machine.colon s = subst (λ (m : coded.Mode). Ready (mode_of m) s) c.in-Colon.is c.requires.ready in
-    let w = one_byte MAX_DEPTH machine.colon s c.args.text.now c.args.at b c.requires.within.0 (byte_is (goal.at.returns-else-c-ne58-clause-turns c).After-as_bytes) modes.Value s (colon_turn MAX_DEPTH s b c.if-c-ne58.false) ready (omega (arith, c.requires.room)) in
+    let w = one_byte MAX_DEPTH machine.colon s c.args.text.now c.args.at b c.requires.within.0 (byte_is (goal.at.returns-else-c-ne58-clause-turns c).After-as_bytes) modes.Value s (colon_turn MAX_DEPTH s b c.if-c-ne58.false) (key_takes_value s.0 ready) (omega (arith, c.requires.room)) in
     subst (λ (m : coded.Mode). Went MAX_DEPTH (mode_of m) s c.args.text.now c.args.at modes.Value (c.args.at + 1) s) (sym c.in-Colon.is) w
 
 pub close-requires : goal.close-requires
