@@ -21,19 +21,44 @@ use sj_value::SqlValue;
 ///
 /// # Errors
 /// `Memory` where memory ran out. `out` has then grown by a first part of both.
+#[inline(always)]
 pub fn tabbed_text(out: &mut Bytes, value: &SqlValue) -> Result<(), Memory>
     requires { IsPrintable value.now }
     ensures ok { OnOk result (out.new ≡ out.old ++ tabbed value.now) }
     ensures err { OnErr result (AppendsPrefix out.old (tabbed value.now) out.new) }
 {
-    // What has few bytes comes with its TAB at once.
+    // A truth value comes in place: where it was just found, it is never put into memory.
+    match value {
+        SqlValue::Bool(truth) => tabbed_truth(out, *truth),
+        _ => tabbed_any(out, value),
+    }
+}
+
+// The same, out of line. What has few bytes comes with its TAB at once.
+#[inline(never)]
+fn tabbed_any(out: &mut Bytes, value: &SqlValue) -> Result<(), Memory>
+    requires { IsPrintable value.now }
+    ensures ok { OnOk result (out.new ≡ out.old ++ tabbed value.now) }
+    ensures err { OnErr result (AppendsPrefix out.old (tabbed value.now) out.new) }
+{
     match value {
         SqlValue::Null => out.push(b"\t\\N"),
         SqlValue::Text(text) => tabbed_bytes(out, text.as_str().as_bytes()),
         SqlValue::Num(number, places) => tabbed_number(out, *number, *places),
-        SqlValue::Bool(true) => out.push(b"\tTRUE"),
-        SqlValue::Bool(false) => out.push(b"\tFALSE"),
+        SqlValue::Bool(truth) => tabbed_truth(out, *truth),
         SqlValue::Json(text) => tabbed_bytes(out, text.as_slice()),
+    }
+}
+
+#[inline(always)]
+fn tabbed_truth(out: &mut Bytes, truth: bool) -> Result<(), Memory>
+    ensures ok { OnOk result (out.new ≡ out.old ++ tabbed (SqlValue.Bool truth)) }
+    ensures err { OnErr result (out.new ≡ out.old) }
+{
+    if truth {
+        out.push(b"\tTRUE")
+    } else {
+        out.push(b"\tFALSE")
     }
 }
 
