@@ -1,6 +1,8 @@
 // The comparison of two items.
-ghost use Rattle.std.specs.Prelude.{◌≡◌, IfSome};
+ghost use Rattle.std.specs.Prelude.{◌≡◌, IfSome, pos};
 ghost use Rattle.sj_json.specs.Tree.{number, exact};
+ghost use Rattle.sj_decimal.specs.Compare.{decimal_cmp};
+ghost use Rattle.sj_decimal.specs.Normal.{IsDecimal};
 ghost use Rattle.sj_doc.specs.Listed.{node_tree};
 ghost use Rattle.sj_item.specs.Truths.{truth_of};
 ghost use Rattle.sj_item.specs.Orders.{holds};
@@ -10,6 +12,7 @@ ghost use Rattle.sj_item.specs.Comparands.{ComparesAs, text_compares, comparands
 
 use crate::item::Item;
 use crate::made::Exact;
+use crate::numeral::numeral_whole;
 use crate::texts::{order_of_texts, text_begins_with};
 use crate::truth::Truth;
 use sj_decimal::{Compare, Decimal};
@@ -43,13 +46,13 @@ impl<'d> Item<'d> {
     pub fn compare(&self, op: Compare, other: &Item<'_>) -> Truth
         ensures { result ≡ items_compare op (item_value self.now) (item_value other.now) }
     {
-        // Most comparisons are of two numbers, which need no more than their values.
-        if let Some(left) = exact_number(self) {
-            if let Some(right) = exact_number(other) {
-                return decided(op, left.cmp(right));
+        // Most comparisons are of two whole numbers of few digits. They need no decimals, and little room.
+        if let Some(left) = short_whole(self) {
+            if let Some(right) = short_whole(other) {
+                return decided(op, left.cmp(&right));
             }
         }
-        compare_as(op, as_comparand(self), as_comparand(other))
+        compare_exact(op, self, other)
     }
 
     /// The same as [`starts_with`], of items that are lent.
@@ -60,27 +63,100 @@ impl<'d> Item<'d> {
     }
 }
 
-// The value of an item that is an exact number.
-fn exact_number(item: &Item<'_>) -> Option<Decimal>
-    ensures { IfSome result (λ d. item_tree (item_value item.now) ≡ number (exact d)) }
+// The same of any two items. Most are exact numbers with decimals, which need no more than their values.
+#[inline(never)]
+fn compare_exact(op: Compare, left: &Item<'_>, right: &Item<'_>) -> Truth
+    ensures { result ≡ items_compare op (item_value left.now) (item_value right.now) }
+{
+    if let Some((left, left_scale)) = exact_parts(left) {
+        if let Some((right, right_scale)) = exact_parts(right) {
+            return decided(op, order_of_parts(left, left_scale, right, right_scale));
+        }
+    }
+    compare_any(op, left, right)
+}
+
+// The same of items that may be of any kind.
+#[inline(never)]
+fn compare_any(op: Compare, left: &Item<'_>, right: &Item<'_>) -> Truth
+    ensures { result ≡ items_compare op (item_value left.now) (item_value right.now) }
+{
+    compare_as(op, as_comparand(left), as_comparand(right))
+}
+
+// The number that an item is, where it is a whole one of few digits and without a sign.
+#[inline(always)]
+fn short_whole(item: &Item<'_>) -> Option<u64>
+    ensures { IfSome result (λ n. item_tree (item_value item.now) ≡ number (exact (pos n, 0))) }
 {
     match item {
-        Item::Node(node) => node_number(*node),
-        Item::Num(number) => Some(number.value()),
+        Item::Node(node) => node_whole(*node),
+        Item::Num(number) => number.short_whole(),
         _ => None,
     }
 }
 
-fn node_number(node: NodeRef<'_>) -> Option<Decimal>
-    ensures { IfSome result (λ d. node_tree node.entry ≡ number (exact d)) }
+#[tactic(auto, using(sj_doc::proofs::Numerals::spelled_exact))]
+#[inline(always)]
+fn node_whole(node: NodeRef<'_>) -> Option<u64>
+    ensures { IfSome result (λ n. node_tree node.entry ≡ number (exact (pos n, 0))) }
+{
+    match node.kind() {
+        Kind::Number => numeral_whole(node.numeral().as_bytes()),
+        _ => None,
+    }
+}
+
+// The coefficient and the scale of an item that is an exact number.
+#[inline(always)]
+fn exact_parts(item: &Item<'_>) -> Option<(i128, u32)>
+    ensures value { IfSome result (λ d. item_tree (item_value item.now) ≡ number (exact d)) }
+    ensures decimal { IfSome result IsDecimal }
+{
+    match item {
+        Item::Node(node) => node_parts(*node),
+        Item::Num(number) => Some(number.parts()),
+        _ => None,
+    }
+}
+
+#[inline(always)]
+fn node_parts(node: NodeRef<'_>) -> Option<(i128, u32)>
+    ensures value { IfSome result (λ d. node_tree node.entry ≡ number (exact d)) }
+    ensures decimal { IfSome result IsDecimal }
 {
     match node.kind() {
         Kind::Number => match node.number() {
-            Num::Exact(number) => Some(number),
+            Num::Exact(number) => Some(number.parts()),
             Num::Wide(_) => None,
         },
         _ => None,
     }
+}
+
+// The order of two numbers in normal form. Most have as many decimals, and stand as their coefficients do.
+#[tactic(auto, using(crate::proofs::Coefficients::same_scale))]
+#[inline(always)]
+fn order_of_parts(left: i128, left_scale: u32, right: i128, right_scale: u32) -> Ordering
+    requires left { IsDecimal (left, left_scale) }
+    requires right { IsDecimal (right, right_scale) }
+    ensures { result ≡ decimal_cmp (left, left_scale) (right, right_scale) }
+{
+    if left_scale == right_scale {
+        return left.cmp(&right);
+    }
+    order_of_decimals(left, left_scale, right, right_scale)
+}
+
+// The same of any scales. A decimal that was passed here would have to lie in memory in every comparison.
+#[inline(never)]
+fn order_of_decimals(left: i128, left_scale: u32, right: i128, right_scale: u32) -> Ordering
+    requires left { IsDecimal (left, left_scale) }
+    requires right { IsDecimal (right, right_scale) }
+    ensures { result ≡ decimal_cmp (left, left_scale) (right, right_scale) }
+{
+    let left = Decimal::from_normal(left, left_scale);
+    left.cmp(Decimal::from_normal(right, right_scale))
 }
 
 // What a comparison looks at of an item.
@@ -189,6 +265,7 @@ fn text_starts_with(text: &str, start: Comparand<'_>) -> Truth
 }
 
 // The comparison of two values that stand in this order.
+#[inline(always)]
 fn decided(op: Compare, order: Ordering) -> Truth
     ensures { result ≡ truth_of (holds op order) }
 {

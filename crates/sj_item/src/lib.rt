@@ -18,6 +18,7 @@ mod casts;
 mod comparison;
 mod item;
 mod made;
+mod numeral;
 mod pair;
 mod texts;
 mod truth;

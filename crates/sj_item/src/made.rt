@@ -1,5 +1,5 @@
 // A number as an item holds it.
-ghost use Rattle.std.specs.Prelude.{◌≡◌, ◌+◌, ◌*◌, ◌^◌, ◌<◌};
+ghost use Rattle.std.specs.Prelude.{◌≡◌, ◌+◌, ◌*◌, ◌^◌, ◌<◌, pos, IfSome};
 ghost use Rattle.sj_decimal.specs.Limits.{magnitude_limit};
 ghost use Rattle.sj_decimal.specs.Signed.{signed};
 ghost use Rattle.sj_decimal.specs.Normal.{IsDecimal};
@@ -41,8 +41,29 @@ impl Exact {
     pub fn value(self) -> Decimal
         ensures { result ≡ exact_value self }
     {
+        let (coefficient, scale) = self.parts();
+        Decimal::from_normal(coefficient, scale)
+    }
+
+    /// The number, where it is a whole one of 64 bits and without a sign.
+    #[inline(always)]
+    pub(crate) fn short_whole(self) -> Option<u64>
+        ensures { IfSome result (λ n. exact_value self ≡ (pos n, 0)) }
+    {
+        if self.upper == 0 && self.scale == 0 && !self.negative {
+            return Some(self.lower);
+        }
+        None
+    }
+
+    /// Its coefficient and its scale.
+    #[inline(always)]
+    pub(crate) fn parts(self) -> (i128, u32)
+        ensures value { result ≡ exact_value self }
+        ensures decimal { IsDecimal (exact_value self) }
+    {
         let magnitude = self.upper as u128 * UPPER + self.lower as u128;
-        Decimal::from_normal(coefficient(self.negative, magnitude), self.scale)
+        (coefficient(self.negative, magnitude), self.scale)
     }
 }
 
