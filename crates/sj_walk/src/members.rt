@@ -1,4 +1,6 @@
 // The members under a key.
+ghost use Rattle.std.specs.Prelude.{◌≡◌, true};
+ghost use Rattle.sj_step.specs.Trace.{stop};
 ghost use Rattle.sj_step.specs.Answers.{answer_value};
 ghost use Rattle.sj_step.specs.Takes.{Takes};
 ghost use Rattle.sj_walk.specs.Walk.{members_left};
@@ -32,5 +34,13 @@ impl<'d> Members<'d> {
             Mode::Strict if !self.found => Answer::Fault(State::S2203A),
             _ => Answer::End,
         }
+    }
+
+    // Whether the last member was given. There is no fault behind it.
+    #[inline(always)]
+    pub(crate) fn is_over(&self) -> bool
+        ensures { result ≡ true → members_left self.now ≡ stop }
+    {
+        self.found && self.left.is_at_end()
     }
 }

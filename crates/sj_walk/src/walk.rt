@@ -1,8 +1,8 @@
 // One accessor on one item, resumable.
-ghost use Rattle.std.specs.Prelude.{◌≡◌, true};
+ghost use Rattle.std.specs.Prelude.{◌≡◌, true, map};
 ghost use Rattle.sj_item.specs.Items.{item_value, pull_value};
 ghost use Rattle.sj_step.specs.Answers.{answer_value};
-ghost use Rattle.sj_step.specs.Reach.{reach_value};
+ghost use Rattle.sj_step.specs.Reach.{reach_value, child_item, every};
 ghost use Rattle.sj_step.specs.Reach.{reach as reach_of};
 ghost use Rattle.sj_step.specs.Takes.{Takes};
 ghost use Rattle.sj_step.specs.Trace.{stop, fail, only};
@@ -51,15 +51,20 @@ impl<'d> Walk<'d> {
     }
 
     /// The same, with the item put into a place, which holds anything after an end or a fault.
+    #[tactic(auto, unfolding(crate::specs::Walk::walk_left))]
     #[inline(always)]
     pub fn put_next<L: Ledger>(&mut self, steps: &mut Steps<L>, place: &mut Item<'d>) -> Answer
         ensures { Takes (walk_left self.old) (answer_value result place.new) (walk_left self.new) steps.old steps.new }
     {
-        // Most walks that are asked are at their end: this is told first, before room is made for what the others need.
+        // Most walks that are asked are at their end or give children: these are told first, before room is made for what the
+        // others need.
         if self.is_ended() {
             return Answer::End;
         }
-        self.advance(steps, place)
+        match &mut self.left {
+            Left::Every(children) => next_child(children, steps, place),
+            _ => self.advance(steps, place),
+        }
     }
 
     #[tactic(auto, unfolding(crate::specs::Walk::walk_left))]
@@ -86,17 +91,36 @@ impl<'d> Walk<'d> {
                 self.left = Left::Ended;
                 Answer::Item
             }
-            Left::Every(children) => match children.next(steps) {
-                Some(child) => {
-                    *place = Item::Node(child.node);
-                    Answer::Item
+            Left::Every(children) => next_child(children, steps, place),
+            Left::Keyed(members) => {
+                let answer = members.next(steps, place);
+                // The walk is asked once more, and then tells without a call that it is at its end.
+                if members.is_over() {
+                    *self = Walk::ended();
                 }
-                None => Answer::End,
-            },
-            Left::Keyed(members) => members.next(steps, place),
+                answer
+            }
             Left::Ranged(elements) => elements.next(steps, place),
             Left::Made(parts) => parts.next(place),
         }
+    }
+}
+
+// The next one of the children, which all are given.
+#[inline(always)]
+fn next_child<'d, L: Ledger>(
+    children: &mut Children<'d>,
+    steps: &mut Steps<L>,
+    place: &mut Item<'d>,
+) -> Answer
+    ensures { Takes (every 1 (map child_item children.old)) (answer_value result place.new) (every 1 (map child_item children.new)) steps.old steps.new }
+{
+    match children.next(steps) {
+        Some(child) => {
+            *place = Item::Node(child.node);
+            Answer::Item
+        }
+        None => Answer::End,
     }
 }
 
