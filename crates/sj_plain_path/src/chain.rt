@@ -157,11 +157,27 @@ fn seek_short<'d, L: Ledger>(
 {
     match links {
         [Link::Member(key)] => match node.kind() {
-            Kind::Array => seek(how, aim, links, node, gathered, steps),
+            Kind::Array => seek_apart(how, *aim, links, node, gathered, steps),
             _ => take_members(how, aim, key, node, gathered, steps),
         },
-        _ => seek(how, aim, links, node, gathered, steps),
+        _ => seek_apart(how, *aim, links, node, gathered, steps),
     }
+}
+
+// The same as `seek`, with a copy of the aim. What is passed by its place has to lie in memory, and the aim would lie there in the
+// callers too.
+#[inline(always)]
+fn seek_apart<'d, L: Ledger>(
+    how: Opening,
+    aim: Aim<'_, 'd>,
+    links: &[Link<'d>],
+    node: NodeRef<'d>,
+    gathered: &mut Gathered<'d>,
+    steps: &mut Steps<L>,
+) -> bool
+    ensures { Sought (taken_value aim.entry gathered.old) (below how links.now (node_value node.entry)) (taken_value aim.entry gathered.new) result steps.old steps.new }
+{
+    seek(how, &aim, links, node, gathered, steps)
 }
 
 // The members under a key of a node that is not unwrapped, each at the end of the accessors.
@@ -281,11 +297,24 @@ fn take_opened<'d, L: Ledger>(
 {
     match how {
         Opening::Unwrapped => match node.kind() {
-            Kind::Array => take_elements(aim, node.children(), gathered, steps),
+            Kind::Array => take_elements_apart(*aim, node.children(), gathered, steps),
             _ => gathered.take(aim, node),
         },
         Opening::AsItIs => gathered.take(aim, node),
     }
+}
+
+// The same as `take_elements`, with a copy of the aim.
+#[inline(always)]
+fn take_elements_apart<'d, L: Ledger>(
+    aim: Aim<'_, 'd>,
+    elements: Children<'d>,
+    gathered: &mut Gathered<'d>,
+    steps: &mut Steps<L>,
+) -> bool
+    ensures { Sought (taken_value aim.entry gathered.old) (elements_of elements.entry) (taken_value aim.entry gathered.new) result steps.old steps.new }
+{
+    take_elements(&aim, elements, gathered, steps)
 }
 
 // The elements of an array.
