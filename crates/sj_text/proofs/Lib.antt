@@ -1,4 +1,4 @@
--- for `key_text`, `pair_text`, `push_escaped` and `visit_text`, and for other lemmas and crates above
+-- for `any_key_text`, `pair_text`, `push_escaped` and `visit_text`, and for other lemmas and crates above
 pub mod Appends
 -- for `push_escaped`, and for crates above
 pub mod PlainRuns
@@ -10,3 +10,7 @@ pub mod Printings
 pub mod PairTexts
 -- for `has_decimals`, `is_decimal_text`, `number_text` and `whole_end`
 pub mod Numerals
+-- for `stops_in_16`
+pub mod Lanes
+-- for `key_text`, `put_ends`, `quote` and `string_text`
+pub mod Windows

@@ -1,3 +1,4 @@
 pub mod Numerals
 pub mod Prefixes
 pub mod Rendering
+pub mod Windows

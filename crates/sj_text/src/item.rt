@@ -16,6 +16,7 @@ use sj_item::{Item, Pair, PairValue};
 ///
 /// The counter rises by one for each node of the document below the item's node, or below that of a pair's value.
 /// Where memory runs out, `out` has grown by a first part of the text, and the counter by some of these steps.
+#[inline(always)]
 pub fn item_text<'d, L: Ledger>(
     item: Item<'d>,
     out: &mut Bytes,

@@ -15,6 +15,7 @@ mod numeral;
 mod place;
 mod scalar;
 mod string;
+mod window;
 
 pub use item::item_text;
 pub use place::Place;

@@ -1,16 +1,17 @@
 // The text of a node, by its tour.
-ghost use Rattle.std.specs.Prelude.{◌≡◌, ◌++◌, ◌≤◌, OnOk, OnErr, option_map};
+ghost use Rattle.std.specs.Prelude.{◌≡◌, ◌++◌, ◌≤◌, OnOk, OnErr, Some, option_map};
 ghost use Rattle.sj_base.specs.Count.{raised};
 ghost use Rattle.sj_json.specs.Tree.{below};
 ghost use Rattle.sj_json.specs.Printing.{printed};
 ghost use Rattle.sj_doc.specs.Listed.{node_tree};
 ghost use Rattle.sj_doc.specs.Visits.{visited};
 ghost use Rattle.sj_text.specs.Prefixes.{AppendsPrefix};
-ghost use Rattle.sj_text.specs.Rendering.{IsScalar, IsVisit, key_printed, lead, opening, closing, visit_printed, place_after};
+ghost use Rattle.sj_text.specs.Rendering.{IsScalar, IsVisit, comma, lead, opening, closing, visit_printed, place_after};
 
 use crate::place::Place;
 use crate::scalar::{number_text, truth_text};
-use crate::string::string_text;
+use crate::string::{any_text, string_text};
+use crate::window::{MOST_QUOTED, ROOM, push_front, quote};
 use sj_base::{Bytes, Ledger, Memory, Steps};
 use sj_doc::{Kind, NodeRef, Visit};
 
@@ -47,6 +48,7 @@ pub(crate) fn node_text<L: Ledger>(
 }
 
 // Appends what one visit brings.
+#[inline(always)]
 fn visit_text(place: Place, visit: Visit<'_>, out: &mut Bytes) -> Result<(), Memory>
     requires { IsVisit (visited visit) }
     ensures ok { OnOk result (out.new ≡ out.old ++ visit_printed place (visited visit.entry)) }
@@ -66,31 +68,54 @@ fn visit_text(place: Place, visit: Visit<'_>, out: &mut Bytes) -> Result<(), Mem
 }
 
 // Appends what comes before a value: a comma behind another value, and its key where it has one.
+#[inline(always)]
 fn lead_text(place: Place, key: Option<&str>, out: &mut Bytes) -> Result<(), Memory>
     ensures ok { OnOk result (out.new ≡ out.old ++ lead place (option_map (λ s. s.now) key.entry)) }
     ensures err { OnErr result (AppendsPrefix out.old (lead place (option_map (λ s. s.now) key.entry)) out.new) }
 {
-    match place {
-        Place::First => key_text(key, out),
-        Place::Later => {
-            out.push(b",")?;
-            key_text(key, out)
-        }
+    match key {
+        Some(key) => key_text(place, key, out),
+        None => comma_text(place, out),
     }
 }
 
-// Appends a key with its colon, where there is one.
-fn key_text(key: Option<&str>, out: &mut Bytes) -> Result<(), Memory>
-    ensures ok { OnOk result (out.new ≡ out.old ++ key_printed (option_map (λ s. s.now) key.entry)) }
-    ensures err { OnErr result (AppendsPrefix out.old (key_printed (option_map (λ s. s.now) key.entry)) out.new) }
+// Appends a comma behind another value.
+#[inline(always)]
+fn comma_text(place: Place, out: &mut Bytes) -> Result<(), Memory>
+    ensures ok { OnOk result (out.new ≡ out.old ++ comma place) }
+    ensures err { OnErr result (out.new ≡ out.old) }
 {
-    match key {
-        None => Ok(()),
-        Some(key) => {
-            string_text(key, out)?;
-            out.push(b":")
-        }
+    match place {
+        Place::First => Ok(()),
+        Place::Later => out.push(b","),
     }
+}
+
+// Appends a key with its colon, and a comma before it behind another member.
+#[inline(always)]
+fn key_text(place: Place, key: &str, out: &mut Bytes) -> Result<(), Memory>
+    ensures ok { OnOk result (out.new ≡ out.old ++ lead place (Some key.now)) }
+    ensures err { OnErr result (AppendsPrefix out.old (lead place (Some key.now)) out.new) }
+{
+    let mut window = [b' '; ROOM];
+    if !quote(&mut window, key.as_bytes()) {
+        return any_key_text(place, key, out);
+    }
+    match place {
+        Place::First => push_front(out, &window[1..1 + MOST_QUOTED], key.len() + 3),
+        Place::Later => push_front(out, &window[..MOST_QUOTED], key.len() + 4),
+    }
+}
+
+// The same for any key, part by part.
+#[inline(never)]
+fn any_key_text(place: Place, key: &str, out: &mut Bytes) -> Result<(), Memory>
+    ensures ok { OnOk result (out.new ≡ out.old ++ lead place (Some key.now)) }
+    ensures err { OnErr result (AppendsPrefix out.old (lead place (Some key.now)) out.new) }
+{
+    comma_text(place, out)?;
+    any_text(key, out)?;
+    out.push(b":")
 }
 
 fn opening_text(kind: Kind, out: &mut Bytes) -> Result<(), Memory>
@@ -114,6 +139,7 @@ fn closing_text(kind: Kind, out: &mut Bytes) -> Result<(), Memory>
 }
 
 // Appends the text of a node that is no array and no object.
+#[inline(always)]
 fn scalar_text(node: NodeRef<'_>, out: &mut Bytes) -> Result<(), Memory>
     requires { IsScalar (node_tree node) }
     ensures ok { OnOk result (out.new ≡ out.old ++ printed (node_tree node.entry)) }

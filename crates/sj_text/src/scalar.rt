@@ -7,6 +7,7 @@ ghost use Rattle.sj_doc.specs.Kinds.{kind_of};
 ghost use Rattle.sj_doc.specs.Listed.{node_tree};
 
 use crate::numeral::is_decimal_text;
+use crate::window::push_short;
 use sj_base::{Bytes, Memory};
 use sj_decimal::Decimal;
 use sj_doc::{Kind, NodeRef, Num};
@@ -31,8 +32,18 @@ pub(crate) fn number_text(node: NodeRef<'_>, out: &mut Bytes) -> Result<(), Memo
 {
     let numeral = node.numeral().as_bytes();
     if is_decimal_text(numeral) {
-        return out.push(numeral);
+        return push_short(out, numeral);
     }
+    value_text(node, out)
+}
+
+// The text of a number by its value. Few need it.
+#[inline(never)]
+fn value_text(node: NodeRef<'_>, out: &mut Bytes) -> Result<(), Memory>
+    requires { kind_of (node_tree node) ≡ Kind.Number }
+    ensures ok { OnOk result (out.new ≡ out.old ++ printed (node_tree node.entry)) }
+    ensures err { OnErr result (out.new ≡ out.old) }
+{
     match node.number() {
         Num::Exact(value) => decimal_text(value, out),
         Num::Wide(spelling) => out.push(spelling.as_bytes()),

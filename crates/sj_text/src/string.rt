@@ -6,6 +6,7 @@ ghost use Rattle.sj_base.specs.ByteClasses.{is_plain};
 ghost use Rattle.sj_json.specs.Printing.{printed_byte, printed_string};
 ghost use Rattle.sj_text.specs.Prefixes.{AppendsPrefix};
 
+use crate::window::{MOST_QUOTED, ROOM, push_front, quote};
 use sj_base::{Bytes, Memory};
 
 /// Appends a string between quotation marks (RFC 8259, section 7).
@@ -13,7 +14,21 @@ use sj_base::{Bytes, Memory};
 /// A quotation mark and a backslash have a backslash before them. U+0008, U+0009, U+000A, U+000C and U+000D are `\b`,
 /// `\t`, `\n`, `\f` and `\r`, and the other characters below U+0020 `\u00` and two lower-case digits. All else stands
 /// for itself. Where memory runs out, `out` has grown by a first part of this text.
+#[inline(always)]
 pub fn string_text(s: &str, out: &mut Bytes) -> Result<(), Memory>
+    ensures ok { OnOk result (out.new ≡ out.old ++ printed_string s.now) }
+    ensures err { OnErr result (AppendsPrefix out.old (printed_string s.now) out.new) }
+{
+    let mut window = [b' '; ROOM];
+    if quote(&mut window, s.as_bytes()) {
+        return push_front(out, &window[1..1 + MOST_QUOTED], s.len() + 2);
+    }
+    any_text(s, out)
+}
+
+// The same for any string, in three parts or more.
+#[inline(never)]
+pub(crate) fn any_text(s: &str, out: &mut Bytes) -> Result<(), Memory>
     ensures ok { OnOk result (out.new ≡ out.old ++ printed_string s.now) }
     ensures err { OnErr result (AppendsPrefix out.old (printed_string s.now) out.new) }
 {

@@ -1,9 +1,24 @@
-use Rattle.std.proofs.Common.{[], ◌∷◌}
-use Rattle.sj_json.specs.Printing.{printed_string}
-use Rattle.sj_text.proofs.Appends.{first_stopped}
+use Rattle.std.proofs.Common.{◌≡◌, ◌++◌, List, ℕ, Some, refl, subst, OnOk}
+use Rattle.std.proofs.lemmas.Result.{on_err_weaker}
+use Rattle.sj_text.specs.Windows.{IsQuoted}
+use Rattle.sj_text.specs.Rendering.{lead}
+use Rattle.sj_text.proofs.Appends.{begun, stays}
+use Rattle.sj_text.proofs.Windows.{first_key, later_key}
 use Rattle.sj_text.proofs.node.key_text.Goals as goal
 
-pub returns-in_err-string_text-in-Some-clause-err :
-    goal.returns-in_err-string_text-in-Some-clause-err
-returns-in_err-string_text-in-Some-clause-err c =
-    rw c.in-Some.is (first_stopped c.from_residual.result c.args.out.now (printed_string c.in-Some.key.now) (58 ∷ []) c.string_text.new.out c.in_err-string_text-in-Some.ensures.err)
+pub returns-in-First-clause-ok : goal.returns-in-First-clause-ok
+returns-in-First-clause-ok c =
+    let quoted : IsQuoted c.args.key.now c.quote.new.window = subst (λ (l : List ℕ). IsQuoted l c.quote.new.window) c.as_bytes.ensures.value (c.if-not-quote.ensures.quoted refl) in
+    rw c.in-First.is
+    (subst (λ (l : List ℕ). OnOk c.push_front.result (c.push_front.new.out ≡ c.args.out.now ++ l)) (first_key c.args.key.now c.quote.new.window quoted) c.push_front.ensures.ok)
+
+pub returns-in-Later-clause-ok : goal.returns-in-Later-clause-ok
+returns-in-Later-clause-ok c =
+    let quoted : IsQuoted c.args.key.now c.quote.new.window = subst (λ (l : List ℕ). IsQuoted l c.quote.new.window) c.as_bytes.ensures.value (c.if-not-quote.ensures.quoted refl) in
+    rw c.in-Later.is
+    (subst (λ (l : List ℕ). OnOk c.push_front-in-Later.result (c.push_front-in-Later.new.out ≡ c.args.out.now ++ l)) (later_key c.args.key.now c.quote.new.window quoted) c.push_front-in-Later.ensures.ok)
+
+pub returns-in-Later-clause-err : goal.returns-in-Later-clause-err
+returns-in-Later-clause-err c =
+    let text = lead c.args.place (Some c.args.key.now) in
+    on_err_weaker c.push_front-in-Later.result (stays c.args.out.now text c.args.out.now text c.push_front-in-Later.new.out (begun c.args.out.now text)) c.push_front-in-Later.ensures.err
