@@ -1,10 +1,10 @@
 // The texts of fields.
-ghost use Rattle.std.specs.Prelude.{◌≡◌, ◌++◌, ◌<◌, ◌≤◌, length, take, slice_index, true, false, codes, decimal, IfSome, OnOk, OnErr};
+ghost use Rattle.std.specs.Prelude.{◌≡◌, ◌++◌, ◌<◌, ◌≤◌, length, take, drop, slice_index, true, false, codes, decimal, IfSome, OnOk, OnErr};
 ghost use Rattle.std.specs.List.{flat_map};
 ghost use Rattle.sj_decimal.specs.Text.{decimal_text};
 ghost use Rattle.sj_text.specs.Prefixes.{AppendsPrefix};
 ghost use Rattle.sj_value.specs.Values.{IsPrintable};
-ghost use Rattle.sj_rows.specs.RowText.{has_escape, escaped_byte, escaped, number_field, tabbed};
+ghost use Rattle.sj_rows.specs.RowText.{has_escape, escaped_byte, escaped, number_field, tabbed, Extends};
 
 use crate::plain::plain_end;
 use crate::window::push_front;
@@ -12,6 +12,7 @@ use itoa::write_digits;
 use sj_base::{Bytes, Memory};
 use sj_decimal::Decimal;
 use sj_value::SqlValue;
+use std::alloc::Global;
 
 /// Appends a TAB and the field of a value.
 ///
@@ -140,6 +141,35 @@ fn push_escaped(out: &mut Bytes, bytes: &[u8]) -> Result<(), Memory>
             }
         }
     }
+}
+
+/// Escapes the bytes from a place on, as a field has them. Where none needs it, as in most texts, nothing moves.
+///
+/// # Errors
+/// `Memory` where memory ran out. What stands before the place stays, and anything may stand behind it.
+#[inline(always)]
+pub fn escape_from(alloc: Global, out: &mut Bytes, from: usize) -> Result<(), Memory>
+    requires { from ≤ length out.old }
+    ensures ok { OnOk result (out.new ≡ take from out.old ++ escaped (drop from out.old)) }
+    ensures err { OnErr result (Extends (take from out.old) out.new) }
+{
+    if plain_end(out.as_slice(), from) == out.len() {
+        return Ok(());
+    }
+    escape_anew(alloc, out, from)
+}
+
+// The same, from a copy of the bytes.
+#[inline(never)]
+fn escape_anew(alloc: Global, out: &mut Bytes, from: usize) -> Result<(), Memory>
+    requires { from ≤ length out.old }
+    ensures ok { OnOk result (out.new ≡ take from out.old ++ escaped (drop from out.old)) }
+    ensures err { OnErr result (Extends (take from out.old) out.new) }
+{
+    let mut plain = Bytes::new(alloc);
+    plain.push(&out.as_slice()[from..])?;
+    out.truncate(from);
+    push_escaped(out, plain.as_slice())
 }
 
 // How many bytes stand for themselves before the first that does not.
