@@ -3,7 +3,7 @@ ghost use Rattle.std.specs.Prelude.{◌≡◌, IfOk};
 ghost use Rattle.sj_value.specs.Values.{IsPrintable};
 ghost use Rattle.sj_build.specs.Constructors.{array_value};
 
-use crate::element::{is_kept, lead, value_text};
+use crate::element::{begin, is_kept, lead, value_text};
 use sj_base::{Bytes, Memory};
 use sj_text::Place;
 use sj_value::{Nulls, SqlValue};
@@ -23,7 +23,7 @@ pub fn json_array(alloc: Global, values: &[SqlValue], nulls: Nulls) -> Result<Sq
 {
     let mut text = Bytes::new(alloc);
     let mut place = Place::First;
-    text.push(b"[")?;
+    begin(&mut text, b'[')?;
     for value in values {
         if is_kept(nulls, value) {
             lead(&mut text, place)?;

@@ -6,7 +6,7 @@ ghost use Rattle.sj_build.specs.Constructors as spec;
 ghost use Rattle.sj_text.specs.Rendering.{comma};
 ghost use Rattle.sj_build.specs.Growing.{opening, opened, Extends};
 
-use crate::element::{is_kept, lead, take_bracket, value_text};
+use crate::element::{begin, is_kept, lead, take_bracket, value_text};
 use sj_base::{Bytes, Memory};
 use sj_text::Place;
 use sj_value::{Nulls, SqlValue};
@@ -104,7 +104,7 @@ fn append(text: &mut Bytes, place: Place, value: &SqlValue) -> Result<(), Memory
     ensures err { OnErr result (Extends text.old text.new) }
 {
     if text.is_empty() {
-        text.push(b"[")?;
+        begin(text, b'[')?;
     }
     lead(text, place)?;
     value_text(text, value)?;

@@ -1,5 +1,5 @@
 // The texts of elements and members, and which of them are kept.
-ghost use Rattle.std.specs.Prelude.{◌≡◌, ◌++◌, ◌≤◌, ◌-◌, length, take, drop, option_map, Ok, IfOk, IfErr, OnOk, OnErr};
+ghost use Rattle.std.specs.Prelude.{◌≡◌, ◌++◌, ◌∷◌, [], ◌≤◌, ◌-◌, length, take, drop, option_map, Ok, IfOk, IfErr, OnOk, OnErr};
 ghost use Rattle.sj_build.specs.Constructors as spec;
 ghost use Rattle.sj_build.specs.Constructors.{pair_text};
 ghost use Rattle.sj_build.specs.Answers.{RefusesNull};
@@ -38,6 +38,20 @@ pub(crate) fn kept_key<'k>(
             Err(BuildRefusal::State(State::S22004))
         }
     }
+}
+
+// The room of a text when it begins, in bytes. Most texts are no longer, and take memory once.
+const FIRST_ROOM: usize = 64;
+
+// Begins a text with its opening bracket, and makes room for what most have.
+#[inline(always)]
+pub(crate) fn begin(text: &mut Bytes, bracket: u8) -> Result<(), Memory>
+    ensures ok { OnOk result (text.new ≡ text.old ++ bracket ∷ []) }
+    ensures err { OnErr result (text.new ≡ text.old) }
+{
+    text.push(&[bracket; FIRST_ROOM])?;
+    text.truncate(text.len() - (FIRST_ROOM - 1));
+    Ok(())
 }
 
 // Appends what stands before an element.

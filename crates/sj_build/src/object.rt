@@ -4,7 +4,7 @@ ghost use Rattle.sj_value.specs.Values.{IsPrintable};
 ghost use Rattle.sj_build.specs.Answers.{RefusesAs};
 ghost use Rattle.sj_build.specs.Constructors.{object_value};
 
-use crate::element::{kept_key, lead, member_text};
+use crate::element::{begin, kept_key, lead, member_text};
 use crate::field::Field;
 use crate::keys::{LentKeys, note_lent};
 use crate::refusal::BuildRefusal;
@@ -43,7 +43,7 @@ pub fn json_object(
         },
     };
     let mut place = Place::First;
-    text.push(b"{")?;
+    begin(&mut text, b'{')?;
     for field in fields {
         if let Some(key) = kept_key(&field.key, &field.value, nulls)? {
             note_lent(&mut keys.noted, key)?;

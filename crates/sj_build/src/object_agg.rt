@@ -9,7 +9,7 @@ ghost use Rattle.sj_build.specs.Growing.{opening, opened, Extends};
 ghost use Rattle.sj_build.specs.Answers.{RefusesAs, RefusesRepeated};
 ghost use Rattle.sj_build.specs.Keys.{owned_keys, noted};
 
-use crate::element::{kept_key, lead, member_text, take_bracket};
+use crate::element::{begin, kept_key, lead, member_text, take_bracket};
 use crate::keys::note_copy;
 use crate::refusal::BuildRefusal;
 use indexmap::IndexSet;
@@ -170,7 +170,7 @@ fn append(
     ensures unique { is_some keys.new ≡ is_some keys.old }
 {
     if text.is_empty() {
-        text.push(b"{")?;
+        begin(text, b'{')?;
     }
     lead(text, place)?;
     member_text(text, key, value)?;
