@@ -2,3 +2,5 @@
 mod Outcomes
 -- for `query_items` and `rest_text`
 mod Wrapping
+-- for `items_field`, `rest_text` and `some_field`
+mod QueryFields

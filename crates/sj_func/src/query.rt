@@ -148,7 +148,7 @@ fn query_some<'d, L: Ledger>(
 }
 
 // What ON EMPTY or ON ERROR gives, where ERROR raises this state.
-fn given(alloc: Global, action: QueryAction, state: State) -> Result<Outcome, Memory>
+pub(crate) fn given(alloc: Global, action: QueryAction, state: State) -> Result<Outcome, Memory>
     ensures outcome { IfOk result (λ o. o ≡ query_error action state) }
     ensures printable { IfOk result IsPrinted }
 {

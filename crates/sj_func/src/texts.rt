@@ -1,9 +1,10 @@
 // The texts of items.
-ghost use Rattle.std.specs.Prelude.{◌≡◌, ◌≤◌, ◌<◌, ◌+◌, ◌++◌, ◌∷◌, [], length, Some, remove, IfOk, OnOk, if◌then◌else◌};
+ghost use Rattle.std.specs.Prelude.{◌≡◌, ◌≤◌, ◌<◌, ◌+◌, ◌++◌, ◌∷◌, [], length, Some, remove, IfOk, OnOk, OnErr, if◌then◌else◌};
 ghost use Rattle.sj_base.specs.Count.{raised};
 ghost use Rattle.sj_json.specs.Printing.{printed, printed_more_items};
 ghost use Rattle.sj_item.specs.Items.{item_value, item_tree, nodes_below};
 ghost use Rattle.sj_step.specs.Trace.{items, visits, fault_of};
+ghost use Rattle.sj_rows.specs.RowText.{Extends};
 ghost use Rattle.sj_func.specs.Functions.{string_of, query_value, elements, all_below};
 ghost use Rattle.sj_func.specs.Gathering.{has_some, stays as stays_of};
 
@@ -82,6 +83,7 @@ pub(crate) fn rest_text<'d, L: Ledger>(
     steps: &mut Steps<L>,
 ) -> Result<Rest, Memory>
     ensures text { OnOk result (text.new ≡ text.old ++ printed_more_items (elements (items cursor.old.left))) }
+    ensures extends { OnErr result (Extends text.old text.new) }
     ensures some { IfOk result (λ r. r.some ≡ has_some (items cursor.old.left)) }
     ensures fault { IfOk result (λ r. r.fault ≡ fault_of cursor.old.left) }
     ensures costs { steps.new ≤ raised steps.old (visits cursor.old.left + all_below (items cursor.old.left)) }

@@ -1,5 +1,6 @@
 use Rattle.std.proofs.Common.{◌∙◌, sym}
 use Rattle.sj_func.proofs.Wrapping.{count_given, items_ended, fault_ended, items_failed, fault_failed, passing_on, passing_cost, passing_push_cost, passing_end_text, passing_end_some, passing_end_cost, passing_fault_cost}
+use Rattle.sj_func.proofs.QueryFields.{extends_by, extends_more}
 use Rattle.sj_func.proofs.texts.rest_text.Goals as goal
 
 pub returns-in_err-push-in-Item-clause-costs : goal.returns-in_err-push-in-Item-clause-costs
@@ -12,6 +13,7 @@ pub texts-preserved : goal.texts-preserved
 texts-preserved g c = record {
   path = c.in-Item.ensures.path ∙ c.texts.invariant.path;
   vars = c.in-Item.ensures.vars ∙ c.texts.invariant.vars;
+  extends = extends_more _ _ _ c.texts.invariant.extends (extends_more _ _ _ (extends_by _ _ _ c.in_ok-push-in-Item.ensures.ok) (extends_by _ _ _ c.in_ok-item_text-in-Item.ensures.ok));
   passing = passing_on _ _ _ _ _ _ _ _ _ _ _ _ _ c.texts.invariant.passing c.in-Item.ensures.answers c.in_ok-push-in-Item.ensures.ok c.in_ok-item_text-in-Item.ensures.ok c.in_ok-item_text-in-Item.ensures.steps;
 }
 
