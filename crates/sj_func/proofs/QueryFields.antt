@@ -1,5 +1,5 @@
 -- An array of items that is printed where its field stands.
-use Rattle.std.proofs.Common.{◌≡◌, ℕ, ◌+◌, List, [], ◌∷◌, ◌++◌, Option, None, Some, Result, Ok, Err, codes, length, take, drop, refl, sym, ap, ap₂, ◌∙◌, subst, append_assoc, arith}
+use Rattle.std.proofs.Common.{◌≡◌, ℕ, ◌+◌, List, ◌∷◌, ◌++◌, Option, None, Result, Ok, Err, codes, length, take, drop, refl, sym, ap, ap₂, ◌∙◌, subst, append_assoc}
 use Rattle.std.proofs.lemmas.List.{length-append, take_at, drop_at}
 use Rattle.std.proofs.lemmas.Bool.{false≢true}
 use Rattle.std.specs.Result.{IsErr}
@@ -11,15 +11,13 @@ use Rattle.sj_item.specs.Items.{ItemValue, item_tree, gives, ends, faults}
 use Rattle.sj_step.specs.Trace.{Trace, items, fault_of}
 use Rattle.sj_cursor.specs.Draws.{Draws}
 use Rattle.sj_text.specs.Prefixes.{AppendsPrefix}
-use Rattle.sj_value.specs.declared.clauses.Wrapper.{Wrapper}
 use Rattle.sj_value.specs.declared.clauses.Wrapper.TheVariants as wrappers
 use Rattle.sj_value.specs.declared.clauses.QuerySpec.{QuerySpec}
 use Rattle.sj_value.specs.declared.value.SqlValue.TheVariants.{Json}
-use Rattle.sj_rows.specs.RowText.{Extends, HasField, escaped, tabbed}
+use Rattle.sj_rows.specs.RowText.{Extends, escaped, tabbed}
 use Rattle.sj_func.specs.Fields.{AppendsOutcome}
-use Rattle.sj_func.specs.Functions.{elements, wrapped, query_error, query_empty, query_items}
+use Rattle.sj_func.specs.Functions.{elements, query_error, query_empty, query_items}
 use Rattle.sj_func.specs.declared.context.Outcome.{Outcome}
-use Rattle.sj_func.specs.declared.context.Outcome.TheVariants.{Value}
 use Rattle.sj_func.proofs.Wrapping.{items_some, items_none, items_fault}
 
 -- ---- where memory runs out

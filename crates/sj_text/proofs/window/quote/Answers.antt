@@ -1,4 +1,4 @@
-use Rattle.std.proofs.Common.{◌≡◌, ◌≤◌, length, sym, ◌∙◌, arith}
+use Rattle.std.proofs.Common.{sym, ◌∙◌, arith}
 use Rattle.sj_text.proofs.Windows.{is_quoted}
 use Rattle.sj_text.proofs.window.quote.Goals as goal
 
