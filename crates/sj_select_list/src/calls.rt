@@ -15,7 +15,8 @@ use crate::operation::{ExistsCall, QueryCall, ValueCall};
 use crate::stack::Stack;
 use sj_base::{Bytes, Ledger, Memory, State, Steps};
 use sj_func::{
-    Context, Outcome, json_exists, json_query, json_value, json_value_field, outcome_field,
+    Context, Outcome, json_exists, json_query, json_query_field, json_value, json_value_field,
+    outcome_field,
 };
 use std::alloc::Global;
 
@@ -183,7 +184,13 @@ impl<'d> QueryCall<'d> {
         ensures costs { let x = path_with self.old.cursor.value in steps.new ≤ raised steps.old (query_cost self.old.clauses.wrapper x.path.mode (context (line_of line.entry)) (trace_of x)) }
         ensures step { query_step self.new ≡ query_step self.old }
     {
-        let outcome = self.outcome(alloc, line.context(), steps)?;
-        outcome_field(out, &outcome)
+        json_query_field(
+            alloc,
+            &mut *self.cursor,
+            line.context(),
+            &self.clauses,
+            out,
+            steps,
+        )
     }
 }
