@@ -11,10 +11,10 @@ ghost use Rattle.sj_rows.specs.Numerals.{room, HasDigits, GivesField, IsFieldOf}
 
 use crate::field::{tabbed_bytes, tabbed_text};
 use crate::numeral::{MOST_DIGITS, ROOM, fixed_point, plain_point, tabbed_digits, whole_end};
-use crate::window::push_front;
 use sj_base::Bytes;
 use sj_doc::Kind;
 use sj_item::Item;
+use sj_text::push_front;
 use sj_value::{CastRefusal, SqlType, cast};
 use std::alloc::Global;
 

@@ -7,10 +7,10 @@ ghost use Rattle.sj_value.specs.Values.{IsPrintable};
 ghost use Rattle.sj_rows.specs.RowText.{has_escape, escaped_byte, escaped, number_field, tabbed, Extends};
 
 use crate::plain::plain_end;
-use crate::window::push_front;
 use itoa::write_digits;
 use sj_base::{Bytes, Memory};
 use sj_decimal::Decimal;
+use sj_text::push_front;
 use sj_value::SqlValue;
 use std::alloc::Global;
 

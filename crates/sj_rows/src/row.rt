@@ -6,9 +6,9 @@ ghost use Rattle.sj_value.specs.Values.{IsPrintable};
 ghost use Rattle.sj_rows.specs.RowText.{row_head, row_front, tabbed, error_bytes};
 
 use crate::field::tabbed_text;
-use crate::window::push_front;
 use itoa::write_digits;
 use sj_base::{Bytes, Memory, State};
+use sj_text::push_front;
 use sj_value::SqlValue;
 
 /// The most bytes before the fields of a row: 20 digits, TAB, 10 digits, TAB and a letter.

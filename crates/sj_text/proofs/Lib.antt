@@ -10,7 +10,7 @@ pub mod Printings
 pub mod PairTexts
 -- for `has_decimals`, `is_decimal_text`, `number_text` and `whole_end`
 pub mod Numerals
--- for `stops_in_16`
+-- for `stops_in_16`, and for crates above
 pub mod Lanes
 -- for `key_text`, `put_ends`, `quote` and `string_text`
 pub mod Windows

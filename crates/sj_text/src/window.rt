@@ -16,10 +16,13 @@ pub(crate) const MOST_QUOTED: usize = MOST_SHORT + 4;
 /// Room for that many bytes from the comma on, and from behind it.
 pub(crate) const ROOM: usize = 24;
 
-// Appends the first bytes of a window. Where its size is known when the program is built, it comes by a few moves, and
-// what is behind the first bytes is cut off again.
+/// Appends the first bytes of a window. Where its size is known when the program is built, it comes by a few moves, and
+/// what is behind the first bytes is cut off again.
+///
+/// # Errors
+/// [`Memory`] where memory runs out. `out` stays as it was.
 #[inline(always)]
-pub(crate) fn push_front(out: &mut Bytes, window: &[u8], count: usize) -> Result<(), Memory>
+pub fn push_front(out: &mut Bytes, window: &[u8], count: usize) -> Result<(), Memory>
     requires { count ≤ length window.now }
     ensures ok { OnOk result (out.new ≡ out.old ++ take count window.now) }
     ensures err { OnErr result (out.new ≡ out.old) }

@@ -1,7 +1,7 @@
 use Rattle.std.proofs.Common.{arith}
 use Rattle.std.proofs.lemmas.Simd.{zip2_splat}
 use Rattle.sj_rows.specs.RowText.{has_escape}
-use Rattle.sj_rows.proofs.Lanes.{hit, either, masked}
+use Rattle.sj_text.proofs.Lanes.{hit, either, masked}
 use Rattle.sj_rows.proofs.plain.escapes_in_8.Goals as goal
 
 pub returns : goal.returns
