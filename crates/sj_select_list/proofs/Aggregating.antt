@@ -223,15 +223,26 @@ item_split (b.ArrayAgg x _) items = refl
 item_split (b.ObjectAgg key x _ unique) items = refl
 
 -- the aggregates so far and those of the items that are left, one item further
-pub collect_step : (xs : List BoundItem) (i : ℕ) (d x : BoundItem) (old new one : List AggregateHeld) (whole : List Aggregate) → i < length xs → get_or xs i d ≡ x → new ≡ old ++ one
-    → map aggregate_of one ≡ aggregates_in (item_of x ∷ []) → map aggregate_of old ++ aggregates_in (items_of (drop i xs)) ≡ whole → map aggregate_of new ++ aggregates_in (items_of (drop (i + 1) xs)) ≡ whole
+pub collect_step : (xs : List BoundItem) (i : ℕ) (d x : BoundItem) (old new : List AggregateHeld) (one whole : List Aggregate) → i < length xs → get_or xs i d ≡ x
+    → map aggregate_of new ≡ map aggregate_of old ++ one → one ≡ aggregates_in (item_of x ∷ [])
+    → map aggregate_of old ++ aggregates_in (items_of (drop i xs)) ≡ whole → map aggregate_of new ++ aggregates_in (items_of (drop (i + 1) xs)) ≡ whole
 collect_step xs i d x old new one whole within is more one_is all =
     let others = aggregates_in (items_of (drop (i + 1) xs)) in
     let first : aggregates_in (items_of (drop i xs)) ≡ aggregates_in (item_of x ∷ items_of (drop (i + 1) xs)) =
     ap (λ l. aggregates_in (items_of l)) (drop_more xs i d within) ∙ ap (λ (y : BoundItem). aggregates_in (item_of y ∷ items_of (drop (i + 1) xs))) is in
-    ap (λ l. map aggregate_of l ++ others) more ∙ ap (λ l. l ++ others) (map-append aggregate_of old one) ∙ append_assoc (map aggregate_of old) (map aggregate_of one) others
+    ap (λ l. l ++ others) more ∙ append_assoc (map aggregate_of old) one others
     ∙ ap (λ l. map aggregate_of old ++ (l ++ others)) one_is ∙ ap (λ l. map aggregate_of old ++ l) (sym (item_split (item_of x) (items_of (drop (i + 1) xs))) ∙ sym first) ∙ all
 
 -- an aggregate more
-pub ready_more : (old new : List AggregateHeld) (a : AggregateHeld) → new ≡ old ++ a ∷ [] → All IsReady old → IsReady a → All IsReady new
+ready_more : (old new : List AggregateHeld) (a : AggregateHeld) → new ≡ old ++ a ∷ [] → All IsReady old → IsReady a → All IsReady new
 ready_more old new a more all one = subst (All IsReady) (sym more) (All-append IsReady old (a ∷ []) all (All-cons IsReady a [] one (All-nil IsReady)))
+
+-- an aggregate more, where it was appended
+pub appended_is : {T E : Type 0} (r : Result T E) (old new : List AggregateHeld) (a : AggregateHeld) (call : Aggregate) → OnOk r (new ≡ old ++ a ∷ []) → aggregate_of a ≡ call
+    → OnOk r (map aggregate_of new ≡ map aggregate_of old ++ call ∷ [])
+appended_is (Ok x) old new a call more is = ap (map aggregate_of) more ∙ map-append aggregate_of old (a ∷ []) ∙ ap (λ c. map aggregate_of old ++ c ∷ []) is
+appended_is (Err e) old new a call more is = tt
+
+pub appended_ready : {T E : Type 0} (r : Result T E) (old new : List AggregateHeld) (a : AggregateHeld) → OnOk r (new ≡ old ++ a ∷ []) → IsReady a → All IsReady old → OnOk r (All IsReady new)
+appended_ready (Ok x) old new a more one all = ready_more old new a more all one
+appended_ready (Err e) old new a more one all = tt

@@ -1,20 +1,22 @@
 // The aggregates of a SELECT list, while they take one row after another.
-ghost use Rattle.std.specs.Prelude.{◌≡◌, ◌≤◌, ◌++◌, ◌∷◌, [], List, All, IfOk, MatchResult, map};
+ghost use Rattle.std.specs.Prelude.{◌≡◌, ◌≤◌, ◌++◌, ◌∷◌, [], List, All, IfOk, OnOk, MatchResult, map};
 ghost use Rattle.sj_base.specs.Count.{raised};
 ghost use Rattle.sj_value.specs.Values.{IsPrintable};
 ghost use Rattle.sj_value.specs.declared.value.SqlValue.{SqlValue as Value};
 ghost use Rattle.sj_func.specs.declared.context.Outcome.TheVariants as outcome;
-ghost use Rattle.sj_bound.specs.View.{items_of};
-ghost use Rattle.sj_select_list.specs.Aggregates.{aggregate, aggregates, aggregates_in, input_cost, inputs_cost};
+ghost use Rattle.sj_bound.specs.View.{items_of, value_of};
+ghost use Rattle.sj_select_list.specs.Aggregates.{aggregate, aggregates, aggregates_in, array_of, object_of, input_cost, inputs_cost};
 ghost use Rattle.sj_select_list.specs.Gathers.{Gathers};
 ghost use Rattle.sj_select_list.specs.Line.{Line, line_of};
+ghost use Rattle.sj_select_list.specs.Operations.{steps_to};
+ghost use Rattle.sj_select_list.specs.Performing.{CanBeGiven};
 ghost use Rattle.sj_select_list.specs.Taking.{CanTake, array_call, object_call, aggregate_of, IsArrayReady, IsObjectReady, IsReady, HasTakenValues, HasTakenMembers, HasTaken, Raises, AllTake};
 
 use crate::finder::Finder;
 use crate::line::LineDoc;
 use crate::stack::Stack;
 use sj_base::{Ledger, Memory, State, Steps, push};
-use sj_bound::BoundItem;
+use sj_bound::{BoundItem, BoundValue};
 use sj_build::{ArrayAgg, BuildRefusal, ObjectAgg};
 use sj_value::{Nulls, SqlValue};
 use std::alloc::Global;
@@ -240,30 +242,59 @@ pub fn aggregates_of<'d>(
     for item in items {
         match item {
             BoundItem::Value(_) => {}
-            BoundItem::ArrayAgg(value, nulls) => {
-                let value = Finder::new(alloc, value)?;
-                let call = ArrayCall {
-                    value,
-                    nulls: *nulls,
-                    array: ArrayAgg::new(alloc, *nulls),
-                };
-                push(&mut all, Aggregate::Array(call))?;
-            }
+            BoundItem::ArrayAgg(value, nulls) => push_array(alloc, value, *nulls, &mut all)?,
             BoundItem::ObjectAgg(key, value, nulls, unique) => {
-                let key = Finder::new(alloc, key)?;
-                let value = Finder::new(alloc, value)?;
-                let call = ObjectCall {
-                    key,
-                    value,
-                    nulls: *nulls,
-                    unique: *unique,
-                    object: ObjectAgg::new(alloc, *nulls, *unique),
-                };
-                push(&mut all, Aggregate::Object(call))?;
+                push_object(alloc, key, value, *nulls, *unique, &mut all)?;
             }
         }
     }
     Ok(all)
+}
+
+// Appends a JSON_ARRAYAGG.
+fn push_array<'d>(
+    alloc: Global,
+    value: &'d BoundValue,
+    nulls: Nulls,
+    all: &mut Vec<Aggregate<'d>>,
+) -> Result<(), Memory>
+    requires { All CanBeGiven (steps_to (value_of value.now)) }
+    ensures aggregates { OnOk result (map aggregate_of all.new.items ≡ map aggregate_of all.old.items ++ array_of (value_of value.now) nulls ∷ []) }
+    ensures ready { All IsReady all.old.items → OnOk result (All IsReady all.new.items) }
+{
+    let value = Finder::new(alloc, value)?;
+    let call = ArrayCall {
+        value,
+        nulls,
+        array: ArrayAgg::new(alloc, nulls),
+    };
+    push(all, Aggregate::Array(call))
+}
+
+// Appends a JSON_OBJECTAGG.
+fn push_object<'d>(
+    alloc: Global,
+    key: &'d BoundValue,
+    value: &'d BoundValue,
+    nulls: Nulls,
+    unique: bool,
+    all: &mut Vec<Aggregate<'d>>,
+) -> Result<(), Memory>
+    requires key { All CanBeGiven (steps_to (value_of key.now)) }
+    requires value { All CanBeGiven (steps_to (value_of value.now)) }
+    ensures aggregates { OnOk result (map aggregate_of all.new.items ≡ map aggregate_of all.old.items ++ object_of (value_of key.now) (value_of value.now) nulls unique ∷ []) }
+    ensures ready { All IsReady all.old.items → OnOk result (All IsReady all.new.items) }
+{
+    let key = Finder::new(alloc, key)?;
+    let value = Finder::new(alloc, value)?;
+    let call = ObjectCall {
+        key,
+        value,
+        nulls,
+        unique,
+        object: ObjectAgg::new(alloc, nulls, unique),
+    };
+    push(all, Aggregate::Object(call))
 }
 
 /// Makes all aggregates forget what they have taken.

@@ -12,6 +12,7 @@ ghost use Rattle.sj_select_list.specs.Values.{trace_of};
 
 use crate::line::LineDoc;
 use crate::operation::{ExistsCall, QueryCall, ValueCall};
+use crate::print::print_outcome;
 use crate::stack::Stack;
 use sj_base::{Bytes, Ledger, Memory, State, Steps};
 use sj_func::{
@@ -47,7 +48,7 @@ impl<'d> ExistsCall<'d> {
         ensures printable { All IsPrintable stack.new.values.items }
     {
         let outcome = self.outcome(line.context(), steps);
-        stack.put(outcome)
+        stack.put(Ok(outcome))
     }
 
     /// Appends a TAB and the field of the value, or gives the state that it raises.
@@ -104,7 +105,7 @@ impl<'d> ValueCall<'d> {
         ensures step { value_step self.new ≡ value_step self.old }
         ensures printable { All IsPrintable stack.new.values.items }
     {
-        let outcome = self.outcome(alloc, line.context(), steps)?;
+        let outcome = self.outcome(alloc, line.context(), steps);
         stack.put(outcome)
     }
 
@@ -167,7 +168,7 @@ impl<'d> QueryCall<'d> {
         ensures step { query_step self.new ≡ query_step self.old }
         ensures printable { All IsPrintable stack.new.values.items }
     {
-        let outcome = self.outcome(alloc, line.context(), steps)?;
+        let outcome = self.outcome(alloc, line.context(), steps);
         stack.put(outcome)
     }
 

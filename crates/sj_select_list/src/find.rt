@@ -122,7 +122,7 @@ fn put_literal(alloc: Global, literal: &Literal, stack: &mut Stack) -> Result<Op
     ensures does { IfOk result (λ raised. EndsIn (put (meaning.literal_outcome literal.now) (held stack.old)) raised (held stack.new)) }
     ensures printable { All IsPrintable stack.new.values.items }
 {
-    let outcome = literal_outcome(alloc, literal)?;
+    let outcome = literal_outcome(alloc, literal);
     stack.put(outcome)
 }
 
@@ -139,7 +139,7 @@ fn put_column(
     ensures does { IfOk result (λ raised. EndsIn (put (meaning.column_outcome columns.now number) (held stack.old)) raised (held stack.new)) }
     ensures printable { All IsPrintable stack.new.values.items }
 {
-    let outcome = column_outcome(alloc, columns, number)?;
+    let outcome = column_outcome(alloc, columns, number);
     stack.put(outcome)
 }
 
@@ -155,7 +155,7 @@ fn put_is_json(
     ensures does { IfOk result (λ raised. EndsIn (put (meaning.is_json_outcome call (tree_of (line_of line.entry))) (held stack.old)) raised (held stack.new)) }
     ensures printable { All IsPrintable stack.new.values.items }
 {
-    let outcome = is_json_outcome(alloc, line.doc(), call)?;
+    let outcome = is_json_outcome(alloc, line.doc(), call);
     stack.put(outcome)
 }
 

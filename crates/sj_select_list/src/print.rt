@@ -1,8 +1,10 @@
 // Printing the values of a SELECT list.
-ghost use Rattle.std.specs.Prelude.{◌≡◌, ◌≤◌, List, [], All, true};
+ghost use Rattle.std.specs.Prelude.{◌≡◌, ◌≤◌, List, [], All, IfOk, true};
 ghost use Rattle.sj_base.specs.Count.{raised};
 ghost use Rattle.sj_value.specs.Values.{IsPrintable};
 ghost use Rattle.sj_func.specs.Fields.{AppendsOutcome};
+ghost use Rattle.sj_func.specs.Functions.{IsPrinted};
+ghost use Rattle.sj_func.specs.declared.context.Outcome.{Outcome as Found};
 ghost use Rattle.sj_bound.specs.Bound as b;
 ghost use Rattle.sj_select_list.specs.Line.{line_of, tree_of};
 ghost use Rattle.sj_select_list.specs.Operations.{step_of, steps_of, steps_to_all};
@@ -16,7 +18,7 @@ use crate::line::LineDoc;
 use crate::operation::Operation;
 use crate::stack::Stack;
 use sj_base::{Bytes, Ledger, Memory, State, Steps};
-use sj_func::outcome_field;
+use sj_func::{Outcome, outcome_field};
 use sj_path_tree::Literal;
 use sj_rows::{fields_text, tabbed_text};
 use sj_sql_grammar::IsJsonCall;
@@ -171,8 +173,7 @@ impl<'d> Operation<'d> {
 fn print_literal(alloc: Global, literal: &Literal, out: &mut Bytes) -> Result<Option<State>, Memory>
     ensures { AppendsOutcome (meaning.literal_outcome literal.now) result out.old out.new }
 {
-    let outcome = literal_outcome(alloc, literal)?;
-    outcome_field(out, &outcome)
+    print_outcome(literal_outcome(alloc, literal), out)
 }
 
 // Appends a TAB and the field of a column, which is not copied.
@@ -198,6 +199,23 @@ fn print_is_json(
 ) -> Result<Option<State>, Memory>
     ensures { AppendsOutcome (meaning.is_json_outcome call (tree_of (line_of line.entry))) result out.old out.new }
 {
-    let outcome = is_json_outcome(alloc, line.doc(), call)?;
-    outcome_field(out, &outcome)
+    print_outcome(is_json_outcome(alloc, line.doc(), call), out)
+}
+
+/// Appends a TAB and the field of the value that was found, or gives the state that is raised in its place.
+///
+/// # Errors
+/// [`Memory`] where memory ran out while the value was looked for, or runs out now.
+#[inline(always)]
+pub(crate) fn print_outcome(
+    found: Result<Outcome, Memory>,
+    out: &mut Bytes,
+) -> Result<Option<State>, Memory>
+    requires { IfOk found IsPrinted }
+    ensures { (o : Found) → IfOk found (λ f. f ≡ o) → AppendsOutcome o result out.old out.new }
+{
+    match found {
+        Ok(outcome) => outcome_field(out, &outcome),
+        Err(memory) => Err(memory),
+    }
 }

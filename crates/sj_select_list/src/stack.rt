@@ -3,6 +3,7 @@ ghost use Rattle.std.specs.Prelude.{◌≡◌, ◌++◌, ◌∷◌, [], All, IfO
 ghost use Rattle.sj_func.specs.Functions.{IsPrinted};
 ghost use Rattle.sj_value.specs.Values.{IsPrintable};
 ghost use Rattle.sj_build.specs.Constructors.{array_value, object_value};
+ghost use Rattle.sj_func.specs.declared.context.Outcome.{Outcome as Found};
 ghost use Rattle.sj_func.specs.declared.context.Outcome.TheVariants.{Value};
 ghost use Rattle.sj_select_list.specs.Performing as spec;
 ghost use Rattle.sj_select_list.specs.Performing.{EndsIn, held, last_of, paired, without_members, without_values};
@@ -64,20 +65,24 @@ impl Stack {
         }
     }
 
-    /// Puts the value of an outcome at the end, or gives the state that it raises.
+    /// Puts the value that was found at the end, or gives the state that is raised in its place.
+    ///
+    /// # Errors
+    /// [`Memory`] where memory ran out while the value was looked for, or runs out now.
     #[inline(always)]
-    pub(crate) fn put(&mut self, outcome: Outcome) -> Result<Option<State>, Memory>
-        requires printed { IsPrinted outcome }
+    pub(crate) fn put(&mut self, found: Result<Outcome, Memory>) -> Result<Option<State>, Memory>
+        requires printed { IfOk found IsPrinted }
         requires printable { All IsPrintable self.old.values.items }
-        ensures does { IfOk result (λ raised. EndsIn (spec.put outcome (held self.old)) raised (held self.new)) }
+        ensures does { (o : Found) → IfOk found (λ f. f ≡ o) → IfOk result (λ raised. EndsIn (spec.put o (held self.old)) raised (held self.new)) }
         ensures printable { All IsPrintable self.new.values.items }
     {
-        match outcome {
-            Outcome::Value(value) => {
+        match found {
+            Ok(Outcome::Value(value)) => {
                 push_in(&mut self.values, value)?;
                 Ok(None)
             }
-            Outcome::Raised(state) => Ok(Some(state)),
+            Ok(Outcome::Raised(state)) => Ok(Some(state)),
+            Err(memory) => Err(memory),
         }
     }
 
@@ -108,7 +113,7 @@ impl Stack {
         ensures printable { All IsPrintable self.new.values.items }
     {
         let outcome = self.array(alloc, count, nulls)?;
-        self.put(outcome)
+        self.put(Ok(outcome))
     }
 
     /// Puts JSON_OBJECT of so many of the last members behind the values, or gives the state that it raises. The members go.
@@ -125,7 +130,7 @@ impl Stack {
         ensures printable { All IsPrintable self.new.values.items }
     {
         let outcome = self.object(alloc, count, nulls, unique)?;
-        self.put(outcome)
+        self.put(Ok(outcome))
     }
 
     // JSON_ARRAY of so many of the last values, which go.
