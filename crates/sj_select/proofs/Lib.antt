@@ -1,4 +1,5 @@
 -- for `TableRows::new`
+mod PlacedRows
 mod SoundColumns
 -- for `columns_of`
 mod MadeColumns

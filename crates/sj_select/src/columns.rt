@@ -1,5 +1,5 @@
 // The columns of a table in one row of its plan.
-ghost use Rattle.std.specs.Prelude.{◌≡◌, ◌≤◌, All, IfOk, map, option_map};
+ghost use Rattle.std.specs.Prelude.{◌≡◌, ◌≤◌, ◌++◌, ◌∷◌, [], All, IfOk, OnOk, map, option_map};
 ghost use Rattle.sj_base.specs.Count.{raised};
 ghost use Rattle.sj_value.specs.Values.{IsPrintable};
 ghost use Rattle.sj_func.specs.Functions.{IsPrinted};
@@ -62,45 +62,6 @@ pub(crate) struct ExistsColumn<'d> {
 }
 
 impl<'d> Column<'d> {
-    /// A column with the variables that are passed to its table.
-    fn new(alloc: Global, column: &'d BoundColumn, vars: &'d Vars) -> Result<Column<'d>, Memory>
-        ensures { IfOk result (λ c. column_of c ≡ with_variables vars.now (bound.column_of column.now)) }
-    {
-        match column {
-            BoundColumn::Ordinality(path) => Ok(Column::Ordinality(*path)),
-            BoundColumn::Regular(number, path, clauses) => {
-                let cursor = boxed_cursor(alloc, path, vars)?;
-                let call = ValueCall { cursor, clauses };
-                Ok(Column::Regular(RegularColumn {
-                    path: *number,
-                    call,
-                }))
-            }
-            BoundColumn::Formatted(number, path, clauses) => {
-                let cursor = boxed_cursor(alloc, path, vars)?;
-                let call = QueryCall {
-                    cursor,
-                    clauses: *clauses,
-                };
-                Ok(Column::Formatted(FormattedColumn {
-                    path: *number,
-                    call,
-                }))
-            }
-            BoundColumn::Exists(number, path, on_error) => {
-                let cursor = boxed_cursor(alloc, path, vars)?;
-                let call = ExistsCall {
-                    cursor,
-                    on_error: *on_error,
-                };
-                Ok(Column::Exists(ExistsColumn {
-                    path: *number,
-                    call,
-                }))
-            }
-        }
-    }
-
     // The value in the row at hand: NULL where its path has no item there.
     fn outcome<L: Ledger>(
         &mut self,
@@ -199,10 +160,43 @@ pub(crate) fn columns_of<'d>(
 {
     let mut columns = Vec::with_capacity(alloc, table.columns.len() as usize)?;
     for column in table.columns.as_slice() {
-        let column = Column::new(alloc, column, &table.vars)?;
-        push(&mut columns, column)?;
+        push_column(alloc, column, &table.vars, &mut columns)?;
     }
     Ok(columns)
+}
+
+// Appends a column with the variables that are passed to its table.
+fn push_column<'d>(
+    alloc: Global,
+    column: &'d BoundColumn,
+    vars: &'d Vars,
+    columns: &mut Vec<Column<'d>>,
+) -> Result<(), Memory>
+    ensures { OnOk result (map column_of columns.new.items ≡ map column_of columns.old.items ++ with_variables vars.now (bound.column_of column.now) ∷ []) }
+{
+    match column {
+        BoundColumn::Ordinality(path) => push(columns, Column::Ordinality(*path)),
+        BoundColumn::Regular(number, path, clauses) => {
+            let cursor = boxed_cursor(alloc, path, vars)?;
+            let call = ValueCall { cursor, clauses };
+            let path = *number;
+            push(columns, Column::Regular(RegularColumn { path, call }))
+        }
+        BoundColumn::Formatted(number, path, clauses) => {
+            let cursor = boxed_cursor(alloc, path, vars)?;
+            let clauses = *clauses;
+            let call = QueryCall { cursor, clauses };
+            let path = *number;
+            push(columns, Column::Formatted(FormattedColumn { path, call }))
+        }
+        BoundColumn::Exists(number, path, on_error) => {
+            let cursor = boxed_cursor(alloc, path, vars)?;
+            let on_error = *on_error;
+            let call = ExistsCall { cursor, on_error };
+            let path = *number;
+            push(columns, Column::Exists(ExistsColumn { path, call }))
+        }
+    }
 }
 
 /// Puts the values of the columns in the row at hand in the place of those that were there, up to the first that raises a state, which is given.

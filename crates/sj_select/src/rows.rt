@@ -169,15 +169,20 @@ impl<'d> RowsOf<'d> {
         ensures left { IfOk result (λ r. r.left ≡ statement_rows (bound_of bound.now) (line_of line.entry)) }
         ensures due { IfOk result (λ r. r.due ≡ statement_cost (bound_of bound.now) (line_of line.entry)) }
     {
-        let mut source = RowSource::new(alloc, bound)?;
-        source.rewind(line);
-        Ok(RowsOf {
-            alloc,
-            bound,
-            line,
-            source,
-            stage: Stage::Going,
-        })
+        // The source is large, so it goes straight to its place, and through no call in between.
+        match RowSource::new(alloc, bound) {
+            Ok(mut source) => {
+                source.rewind(line);
+                Ok(RowsOf {
+                    alloc,
+                    bound,
+                    line,
+                    source,
+                    stage: Stage::Going,
+                })
+            }
+            Err(memory) => Err(memory),
+        }
     }
 
     /// The same for another line, wherever the rows stood. It takes no memory.

@@ -14,11 +14,11 @@ ghost use Rattle.sj_select_list.specs.Performing.{CanBeGiven};
 ghost use Rattle.sj_select_list.specs.Taking.{IsReady, HasTaken, aggregate_of};
 ghost use Rattle.sj_select_list.specs.Values.{given_list, list_cost};
 ghost use Rattle.sj_select.specs.Rows.{StatementRows, one_row, listed, aggregated, aggregated_cost, statement_rows, statement_cost};
-ghost use Rattle.sj_select.specs.Sources.{IsFor, IsReadySource, source_left, source_due, listed_due, due_behind, Prints, TakesRow, TakesRows, taken_cost};
+ghost use Rattle.sj_select.specs.Sources.{IsFor, IsTableOf, IsPlacedIfAny, IsReadySource, source_left, source_due, listed_due, due_behind, Prints, TakesRow, TakesRows, taken_cost};
 ghost use Rattle.sj_select.specs.Tables.{IsPlaced, plan_left, plan_due};
 
 use crate::table::TableRows;
-use sj_base::{Bytes, Ledger, Memory, State, Steps, boxed};
+use sj_base::{Bytes, Ledger, Memory, State, Steps};
 use sj_bound::Bound;
 use sj_rows::fields_text;
 use sj_select_list::{
@@ -64,14 +64,13 @@ impl<'d> RowSource<'d> {
         ensures ready { IfOk result IsReadySource }
         ensures is_for { IfOk result (IsFor (bound_of bound.now)) }
     {
-        let table = match &bound.table {
-            Some(table) => Some(boxed(alloc, TableRows::new(alloc, table)?)?),
-            None => None,
-        };
+        let operations = operations_of(alloc, bound)?;
+        let aggregates = aggregates_of(alloc, bound.items.as_slice())?;
+        let table = table_rows(alloc, bound)?;
         Ok(RowSource {
             table,
-            operations: operations_of(alloc, bound)?,
-            aggregates: aggregates_of(alloc, bound.items.as_slice())?,
+            operations,
+            aggregates,
             stack: Stack::new(alloc),
         })
     }
@@ -120,6 +119,18 @@ impl<'d> RowSource<'d> {
             let aggregates = self.aggregates.as_mut_slice();
             print_aggregated(alloc, table, aggregates, line, out, &mut self.stack, steps)
         }
+    }
+}
+
+// The rows of the table of a statement, where it has one.
+fn table_rows<'d>(alloc: Global, bound: &'d Bound) -> Result<Option<Box<TableRows<'d>>>, Memory>
+    requires { IsSound (bound_of bound.now) }
+    ensures placed { IfOk result IsPlacedIfAny }
+    ensures is_for { IfOk result (λ table. IsTableOf table (bound_of bound.now).table) }
+{
+    match &bound.table {
+        Some(table) => Ok(Some(TableRows::new(alloc, table)?)),
+        None => Ok(None),
     }
 }
 

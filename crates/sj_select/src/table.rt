@@ -13,7 +13,7 @@ ghost use Rattle.sj_select.specs.Rows.{rows_on, rows_cost_on};
 ghost use Rattle.sj_select.specs.Tables.{IsPlaced, plan_left, plan_due};
 
 use crate::columns::{Column, columns_of, fill};
-use sj_base::{Ledger, Memory, State, Steps};
+use sj_base::{Ledger, Memory, State, Steps, boxed};
 use sj_bound::BoundTable;
 use sj_func::Context;
 use sj_item::Item;
@@ -34,15 +34,16 @@ pub(crate) struct TableRows<'d> {
 }
 
 impl<'d> TableRows<'d> {
-    /// The rows of a table, on no item yet. The cursors of its paths and of its columns take their memory here.
+    /// The rows of a table, on no item yet, in a place of their own. The cursors of its paths and of its columns take their memory here.
     ///
     /// # Errors
     /// [`Memory`] where memory runs out.
-    pub(crate) fn new(alloc: Global, table: &'d BoundTable) -> Result<TableRows<'d>, Memory>
+    pub(crate) fn new(alloc: Global, table: &'d BoundTable) -> Result<Box<TableRows<'d>>, Memory>
         requires { IsSoundTable (table_of table.now) }
-        ensures table { IfOk result (λ t. t.table.now ≡ table.now) }
-        ensures placed { IfOk result IsPlaced }
+        ensures table { IfOk result (λ t. t.value.table.now ≡ table.now) }
+        ensures placed { IfOk result (λ t. IsPlaced t.value) }
     {
+        let columns = columns_of(alloc, table)?;
         let cursor = TableCursor::new(
             alloc,
             &table.plan,
@@ -50,14 +51,21 @@ impl<'d> TableRows<'d> {
             &table.vars,
             table.on_error,
             Item::Null,
-        )?;
-        Ok(TableRows {
-            table,
-            cursor,
-            bad: None,
-            columns: columns_of(alloc, table)?,
-            values: Vec::new(alloc),
-        })
+        );
+        // The cursor is large, so it goes straight to its place, and through no call in between.
+        match cursor {
+            Ok(cursor) => {
+                let rows = TableRows {
+                    table,
+                    cursor,
+                    bad: None,
+                    columns,
+                    values: Vec::new(alloc),
+                };
+                boxed(alloc, rows)
+            }
+            Err(memory) => Err(memory),
+        }
     }
 
     /// From the first row on, on another context item. It takes no memory.

@@ -1,4 +1,4 @@
 use Rattle.sj_select_list.proofs.find.put_literal.Goals as goal
 
 pub returns-clause-does : goal.returns-clause-does
-returns-clause-does c = c.put.ensures.does _ c.literal_outcome.ensures.is
+returns-clause-does c = c.put.ensures.does _ c.literal_outcome-outcome.ensures.is

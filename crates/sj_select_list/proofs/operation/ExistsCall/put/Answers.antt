@@ -7,4 +7,4 @@ use Rattle.sj_select_list.proofs.operation.ExistsCall.put.Goals as goal
 pub returns-clause-does : goal.returns-clause-does
 returns-clause-does g c =
     let x = path_with c.args.self.now.cursor.value in
-    c.put.ensures.does _ (c.outcome.ensures.outcome ∙ ap (λ root. exists_outcome c.args.self.now.on_error x.path.mode root (trace_of x)) c.context.ensures)
+    c.put.ensures.does _ (c.outcome-outcome.ensures.outcome ∙ ap (λ root. exists_outcome c.args.self.now.on_error x.path.mode root (trace_of x)) c.context.ensures)

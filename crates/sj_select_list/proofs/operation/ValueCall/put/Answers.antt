@@ -8,4 +8,4 @@ pub returns-clause-does : goal.returns-clause-does
 returns-clause-does g c =
     let x = path_with c.args.self.now.cursor.value in
     c.put.ensures.does _
-    (subst (λ (root : ContextValue). IfOk c.outcome.result (λ o. o ≡ value_outcome c.args.self.now.clauses.now x.path.mode root (trace_of x))) c.context.ensures c.outcome.ensures.outcome)
+    (subst (λ (root : ContextValue). IfOk c.outcome-outcome.result (λ o. o ≡ value_outcome c.args.self.now.clauses.now x.path.mode root (trace_of x))) c.context.ensures c.outcome-outcome.ensures.outcome)
