@@ -1,6 +1,6 @@
 -- Operations that print one value of a list each, and what the fields of the whole list are.
-use Rattle.std.proofs.Common.{◌≡◌, ◌≤◌, ◌<◌, ℕ, ◌+◌, List, [], ◌∷◌, ◌++◌, Bool, true, false, length, map, drop, get_or, Option, Some, None, Result, Ok, Err, inl, inr, refl, sym, ap, subst, ◌∙◌, arith, append_assoc}
-use Rattle.std.specs.List.{All, flat_map}
+use Rattle.std.proofs.Common.{◌≡◌, ◌≤◌, ◌<◌, ℕ, ◌+◌, List, [], ◌∷◌, ◌++◌, true, false, length, drop, get_or, Option, Some, None, Result, Ok, Err, inl, inr, refl, sym, ap, subst, ◌∙◌, arith, append_assoc}
+use Rattle.std.specs.List.{flat_map}
 use Rattle.std.specs.Result.{IsErr}
 use Rattle.std.proofs.lemmas.List.{append-nil, get_or-map}
 use Rattle.std.proofs.lemmas.Bool.{cases_eq}
@@ -12,7 +12,6 @@ use Rattle.sj_value.specs.declared.value.SqlValue.{SqlValue}
 use Rattle.sj_text.specs.Prefixes.{AppendsPrefix}
 use Rattle.sj_rows.specs.RowText.{tabbed, Extends, HasField}
 use Rattle.sj_rows.proofs.Extending.{extends_by, extends_more}
-use Rattle.sj_func.specs.Fields.{AppendsOutcome}
 use Rattle.sj_func.specs.declared.context.Outcome.{Outcome}
 use Rattle.sj_func.specs.declared.context.Outcome.TheVariants.{Value, Raised}
 use Rattle.sj_bound.specs.Bound as b
@@ -20,7 +19,7 @@ use Rattle.sj_select_list.specs.Gathers.{Gathers}
 use Rattle.sj_select_list.specs.Line.{Line}
 use Rattle.sj_select_list.specs.Operations.{OperationStep, literal, column, exists, value, query, is_json, member, object, array, step_of, steps_of, steps_to_all}
 use Rattle.sj_select_list.specs.Performing.{StackView, put, done, step_cost, performed}
-use Rattle.sj_select_list.specs.Printing.{HasFields, AppendsList, finds_value, FindsValue, found_by, only, HoldsFields, AppendsSteps}
+use Rattle.sj_select_list.specs.Printing.{HasFields, AppendsList, FindsValue, found_by, only, HoldsFields, AppendsSteps}
 use Rattle.sj_select_list.specs.Values.{given_list}
 use Rattle.sj_select_list.specs.declared.operation.Operation.{Operation}
 use Rattle.sj_select_list.proofs.FoundValues.{end_step, end_stop, cost_step, cost_stop, list_gathers}

@@ -1,11 +1,11 @@
 use Rattle.std.proofs.Common.{◌<◌, ◌∙◌, Ok, None, Some, arith, length, get_or, refl}
 use Rattle.sj_func.specs.Fields.{AppendsOutcome}
 use Rattle.sj_select_list.specs.Line.{line_of}
-use Rattle.sj_select_list.specs.Operations.{step_of, steps_of}
+use Rattle.sj_select_list.specs.Operations.{step_of}
 use Rattle.sj_select_list.specs.Printing.{FindsValue, found_by}
 use Rattle.sj_select_list.proofs.FoundValues.{first_step, step_kept, given_at}
-use Rattle.sj_select_list.proofs.GatheredOutcomes.{held_at, none_left}
-use Rattle.sj_select_list.proofs.PrintedFields.{come_none, come_more, come_raised, come_within, come_extends, come_end, come_cost, steps_stopped}
+use Rattle.sj_select_list.proofs.GatheredOutcomes.{held_at}
+use Rattle.sj_select_list.proofs.PrintedFields.{come_none, come_more, come_raised, come_within, come_extends, steps_stopped}
 use Rattle.sj_select_list.proofs.print.print_each.Goals as goal
 
 pub loop-operation-init : goal.loop-operation-init
