@@ -1,10 +1,10 @@
 -- What is answered of the rows that are left, and printed, by what was found in the place of the next one.
-use Rattle.std.proofs.Common.{◌≡◌, ◌≤◌, ℕ, List, [], ◌++◌, length, take, codes, Result, Ok, Err, OnErr, refl, sym, ap, ◌∙◌, arith, append_assoc, length-append}
+use Rattle.std.proofs.Common.{◌≡◌, ◌≤◌, ℕ, List, ◌++◌, length, take, codes, Result, Ok, Err, OnErr, refl, sym, ap, ◌∙◌, arith, append_assoc, length-append}
 use Rattle.std.specs.List.{flat_map}
 use Rattle.std.proofs.lemmas.List.{append-nil}
-use Rattle.sj_rows.specs.RowText.{row_head, row_front, row_bytes, tabbed, Extends}
+use Rattle.sj_rows.specs.RowText.{row_head, row_front, tabbed, Extends}
 use Rattle.sj_rows.proofs.Extending.{extends_by, extends_more, extends_back}
-use Rattle.sj_table.specs.Series.{done, more, rest}
+use Rattle.sj_table.specs.Series.{done, rest}
 use Rattle.sj_select.specs.Rows.{StatementRows}
 use Rattle.sj_select.specs.Seen.{turn_of, due_behind, next_text}
 use Rattle.sj_select.specs.Sources.{HasRow, Prints, found_due}

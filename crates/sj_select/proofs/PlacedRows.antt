@@ -1,7 +1,6 @@
 -- The rows of a table, where they were put in a place of their own.
 use Rattle.std.proofs.Common.{◌≡◌, Box, Global, IfOk, Result, Ok, Err, sym, ap, subst}
 use Rattle.sj_base.specs.declared.memory.Memory.{Memory}
-use Rattle.sj_bound.specs.declared.bound.BoundTable.{BoundTable}
 use Rattle.sj_select.specs.Tables.{IsPlaced}
 use Rattle.sj_select.specs.declared.table.TableRows.{TableRows}
 

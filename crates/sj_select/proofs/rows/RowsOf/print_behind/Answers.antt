@@ -1,5 +1,4 @@
 use Rattle.std.proofs.Common.{◌≡◌, ℕ, ◌++◌, ◌∙◌, sym, ap, subst}
-use Rattle.sj_rows.specs.RowText.{Extends}
 use Rattle.sj_table.specs.Series.{rest}
 use Rattle.sj_table.specs.Takes.{Spends}
 use Rattle.sj_bound.specs.View.{bound_of}
