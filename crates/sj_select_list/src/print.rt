@@ -199,7 +199,8 @@ fn print_is_json(
 ) -> Result<Option<State>, Memory>
     ensures { AppendsOutcome (meaning.is_json_outcome call (tree_of (line_of line.entry))) result out.old out.new }
 {
-    print_outcome(is_json_outcome(alloc, line.doc(), call), out)
+    let outcome = is_json_outcome(alloc, line.doc(), call)?;
+    outcome_field(out, &outcome)
 }
 
 /// Appends a TAB and the field of the value that was found, or gives the state that is raised in its place.
