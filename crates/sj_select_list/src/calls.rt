@@ -12,7 +12,6 @@ ghost use Rattle.sj_select_list.specs.Values.{trace_of};
 
 use crate::line::LineDoc;
 use crate::operation::{ExistsCall, QueryCall, ValueCall};
-use crate::print::print_outcome;
 use crate::stack::Stack;
 use sj_base::{Bytes, Ledger, Memory, State, Steps};
 use sj_func::{

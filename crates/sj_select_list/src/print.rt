@@ -203,15 +203,9 @@ fn print_is_json(
     outcome_field(out, &outcome)
 }
 
-/// Appends a TAB and the field of the value that was found, or gives the state that is raised in its place.
-///
-/// # Errors
-/// [`Memory`] where memory ran out while the value was looked for, or runs out now.
+// Appends a TAB and the field of the value that was found, or gives the state that is raised in its place.
 #[inline(always)]
-pub(crate) fn print_outcome(
-    found: Result<Outcome, Memory>,
-    out: &mut Bytes,
-) -> Result<Option<State>, Memory>
+fn print_outcome(found: Result<Outcome, Memory>, out: &mut Bytes) -> Result<Option<State>, Memory>
     requires { IfOk found IsPrinted }
     ensures { (o : Found) → IfOk found (λ f. f ≡ o) → AppendsOutcome o result out.old out.new }
 {
