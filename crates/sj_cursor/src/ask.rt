@@ -53,13 +53,30 @@ impl<'d> Cursor<'d> {
             (Stands::AtTheBeginning, Some(chain), Item::Node(root)) => {
                 single_node(chain.nodes(*root, limit, steps), several)
             }
-            // Its answer is made anew here. Else this call would be handed the place of the other arm's answer, which could then not
-            // stay in registers.
-            _ => Ok(self.single_on(limit, several, steps)?),
+            _ => self.single_apart(limit, several, steps),
         }
     }
 
-    // The same, cell by cell.
+    // The same, cell by cell. The place in memory for the answer is cleared here, and not on the other way too. Put together anew, the
+    // answer leaves that of the other way in registers.
+    #[inline(always)]
+    fn single_apart<L: Ledger>(
+        &mut self,
+        limit: Limit,
+        several: State,
+        steps: &mut Steps<L>,
+    ) -> Result<Option<Item<'d>>, State>
+        requires { limit ≡ limit_of_single self.old.path.mode }
+        ensures answers { single_value result ≡ single self.old.path.mode several self.old.left }
+        ensures costs { steps.new ≤ raised steps.old (need self.old.path.mode 2 self.old.left) }
+        ensures path { self.new.path ≡ self.old.path }
+        ensures vars { self.new.vars ≡ self.old.vars }
+        ensures root { self.new.root ≡ self.old.root }
+    {
+        Ok(self.single_on(limit, several, steps)?)
+    }
+
+    // The same, out of line.
     #[inline(never)]
     fn single_on<L: Ledger>(
         &mut self,

@@ -56,11 +56,25 @@ pub fn json_value_field<'d, L: Ledger>(
     match single_item(cursor, context, steps) {
         Ok(Some(item)) => match tabbed_cast(alloc, out, item, spec.ty) {
             Ok(()) => Ok(None),
-            Err(CastRefusal::State(state)) => action_field(out, &spec.on_error, state),
+            Err(CastRefusal::State(state)) => rare_field(out, &spec.on_error, state),
             Err(CastRefusal::Memory) => Err(Memory),
         },
-        Ok(None) => action_field(out, &spec.on_empty, State::S22035),
-        Err(state) => action_field(out, &spec.on_error, state),
+        Ok(None) => rare_field(out, &spec.on_empty, State::S22035),
+        Err(state) => rare_field(out, &spec.on_error, state),
+    }
+}
+
+// `action_field`, from where it is rarely called. The place in memory for its answer is cleared here, and not on the other ways.
+// Put together anew, the answer leaves those of the other ways in registers.
+#[inline(always)]
+fn rare_field(out: &mut Bytes, action: &ValueAction, state: State) -> Result<Option<State>, Memory>
+    requires { GivesPrintable action.now }
+    ensures { AppendsOutcome (value_error action.now state) result out.old out.new }
+{
+    match action_field(out, action, state) {
+        Ok(None) => Ok(None),
+        Ok(Some(raised)) => Ok(Some(raised)),
+        Err(memory) => Err(memory),
     }
 }
 

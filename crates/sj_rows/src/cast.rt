@@ -51,7 +51,26 @@ pub fn tabbed_cast<'d>(
             _ => {}
         }
     }
-    tabbed_value(alloc, out, item, ty)
+    rare_value(alloc, out, item, ty)
+}
+
+// `tabbed_value`, from where it is rarely called. The place in memory for its answer is cleared here, and not on the other ways.
+// Put together anew, the answer leaves those of the other ways in registers.
+#[inline(always)]
+fn rare_value<'d>(
+    alloc: Global,
+    out: &mut Bytes,
+    item: Item<'d>,
+    ty: SqlType,
+) -> Result<(), CastRefusal>
+    requires { IsCastType ty }
+    ensures { AppendsCast (cast_of (item_value item.entry) ty) result out.old out.new }
+{
+    match tabbed_value(alloc, out, item, ty) {
+        Ok(()) => Ok(()),
+        Err(CastRefusal::State(state)) => Err(CastRefusal::State(state)),
+        Err(CastRefusal::Memory) => Err(CastRefusal::Memory),
+    }
 }
 
 // The same for every item, over the value that the cast makes.

@@ -1,18 +1,20 @@
 // The texts of fields.
-ghost use Rattle.std.specs.Prelude.{◌≡◌, ◌++◌, ◌<◌, ◌≤◌, length, take, drop, slice_index, true, false, codes, decimal, IfSome, OnOk, OnErr};
+ghost use Rattle.std.specs.Prelude.{◌≡◌, ◌+◌, ◌++◌, ◌<◌, ◌≤◌, length, take, drop, slice_index, true, false, codes, decimal, IfSome, OnOk, OnErr};
 ghost use Rattle.std.specs.List.{flat_map};
 ghost use Rattle.sj_decimal.specs.Text.{decimal_text};
 ghost use Rattle.sj_text.specs.Prefixes.{AppendsPrefix};
+ghost use Rattle.sj_text.specs.Windows.{most_short};
 ghost use Rattle.sj_value.specs.Values.{IsPrintable};
 ghost use Rattle.sj_rows.specs.RowText.{has_escape, escaped_byte, escaped, number_field, tabbed, Extends};
 
-use crate::plain::plain_end;
+use crate::plain::{escapes_in_16, plain_end};
 use itoa::write_digits;
 use sj_base::{Bytes, Memory};
 use sj_decimal::Decimal;
-use sj_text::push_front;
+use sj_text::{MOST_SHORT, push_front, put_short};
 use sj_value::SqlValue;
 use std::alloc::Global;
+use std::simd::prelude::*;
 
 /// Appends a TAB and the field of a value.
 ///
@@ -64,6 +66,36 @@ fn tabbed_truth(out: &mut Bytes, truth: bool) -> Result<(), Memory>
 }
 
 pub(crate) fn tabbed_bytes(out: &mut Bytes, bytes: &[u8]) -> Result<(), Memory>
+    ensures ok { OnOk result (out.new ≡ out.old ++ (codes "\t" ++ escaped bytes.now)) }
+    ensures err { OnErr result (AppendsPrefix out.old (codes "\t" ++ escaped bytes.now) out.new) }
+{
+    let mut window = [b' '; 1 + MOST_SHORT];
+    if tabbed_short(&mut window, bytes) {
+        return push_front(out, &window, 1 + bytes.len());
+    }
+    tabbed_runs(out, bytes)
+}
+
+// Writes a TAB and the bytes at the front of a window, if the bytes are few and stand for themselves. Otherwise anything
+// stands there.
+#[inline(always)]
+fn tabbed_short(window: &mut [u8], bytes: &[u8]) -> bool
+    requires { length window.old ≡ 1 + most_short }
+    ensures same { length window.new ≡ length window.old }
+    ensures short { result ≡ true → length bytes.now ≤ most_short }
+    ensures tabbed { result ≡ true → take (1 + length bytes.now) window.new ≡ codes "\t" ++ escaped bytes.now }
+{
+    if bytes.len() > MOST_SHORT {
+        return false;
+    }
+    put_short(window, 0, b"\t");
+    put_short(window, 1, bytes);
+    escapes_in_16(u8x16::from_slice(&window[1..])) == 0
+}
+
+// A TAB and bytes that are many, or of which some have escapes.
+#[inline(never)]
+fn tabbed_runs(out: &mut Bytes, bytes: &[u8]) -> Result<(), Memory>
     ensures ok { OnOk result (out.new ≡ out.old ++ (codes "\t" ++ escaped bytes.now)) }
     ensures err { OnErr result (AppendsPrefix out.old (codes "\t" ++ escaped bytes.now) out.new) }
 {

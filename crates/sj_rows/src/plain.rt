@@ -6,8 +6,9 @@ ghost use Rattle.sj_rows.specs.RowText.{has_escape, stands};
 
 use std::simd::prelude::*;
 
+// The bytes that have escapes.
 #[inline(always)]
-fn escapes_in_16(v: u8x16) -> u64
+pub(crate) fn escapes_in_16(v: u8x16) -> u64
     ensures { result ≡ mask_l (map has_escape v) }
 {
     (v.simd_eq(u8x16::splat(b'\\'))

@@ -21,4 +21,4 @@ mod window;
 pub use item::item_text;
 pub use place::Place;
 pub use string::string_text;
-pub use window::push_front;
+pub use window::{MOST_SHORT, push_front, put_short};

@@ -7,8 +7,8 @@ ghost use Rattle.sj_text.specs.Windows.{most_short, room, IsQuoted};
 use sj_base::{Bytes, Memory};
 use std::simd::prelude::*;
 
-/// The most bytes that come so.
-pub(crate) const MOST_SHORT: usize = 16;
+/// The most bytes of a text that is short.
+pub const MOST_SHORT: usize = 16;
 
 /// The most bytes of a comma, a short string between quotation marks, and a colon.
 pub(crate) const MOST_QUOTED: usize = MOST_SHORT + 4;
@@ -77,9 +77,9 @@ fn stops_in_16(v: u8x16) -> u64
         | v.simd_lt(u8x16::splat(0x20))).to_bitmask()
 }
 
-// Writes a few bytes at a place of a window.
+/// Writes a few bytes at a place of a window, by a move or two. What is before the place stays, and so may what is behind them.
 #[inline(always)]
-fn put_short(window: &mut [u8], at: usize, bytes: &[u8])
+pub fn put_short(window: &mut [u8], at: usize, bytes: &[u8])
     requires short { length bytes.now ≤ most_short }
     requires within { at + length bytes.now ≤ length window.old }
     ensures put { take (at + length bytes.now) window.new ≡ take at window.old ++ bytes.now }
