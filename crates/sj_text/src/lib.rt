@@ -6,8 +6,8 @@
 //! [`item_text`] visits the nodes of a document one by one, without recursion and without memory but that of the bytes
 //! it writes to. It raises the counter by exactly the nodes below the item's node. Where memory runs out, what was
 //! written is a first part of the text (`AppendsPrefix`). A run of bytes that stand for themselves is written at once,
-//! and so is a numeral that is the text of its number. [`push_front`] appends a short text by moves of one size, for crates
-//! above too.
+//! and so is a numeral that is the text of its number. [`put_short`] and [`push_front`] append a short text by moves of one
+//! size, for crates above too.
 #![tactic(auto)]
 
 mod item;

@@ -77,7 +77,7 @@ fn stops_in_16(v: u8x16) -> u64
         | v.simd_lt(u8x16::splat(0x20))).to_bitmask()
 }
 
-/// Writes a few bytes at a place of a window, by a move or two. What is before the place stays, and so may what is behind them.
+/// Writes a few bytes, at most [`MOST_SHORT`], at a place of a window, by a move or two. What stands before the place stays.
 #[inline(always)]
 pub fn put_short(window: &mut [u8], at: usize, bytes: &[u8])
     requires short { length bytes.now ≤ most_short }
