@@ -1,4 +1,4 @@
--- Short strings. Private clauses alone cite them.
+-- Short texts. But for `most_short`, private clauses alone cite the following.
 use Rattle.std.specs.Prelude.{◌≡◌, ℕ, ◌+◌, ◌≤◌, List, [], ◌∷◌, ◌++◌, length, take}
 use Rattle.std.specs.List.{flat_map}
 use Rattle.sj_json.specs.Printing.{printed_byte}
