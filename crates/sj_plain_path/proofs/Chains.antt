@@ -24,7 +24,7 @@ use Rattle.sj_step.proofs.Ranges.{lax_range_stops, lax_range_goes}
 use Rattle.sj_step.proofs.Runs.{run, run_between, run_skip, run_give}
 use Rattle.sj_plain_path.specs.Openings.{opened}
 use Rattle.sj_plain_path.specs.Takers.{Taken, with_item, suffices, taken_of, taking_cost}
-use Rattle.sj_plain_path.specs.Chains.{accessor, accessed, below, under, over, throughout, element, elements_of, node_value, Reaches, Sought, Seeking}
+use Rattle.sj_plain_path.specs.Chains.{accessor, accessed, member_under, below, under, over, throughout, element, elements_of, node_value, Reaches, Sought, Seeking}
 use Rattle.sj_plain_path.specs.declared.opening.Opening.{Opening}
 use Rattle.sj_plain_path.specs.declared.opening.Opening.TheVariants.{AsItIs, Unwrapped}
 use Rattle.sj_plain_path.specs.declared.chain.Link.{Link}
@@ -45,6 +45,12 @@ pub first_only : (ls : List Link) (d l : Link) → length ls ≡ 1 → get_or ls
 first_only [] d l one e = absurd (omega (arith, one))
 first_only (x ∷ []) d l one e = ap (λ (y : Link). y ∷ []) e
 first_only (x ∷ y ∷ ls) d l one e = absurd (omega (arith, one))
+
+first_two : (ls : List Link) (d e l m : Link) → length ls ≡ 2 → get_or ls 0 d ≡ l → get_or ls 1 e ≡ m → ls ≡ l ∷ m ∷ []
+first_two [] d e l m two a b = absurd (omega (arith, two))
+first_two (x ∷ []) d e l m two a b = absurd (omega (arith, two))
+first_two (x ∷ y ∷ []) d e l m two a b = ap (λ (u : Link). u ∷ y ∷ []) a ∙ ap (λ (u : Link). l ∷ u ∷ []) b
+first_two (x ∷ y ∷ z ∷ ls) d e l m two a b = absurd (omega (arith, two))
 
 pub link_behind : (e : t.Expr) (ls : List Link) (l : Link) → accessed e (ls ++ (l ∷ [])) ≡ t.Access (accessed e ls) (accessor l)
 link_behind e [] l = refl
@@ -103,6 +109,17 @@ member_other how key rest i tree other =
     unwrapped_below how key rest (node i tree)
     ∙ ap (λ u. each u (under how key.now rest)) (unopened Lax (node i tree) other)
     ∙ join-stop (under how key.now rest (node i tree))
+
+pub member_object : (how : Opening) (key : Key) (rest : List Link) (i : ℕ) (tree : Tree) → kind_of tree ≡ kinds.Object
+    → below how (links.Member key ∷ rest) (node i tree) ≡ under how key.now rest (node i tree)
+member_object how key rest i tree e = member_other how key rest i tree (λ array. absurd (cc))
+
+-- two accessors, each of members
+pub two_members : (how : Opening) (ls : List Link) (d e : Link) (outer inner : Key) (x : ItemValue)
+    → how ≡ AsItIs → length ls ≡ 2 → get_or ls 0 d ≡ links.Member outer → get_or ls 1 e ≡ links.Member inner
+    → below how ls x ≡ below AsItIs (member_under outer.now ∷ member_under inner.now ∷ []) x
+two_members how ls d e outer inner x h two a b =
+    ap (λ (o : Opening). below o ls x) h ∙ ap (λ (us : List Link). below AsItIs us x) (first_two ls d e (links.Member outer) (links.Member inner) two a b)
 
 pub elements_array : (how : Opening) (rest : List Link) (i : ℕ) (tree : Tree) → kind_of tree ≡ kinds.Array
     → below how (links.AllElements ∷ rest) (node i tree) ≡ throughout how rest (numbered (i + 1) (children tree))

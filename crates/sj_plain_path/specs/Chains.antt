@@ -27,6 +27,10 @@ accessor (links.Member key) = t.Member key.now
 accessor links.AllElements = t.AllElements
 accessor (links.Element index) = t.Elements (t.Only (t.One (t.Lit (Num (pos index, 0)))))
 
+-- the accessor of members under a key, wherever that lies
+abbrev pub member_under : List ℕ → Link
+member_under key = links.Member (record { ref_ptr = (0, 0); now = key })
+
 -- accessors on an expression, in order
 abbrev pub accessed : t.Expr → List Link → t.Expr
 accessed e [] = e

@@ -1,13 +1,14 @@
 // Plain paths, which are the root or `@` and, behind it, accessors of members, of all elements and of the element at an index, in lax
 // mode. Their items on a node are found without cells.
-ghost use Rattle.std.specs.Prelude.{◌≡◌, ◌+◌, [], ◌∷◌, true, IfOk, IfSome, pos};
+ghost use Rattle.std.specs.Prelude.{◌≡◌, ◌≢◌, ◌+◌, [], ◌∷◌, true, IfOk, IfSome, pos};
 ghost use Rattle.sj_json.specs.Tree.{children, numbered};
+ghost use Rattle.sj_doc.specs.Kinds.{kind_of};
 ghost use Rattle.sj_doc.specs.Listed.{node_id, node_tree};
 ghost use Rattle.sj_path_tree.specs.Tree as tree;
 ghost use Rattle.sj_path_tree.specs.declared.parts.Mode.TheVariants.{Lax};
 ghost use Rattle.sj_path_tree.specs.View.{path_of, expr_of, step_of, subs_of};
 ghost use Rattle.sj_plain_path.specs.Openings.{opened};
-ghost use Rattle.sj_plain_path.specs.Chains.{IsChainOf, Sought, Reaches, node_value, accessor, accessed, below, under, over, throughout, element, elements_of};
+ghost use Rattle.sj_plain_path.specs.Chains.{IsChainOf, Sought, Reaches, node_value, accessor, accessed, member_under, below, under, over, throughout, element, elements_of};
 ghost use Rattle.sj_plain_path.specs.Looks.{Finds, look_value, nodes_look};
 ghost use Rattle.sj_plain_path.specs.Pairings.{PairingSeen, beside_truth};
 ghost use Rattle.sj_plain_path.specs.Takers.{taken_value};
@@ -15,10 +16,10 @@ ghost use Rattle.sj_plain_path.specs.Takers.{taken_value};
 use crate::look::{FoundNodes, Limit, Look};
 use crate::opening::Opening;
 use crate::pairing::{Beside, Pairing};
-use crate::take::{Aim, Gathered};
+use crate::take::{Aim, Gathered, Search};
 use sj_base::{Ledger, Memory, Steps};
 use sj_decimal::Decimal;
-use sj_doc::{Children, Kind, NodeRef};
+use sj_doc::{Kind, NodeRef};
 use sj_path_tree::{Expr, Literal, Mode, Path, Step, Sub, Subs};
 use std::alloc::Global;
 
@@ -113,7 +114,7 @@ fn nodes_below<'d, L: Ledger>(
     ensures { Finds limit (below how links.now (node_value node.entry)) (nodes_look result) steps.old steps.new }
 {
     let mut gathered = Gathered::nothing();
-    seek_short(how, &Aim::Look(limit), links, node, &mut gathered, steps);
+    look_short(how, limit, links, node, steps, &mut gathered);
     gathered.nodes
 }
 
@@ -131,14 +132,11 @@ pub fn see_below<'d, L: Ledger>(
     ensures { PairingSeen early (beside_truth beside.entry) (below how links.now (node_value node.entry)) result.found result.doubt steps.old steps.new }
 {
     let mut gathered = Gathered::nothing();
-    seek_short(
+    let search = Search {
         how,
-        &Aim::Pairs(early, beside),
-        links,
-        node,
-        &mut gathered,
-        steps,
-    );
+        aim: Aim::Pairs(early, beside),
+    };
+    seek_short(&search, links, node, steps, &mut gathered);
     gathered.pairing
 }
 
@@ -146,51 +144,48 @@ pub fn see_below<'d, L: Ledger>(
 // gone through in place, and nothing that recurs is called.
 #[inline(always)]
 fn seek_short<'d, L: Ledger>(
-    how: Opening,
-    aim: &Aim<'_, 'd>,
+    search: &Search<'_, 'd>,
     links: &[Link<'d>],
     node: NodeRef<'d>,
-    gathered: &mut Gathered<'d>,
     steps: &mut Steps<L>,
+    gathered: &mut Gathered<'d>,
 ) -> bool
-    ensures { Sought (taken_value aim.now gathered.old) (below how links.now (node_value node.entry)) (taken_value aim.now gathered.new) result steps.old steps.new }
+    ensures { Sought (taken_value search.now.aim gathered.old) (below search.now.how links.now (node_value node.entry)) (taken_value search.now.aim gathered.new) result steps.old steps.new }
 {
     match links {
         [Link::Member(key)] => match node.kind() {
-            Kind::Array => seek_apart(how, *aim, links, node, gathered, steps),
-            _ => take_members(how, aim, key, node, gathered, steps),
+            Kind::Array => seek_apart(*search, links, node, steps, gathered),
+            _ => take_members(search, key, node, steps, gathered),
         },
-        _ => seek_apart(how, *aim, links, node, gathered, steps),
+        _ => seek_apart(*search, links, node, steps, gathered),
     }
 }
 
-// The same as `seek`, with a copy of the aim. What is passed by its place has to lie in memory, and the aim would lie there in the
-// callers too.
+// The same as `seek`, with a copy of the search. What is passed by its place has to lie in memory, and the search would lie there in
+// the callers too.
 #[inline(always)]
 fn seek_apart<'d, L: Ledger>(
-    how: Opening,
-    aim: Aim<'_, 'd>,
+    search: Search<'_, 'd>,
     links: &[Link<'d>],
     node: NodeRef<'d>,
-    gathered: &mut Gathered<'d>,
     steps: &mut Steps<L>,
+    gathered: &mut Gathered<'d>,
 ) -> bool
-    ensures { Sought (taken_value aim.entry gathered.old) (below how links.now (node_value node.entry)) (taken_value aim.entry gathered.new) result steps.old steps.new }
+    ensures { Sought (taken_value search.entry.aim gathered.old) (below search.entry.how links.now (node_value node.entry)) (taken_value search.entry.aim gathered.new) result steps.old steps.new }
 {
-    seek(how, &aim, links, node, gathered, steps)
+    seek(&search, links, node, steps, gathered)
 }
 
 // The members under a key of a node that is not unwrapped, each at the end of the accessors.
 #[inline(always)]
 fn take_members<'d, L: Ledger>(
-    how: Opening,
-    aim: &Aim<'_, 'd>,
+    search: &Search<'_, 'd>,
     key: &str,
     node: NodeRef<'d>,
-    gathered: &mut Gathered<'d>,
     steps: &mut Steps<L>,
+    gathered: &mut Gathered<'d>,
 ) -> bool
-    ensures { Sought (taken_value aim.now gathered.old) (under how key.now [] (node_value node.entry)) (taken_value aim.now gathered.new) result steps.old steps.new }
+    ensures { Sought (taken_value search.now.aim gathered.old) (under search.now.how key.now [] (node_value node.entry)) (taken_value search.now.aim gathered.new) result steps.old steps.new }
 {
     match node.kind() {
         Kind::Object => {}
@@ -198,7 +193,84 @@ fn take_members<'d, L: Ledger>(
     }
     let mut members = node.children();
     'members: while let Some(member) = members.next_under(key, steps) {
-        if take_opened(how, aim, member, gathered, steps) {
+        if take_opened(search, member, steps, gathered) {
+            return true;
+        }
+    }
+    false
+}
+
+// Goes through what accessors give of a node, as `seek` does, where items are just looked for.
+#[inline(always)]
+fn look_short<'d, L: Ledger>(
+    how: Opening,
+    limit: Limit,
+    links: &[Link<'d>],
+    node: NodeRef<'d>,
+    steps: &mut Steps<L>,
+    gathered: &mut Gathered<'d>,
+) -> bool
+    ensures { Sought (taken_value (Aim.Look limit) gathered.old) (below how links.now (node_value node.entry)) (taken_value (Aim.Look limit) gathered.new) result steps.old steps.new }
+{
+    match (how, links) {
+        (Opening::AsItIs, [Link::Member(outer), Link::Member(inner)]) => {
+            look_members(limit, outer, inner, node, steps, gathered)
+        }
+        _ => {
+            let search = Search {
+                how,
+                aim: Aim::Look(limit),
+            };
+            seek_short(&search, links, node, steps, gathered)
+        }
+    }
+}
+
+// The same for the members under a key of the members under another one. Both are gone through in place, and mostly nothing that
+// recurs is called.
+#[inline(never)]
+fn look_members<'d, L: Ledger>(
+    limit: Limit,
+    outer: &'d str,
+    inner: &'d str,
+    node: NodeRef<'d>,
+    steps: &mut Steps<L>,
+    gathered: &mut Gathered<'d>,
+) -> bool
+    ensures { Sought (taken_value (Aim.Look limit) gathered.old) (below Opening.AsItIs (member_under outer.now ∷ member_under inner.now ∷ []) (node_value node.entry)) (taken_value (Aim.Look limit) gathered.new) result steps.old steps.new }
+{
+    let search = Search {
+        how: Opening::AsItIs,
+        aim: Aim::Look(limit),
+    };
+    match node.kind() {
+        Kind::Object => seek_inner(&search, outer, inner, node, steps, gathered),
+        _ => {
+            let links = [Link::Member(outer), Link::Member(inner)];
+            seek_apart(search, &links, node, steps, gathered)
+        }
+    }
+}
+
+// The members under a key of the members under another one of a node that is not unwrapped, each at the end of the accessors.
+#[inline(always)]
+fn seek_inner<'d, L: Ledger>(
+    search: &Search<'_, 'd>,
+    outer: &str,
+    inner: &'d str,
+    node: NodeRef<'d>,
+    steps: &mut Steps<L>,
+    gathered: &mut Gathered<'d>,
+) -> bool
+    ensures { Sought (taken_value search.now.aim gathered.old) (under search.now.how outer.now (member_under inner.now ∷ []) (node_value node.entry)) (taken_value search.now.aim gathered.new) result steps.old steps.new }
+{
+    match node.kind() {
+        Kind::Object => {}
+        _ => return false,
+    }
+    let mut members = node.children();
+    'members: while let Some(member) = members.next_under(outer, steps) {
+        if seek_short(search, &[Link::Member(inner)], member, steps, gathered) {
             return true;
         }
     }
@@ -256,30 +328,34 @@ fn index_of(number: Decimal) -> Option<u32>
     }
 }
 
-// Goes through what accessors give of a node, until enough was gathered. It tells whether that is so.
+// Goes through what accessors give of a node, until enough was gathered. It tells whether that is so. One turn goes from a node to the
+// last member under a key or to an element. All other ways are functions of their own, so that a turn has few values to keep. What was
+// gathered comes last, since it may lie on the stack: no turn but the last one asks for it.
 #[cycle(seek)]
 fn seek<'d, L: Ledger>(
-    how: Opening,
-    aim: &Aim<'_, 'd>,
+    search: &Search<'_, 'd>,
     links: &[Link<'d>],
     node: NodeRef<'d>,
-    gathered: &mut Gathered<'d>,
     steps: &mut Steps<L>,
+    gathered: &mut Gathered<'d>,
 ) -> bool
-    ensures { Sought (taken_value aim.now gathered.old) (below how links.now (node_value node.entry)) (taken_value aim.now gathered.new) result steps.old steps.new }
+    ensures { Sought (taken_value search.now.aim gathered.old) (below search.now.how links.now (node_value node.entry)) (taken_value search.now.aim gathered.new) result steps.old steps.new }
 {
     match links {
-        [] => take_opened(how, aim, node, gathered, steps),
+        [] => take_opened(search, node, steps, gathered),
         [link, rest @ ..] => match link {
             Link::Member(key) => match node.kind() {
-                Kind::Array => seek_under(how, aim, key, rest, node.children(), gathered, steps),
-                _ => seek_members(how, aim, key, rest, node, gathered, steps),
+                Kind::Array => seek_under(search, key, rest, node, steps, gathered),
+                _ => seek_members(search, key, rest, node, steps, gathered),
             },
-            Link::AllElements => match node.kind() {
-                Kind::Array => seek_elements(how, aim, rest, node.children(), gathered, steps),
-                _ => seek(how, aim, rest, node, gathered, steps),
+            Link::AllElements => seek_elements(search, rest, node, steps, gathered),
+            Link::Element(index) => match node.kind() {
+                Kind::Array => match element_at(node, *index, steps) {
+                    Some(element) => seek(search, rest, element, steps, gathered),
+                    None => false,
+                },
+                _ => seek_itself(search, *index, rest, node, steps, gathered),
             },
-            Link::Element(index) => seek_element(how, aim, *index, rest, node, gathered, steps),
         },
     }
 }
@@ -287,20 +363,19 @@ fn seek<'d, L: Ledger>(
 // A node at the end of the accessors.
 #[inline(always)]
 fn take_opened<'d, L: Ledger>(
-    how: Opening,
-    aim: &Aim<'_, 'd>,
+    search: &Search<'_, 'd>,
     node: NodeRef<'d>,
-    gathered: &mut Gathered<'d>,
     steps: &mut Steps<L>,
+    gathered: &mut Gathered<'d>,
 ) -> bool
-    ensures { Sought (taken_value aim.now gathered.old) (opened how Lax (node_value node.entry)) (taken_value aim.now gathered.new) result steps.old steps.new }
+    ensures { Sought (taken_value search.now.aim gathered.old) (opened search.now.how Lax (node_value node.entry)) (taken_value search.now.aim gathered.new) result steps.old steps.new }
 {
-    match how {
+    match search.how {
         Opening::Unwrapped => match node.kind() {
-            Kind::Array => take_elements_apart(*aim, node.children(), gathered, steps),
-            _ => gathered.take(aim, node),
+            Kind::Array => take_elements_apart(search.aim, node, steps, gathered),
+            _ => gathered.take(&search.aim, node),
         },
-        Opening::AsItIs => gathered.take(aim, node),
+        Opening::AsItIs => gathered.take(&search.aim, node),
     }
 }
 
@@ -308,25 +383,26 @@ fn take_opened<'d, L: Ledger>(
 #[inline(always)]
 fn take_elements_apart<'d, L: Ledger>(
     aim: Aim<'_, 'd>,
-    elements: Children<'d>,
-    gathered: &mut Gathered<'d>,
+    array: NodeRef<'d>,
     steps: &mut Steps<L>,
+    gathered: &mut Gathered<'d>,
 ) -> bool
-    ensures { Sought (taken_value aim.entry gathered.old) (elements_of elements.entry) (taken_value aim.entry gathered.new) result steps.old steps.new }
+    ensures { Sought (taken_value aim.entry gathered.old) (elements_of (numbered (node_id array.entry + 1) (children (node_tree array.entry)))) (taken_value aim.entry gathered.new) result steps.old steps.new }
 {
-    take_elements(&aim, elements, gathered, steps)
+    take_elements(&aim, array, steps, gathered)
 }
 
 // The elements of an array.
 #[inline(never)]
 fn take_elements<'d, L: Ledger>(
     aim: &Aim<'_, 'd>,
-    mut elements: Children<'d>,
-    gathered: &mut Gathered<'d>,
+    array: NodeRef<'d>,
     steps: &mut Steps<L>,
+    gathered: &mut Gathered<'d>,
 ) -> bool
-    ensures { Sought (taken_value aim.now gathered.old) (elements_of elements.entry) (taken_value aim.now gathered.new) result steps.old steps.new }
+    ensures { Sought (taken_value aim.now gathered.old) (elements_of (numbered (node_id array.entry + 1) (children (node_tree array.entry)))) (taken_value aim.now gathered.new) result steps.old steps.new }
 {
+    let mut elements = array.children();
     'elements: while let Some(element) = elements.next(steps) {
         if gathered.take(aim, element.node) {
             return true;
@@ -336,7 +412,7 @@ fn take_elements<'d, L: Ledger>(
 }
 
 // The element of an array at an index. The elements before it are handed out too, but none is where the array is shorter.
-#[inline(never)]
+#[inline(always)]
 fn element_at<'d, L: Ledger>(
     array: NodeRef<'d>,
     index: u32,
@@ -358,66 +434,64 @@ fn element_at<'d, L: Ledger>(
     None
 }
 
-// What accessors give of the elements of an array.
+// What accessors give of all elements of an array. An item that is no array has itself.
 #[cycle(seek)]
 #[inline(never)]
 fn seek_elements<'d, L: Ledger>(
-    how: Opening,
-    aim: &Aim<'_, 'd>,
+    search: &Search<'_, 'd>,
     rest: &[Link<'d>],
-    mut elements: Children<'d>,
-    gathered: &mut Gathered<'d>,
+    node: NodeRef<'d>,
     steps: &mut Steps<L>,
+    gathered: &mut Gathered<'d>,
 ) -> bool
-    ensures { Sought (taken_value aim.now gathered.old) (throughout how rest.now elements.entry) (taken_value aim.now gathered.new) result steps.old steps.new }
+    ensures { Sought (taken_value search.now.aim gathered.old) (below search.now.how (Link.AllElements ∷ rest.now) (node_value node.entry)) (taken_value search.now.aim gathered.new) result steps.old steps.new }
 {
+    match node.kind() {
+        Kind::Array => {}
+        _ => return seek(search, rest, node, steps, gathered),
+    }
+    let mut elements = node.children();
     'elements: while let Some(element) = elements.next(steps) {
-        if seek(how, aim, rest, element.node, gathered, steps) {
+        if seek(search, rest, element.node, steps, gathered) {
             return true;
         }
     }
     false
 }
 
-// What accessors give of the element at an index. An item that is no array has itself at the index 0.
+// What accessors give of the element at an index of an item that is no array. It has itself at the index 0.
 #[cycle(seek)]
 #[inline(never)]
-fn seek_element<'d, L: Ledger>(
-    how: Opening,
-    aim: &Aim<'_, 'd>,
+fn seek_itself<'d, L: Ledger>(
+    search: &Search<'_, 'd>,
     index: u32,
     rest: &[Link<'d>],
     node: NodeRef<'d>,
-    gathered: &mut Gathered<'d>,
     steps: &mut Steps<L>,
+    gathered: &mut Gathered<'d>,
 ) -> bool
-    ensures { Sought (taken_value aim.now gathered.old) (below how (Link.Element index ∷ rest.now) (node_value node.entry)) (taken_value aim.now gathered.new) result steps.old steps.new }
+    requires { kind_of (node_tree node) ≢ Kind.Array }
+    ensures { Sought (taken_value search.now.aim gathered.old) (below search.now.how (Link.Element index ∷ rest.now) (node_value node.entry)) (taken_value search.now.aim gathered.new) result steps.old steps.new }
 {
-    match node.kind() {
-        Kind::Array => match element_at(node, index, steps) {
-            Some(element) => seek(how, aim, rest, element, gathered, steps),
-            None => false,
-        },
-        _ => index == 0 && seek(how, aim, rest, node, gathered, steps),
-    }
+    index == 0 && seek(search, rest, node, steps, gathered)
 }
 
 // What a member under a key and the accessors behind it give of the elements of an array, which is unwrapped.
 #[cycle(seek)]
 #[inline(never)]
 fn seek_under<'d, L: Ledger>(
-    how: Opening,
-    aim: &Aim<'_, 'd>,
+    search: &Search<'_, 'd>,
     key: &str,
     rest: &[Link<'d>],
-    mut elements: Children<'d>,
-    gathered: &mut Gathered<'d>,
+    array: NodeRef<'d>,
     steps: &mut Steps<L>,
+    gathered: &mut Gathered<'d>,
 ) -> bool
-    ensures { Sought (taken_value aim.now gathered.old) (over how key.now rest.now elements.entry) (taken_value aim.now gathered.new) result steps.old steps.new }
+    ensures { Sought (taken_value search.now.aim gathered.old) (over search.now.how key.now rest.now (numbered (node_id array.entry + 1) (children (node_tree array.entry)))) (taken_value search.now.aim gathered.new) result steps.old steps.new }
 {
+    let mut elements = array.children();
     'elements: while let Some(element) = elements.next(steps) {
-        if seek_members(how, aim, key, rest, element.node, gathered, steps) {
+        if seek_members(search, key, rest, element.node, steps, gathered) {
             return true;
         }
     }
@@ -428,15 +502,14 @@ fn seek_under<'d, L: Ledger>(
 #[cycle(seek)]
 #[inline(always)]
 fn seek_members<'d, L: Ledger>(
-    how: Opening,
-    aim: &Aim<'_, 'd>,
+    search: &Search<'_, 'd>,
     key: &str,
     rest: &[Link<'d>],
     node: NodeRef<'d>,
-    gathered: &mut Gathered<'d>,
     steps: &mut Steps<L>,
+    gathered: &mut Gathered<'d>,
 ) -> bool
-    ensures { Sought (taken_value aim.now gathered.old) (under how key.now rest.now (node_value node.entry)) (taken_value aim.now gathered.new) result steps.old steps.new }
+    ensures { Sought (taken_value search.now.aim gathered.old) (under search.now.how key.now rest.now (node_value node.entry)) (taken_value search.now.aim gathered.new) result steps.old steps.new }
 {
     match node.kind() {
         Kind::Object => {}
@@ -446,9 +519,9 @@ fn seek_members<'d, L: Ledger>(
     'members: while let Some(member) = members.next_under(key, steps) {
         // The last member is gone into with nothing to come back to, so a chain of such members takes one turn for each.
         if members.is_at_end() {
-            return seek(how, aim, rest, member, gathered, steps);
+            return seek(search, rest, member, steps, gathered);
         }
-        if seek(how, aim, rest, member, gathered, steps) {
+        if seek(search, rest, member, steps, gathered) {
             return true;
         }
     }

@@ -5,6 +5,7 @@ ghost use Rattle.sj_plain_path.specs.Looks as looks;
 ghost use Rattle.sj_plain_path.specs.Takers.{taken_value, with_item, suffices};
 
 use crate::look::{FoundNodes, Limit};
+use crate::opening::Opening;
 use crate::pairing::{Beside, Pairing};
 use sj_doc::NodeRef;
 use sj_item::Item;
@@ -16,6 +17,13 @@ pub(crate) enum Aim<'a, 'd> {
     Look(Limit),
     /// Their pairs with what stands beside them are seen; where it is set, up to the first true one.
     Pairs(bool, Beside<'a, 'd>),
+}
+
+/// How items are opened, and what they are taken for.
+#[derive(Clone, Copy)]
+pub(crate) struct Search<'a, 'd> {
+    pub(crate) how: Opening,
+    pub(crate) aim: Aim<'a, 'd>,
 }
 
 /// What was taken so far. Of the two an aim needs one.

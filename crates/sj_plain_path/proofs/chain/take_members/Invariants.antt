@@ -6,7 +6,7 @@ use Rattle.sj_plain_path.proofs.chain.take_members.Given as goal
 
 abbrev pub invariant-members : goal.invariant-members
 invariant-members g l =
-    Seeking (taken_value l.aim l.fn.gathered) (keyed l.how l.key [] l.initial.members) (taken_value l.aim l.gathered) (keyed l.how l.key [] l.members) l.fn.steps l.steps
+    Seeking (taken_value l.search.aim l.fn.gathered) (keyed l.search.how l.key [] l.initial.members) (taken_value l.search.aim l.gathered) (keyed l.search.how l.key [] l.members) l.fn.steps l.steps
 
 abbrev pub decreases-members : goal.decreases-members
 decreases-members g l = length l.members
