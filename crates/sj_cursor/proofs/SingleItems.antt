@@ -7,7 +7,11 @@ use Rattle.sj_path_tree.specs.declared.parts.Mode.TheVariants.{Lax}
 use Rattle.sj_doc.specs.declared.doc.NodeRef.{NodeRef}
 use Rattle.sj_item.specs.Items.{ItemValue}
 use Rattle.sj_step.specs.Trace.{Trace, only, each}
-use Rattle.sj_step.specs.Reach.{unwrap}
+use Rattle.sj_step.specs.Reach.{unwrap, reach}
+use Rattle.sj_step.specs.Literals.{literal_item}
+use Rattle.sj_path_tree.specs.Tree as t
+use Rattle.sj_path_tree.specs.declared.parts.Literal.{Literal}
+use Rattle.sj_path_tree.specs.declared.parts.Literal.TheVariants as literals
 use Rattle.sj_cursor.specs.Cells.{source_value, source_expr}
 use Rattle.sj_plain_path.specs.Chains.{node_value}
 use Rattle.sj_cursor.specs.LaxNodes.{IsLaxNode}
@@ -23,7 +27,7 @@ source_meaning : (s : Source) (env : Env) → meaning (source_expr s) env ≡ on
 source_meaning sources.Root env = refl
 source_meaning sources.Context env = refl
 source_meaning sources.Last env = refl
-source_meaning (sources.Lit l) env = refl
+source_meaning (sources.Lit made) env = refl
 source_meaning (sources.Var name) env = refl
 
 each_only : (x : ItemValue) (g : ItemValue → Trace) → g x ≡ only x → each (only x) g ≡ only x
@@ -48,6 +52,17 @@ pairing_one early test x found doubt a f d = record {
 pub whole_is_one : (s : Source) (env : Env) (x : ItemValue) → x ≡ source_value s env → ((mode : Mode) → unwrap mode x ≡ only x)
     → operand_whole Unwrapped (source_expr s) env ≡ only x
 whole_is_one s env x e flat = ap (λ t. each t (unwrap env.mode)) (source_meaning s env) ∙ rw (← e) (each_only x (unwrap env.mode) (flat env.mode))
+
+-- a literal is no array
+literal_flat : (literal : Literal) (mode : Mode) → unwrap mode (literal_item literal) ≡ only (literal_item literal)
+unfolding reach
+literal_flat (literals.Text s) mode = refl
+literal_flat (literals.Num d) mode = refl
+literal_flat (literals.Bool b) mode = refl
+literal_flat literals.Null mode = refl
+
+pub literal_is_one : (literal : Literal) (env : Env) (x : ItemValue) → x ≡ literal_item literal → operand_whole Unwrapped (t.Lit literal) env ≡ only x
+literal_is_one literal env x e = rw e (each_only (literal_item literal) (unwrap env.mode) (literal_flat literal env.mode))
 
 pub one_seen : (whole : Trace) (x : ItemValue) (early : Bool) (test : ItemTruth) (found doubt : Bool) (a : ℕ)
     → whole ≡ only x → found ≡ (false || is_true (test x)) → doubt ≡ (false || is_unknown (test x)) → PairingSeen early test whole found doubt a a

@@ -33,14 +33,14 @@ abbrev pub source_value : Source → Env → ItemValue
 source_value sources.Root env = env.root
 source_value sources.Context env = env.context
 source_value sources.Last env = made_number (env.last, 0)
-source_value (sources.Lit l) env = literal_item l.now
+source_value (sources.Lit made) env = literal_item made.literal.now
 source_value (sources.Var name) env = variable env name.now
 
 abbrev pub source_expr : Source → t.Expr
 source_expr sources.Root = t.Root
 source_expr sources.Context = t.Context
 source_expr sources.Last = t.Last
-source_expr (sources.Lit l) = t.Lit l.now
+source_expr (sources.Lit made) = t.Lit made.literal.now
 source_expr (sources.Var name) = t.Var name.now
 
 abbrev pub one_left : OneCell → Env → Trace

@@ -13,6 +13,7 @@ use crate::cells::{
     Applied, At, Binary, Both, Bounds, Cell, Comparison, Each, Elements, Filter, MoreParts, One,
     Operand, Operator, Part, Parts, Range, Reached, Results, Simple, Source, Start, Test,
 };
+use crate::one::made;
 use sj_base::{Memory, boxed};
 use sj_path_tree::{Arith, Compare, Expr, Initial, Pred, Step, Sub, Subs};
 use sj_walk::Walk;
@@ -40,7 +41,7 @@ pub(crate) fn expr_cell<'d>(alloc: Global, expr: &'d Expr) -> Result<Box<Cell<'d
         Expr::Var(name) => one(alloc, Source::Var(name.as_str())),
         Expr::Context => one(alloc, Source::Context),
         Expr::Last => one(alloc, Source::Last),
-        Expr::Lit(literal) => one(alloc, Source::Lit(literal)),
+        Expr::Lit(literal) => one(alloc, Source::Lit(made(literal))),
         Expr::Access(inner, step) => {
             let input = expr_cell(alloc, inner)?;
             step_cell(alloc, step, input)

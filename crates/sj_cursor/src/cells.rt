@@ -2,6 +2,10 @@
 // list of items. What holds two operands has a place of its own, since it is far larger than all else that may stand there.
 ghost use Rattle.std.specs.Prelude.{◌≡◌, ◌<◌, unsigned_abs};
 ghost use Rattle.sj_decimal.specs.Limits.{magnitude_limit};
+ghost use Rattle.std.specs.Coded.{Coded-set};
+ghost use Rattle.sj_item.specs.Coding.{item_code};
+ghost use Rattle.sj_item.specs.Items.{item_value};
+ghost use Rattle.sj_step.specs.Literals.{literal_item};
 
 use sj_base::State;
 use sj_item::Item;
@@ -54,8 +58,16 @@ pub(crate) enum Source<'d> {
     Root,
     Context,
     Last,
-    Lit(&'d Literal),
+    Lit(Made<'d>),
     Var(&'d str),
+}
+
+/// A literal, and the item that it is, which is made once and lent to each comparison.
+#[derive(Clone, Copy)]
+pub(crate) struct Made<'d> {
+    pub(crate) literal: &'d Literal,
+    pub(crate) item: Item<'d>,
+    ghost made: { item_value item ≡ literal_item literal.now } by { Coded-set item_code _ _ },
 }
 
 /// An expression that something is done with, and what is left of its item that was unwrapped last.

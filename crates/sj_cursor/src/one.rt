@@ -8,7 +8,7 @@ ghost use Rattle.sj_cursor.specs.Cells.{env_value, source_value, one_left, sourc
 ghost use Rattle.sj_step.specs.Literals.{literal_item as item_of};
 ghost use Rattle.sj_cursor.specs.Meaning.{variable_of, initial_value};
 
-use crate::cells::{One, Source};
+use crate::cells::{Made, One, Source};
 use crate::env::Env;
 use sj_item::{Exact, Item};
 use sj_path_tree::{Initial, Literal, Vars};
@@ -23,13 +23,22 @@ impl<'d> Source<'d> {
             Source::Root => *place = *env.root,
             Source::Context => *place = *env.context,
             Source::Last => *place = Item::Num(whole_number(env.last)),
-            Source::Lit(literal) => *place = literal_item(literal),
+            Source::Lit(made) => *place = made.item,
             Source::Var(name) => *place = variable_item(env.vars, name),
         }
     }
 }
 
-#[inline(always)]
+/// A literal with its item.
+pub(crate) fn made<'d>(literal: &'d Literal) -> Made<'d>
+    ensures { result.literal ≡ literal.entry }
+{
+    Made {
+        literal,
+        item: literal_item(literal),
+    }
+}
+
 fn literal_item<'d>(literal: &'d Literal) -> Item<'d>
     ensures { item_value result ≡ item_of literal.now }
 {

@@ -8,12 +8,13 @@ ghost use Rattle.sj_plain_path.specs.Pairings.{beside_truth, PairingSeen};
 ghost use Rattle.sj_cursor.specs.Decides.{Decides};
 ghost use Rattle.sj_cursor.specs.Left as left_of;
 ghost use Rattle.sj_cursor.specs.Left.{operand_whole, operand_core};
+ghost use Rattle.sj_cursor.specs.Meaning.{Env as Surroundings};
 ghost use Rattle.sj_cursor.specs.Meaning.{verdict};
 ghost use Rattle.sj_cursor.specs.PairingsSeen.{PairingsSeen};
 ghost use Rattle.sj_cursor.specs.Asked.{Asked};
 ghost use Rattle.sj_path_tree.specs.Tree.{Exists as exists_of};
 
-use crate::cells::{Both, Cell, Comparison, Operand, Start, Test};
+use crate::cells::{Both, Cell, Comparison, Operand, Source, Start, Test};
 use crate::env::Env;
 use crate::next::is_array;
 use crate::one::initial_item;
@@ -100,6 +101,21 @@ impl<'d> Operand<'d> {
             return false;
         }
         true
+    }
+
+    // The item of a literal, where it stands.
+    #[tactic(auto, using(crate::proofs::SingleItems::literal_is_one))]
+    #[inline(always)]
+    pub(crate) fn literal(&self) -> Option<&Item<'d>>
+        ensures { IfSome result (λ item. (env : Surroundings) → operand_whole Opening.Unwrapped (operand_core self.now) env ≡ only (item_value item.now)) }
+    {
+        match &*self.cell {
+            Cell::One(one) => match &one.source {
+                Source::Lit(made) => Some(&made.item),
+                _ => None,
+            },
+            Cell::Each(_) | Cell::Binary(_) => None,
+        }
     }
 
     // The pair of its one item with what stands beside it, where it is such an operand: no walk is needed.
@@ -308,13 +324,36 @@ impl<'d> Comparison<'d> {
         ensures decides { Decides (verdict (left_of.comparison_core self.old) (env_value env.now)) result steps.old steps.new }
         ensures same { left_of.comparison_core self.new ≡ left_of.comparison_core self.old }
     {
+        // Most right operands are literals, which are lent as they stand.
+        if let Some(item) = self.right.literal() {
+            let early = is_early(env.mode);
+            let beside = Beside::Right(self.op, item);
+            return self
+                .left
+                .see_pairing(early, beside, env, steps)
+                .truth(early);
+        }
+        self.holds_beside_any(env, steps)
+    }
+
+    // The same, where the right operand is no literal.
+    #[cycle(next)]
+    #[inline(never)]
+    pub(crate) fn holds_beside_any<L: Ledger>(
+        &mut self,
+        env: &Env<'_, 'd>,
+        steps: &mut Steps<L>,
+    ) -> Truth
+        ensures decides { Decides (verdict (left_of.comparison_core self.old) (env_value env.now)) result steps.old steps.new }
+        ensures same { left_of.comparison_core self.new ≡ left_of.comparison_core self.old }
+    {
         let early = is_early(env.mode);
         let mut place = Item::Null;
         if self.right.put_one(env, &mut place) {
             let beside = Beside::Right(self.op, &place);
             return self
                 .left
-                .see_pairing(early, beside, env, steps)
+                .see_pairing_apart(early, beside, env, steps)
                 .truth(early);
         }
         self.holds_pairwise(env, steps)

@@ -161,10 +161,16 @@ Comparison::holds_pairwise-returns-clause-decides g t c =
     let right : operand_core c.see_pairings-pairings.new.self.right ≡ operand_core c.args.self.now.right = cc c.see_pairings-pairings.ensures.same in
     rw c.truth.ensures (compare_all _ _ _ _ _ _ _ _ _ _ _ (rw c.is_early-early.ensures at c.see_pairings-pairings.ensures.seen) (rw c.is_early-early.ensures at (sym c.halts.ensures ∙ c.if-halts.false)) (rw right at c.asks_right-faulty.ensures.asked))
 
-pub Comparison::holds-returns-then-put_one : goal.Comparison::holds-returns-then-put_one
-Comparison::holds-returns-then-put_one g t c = record {
-  decides = right_decides _ _ _ _ _ _ _ _ _ _ _ (c.put_one.ensures c.if-put_one.true) c.is_early-early.ensures c.truth.ensures c.see_pairing.ensures.seen;
+pub Comparison::holds-returns-in-Some : goal.Comparison::holds-returns-in-Some
+Comparison::holds-returns-in-Some g t c = record {
+  decides = right_decides _ _ _ _ _ _ _ _ _ _ _ (c.in-Some.ensures _) c.is_early-early.ensures c.truth.ensures c.see_pairing.ensures.seen;
   same = ap (λ k. Rattle.sj_path_tree.specs.Tree.Compares c.args.self.now.op k (operand_core c.args.self.now.right)) c.see_pairing.ensures.same;
+}
+
+pub Comparison::holds_beside_any-returns-then-put_one : goal.Comparison::holds_beside_any-returns-then-put_one
+Comparison::holds_beside_any-returns-then-put_one g t c = record {
+  decides = right_decides _ _ _ _ _ _ _ _ _ _ _ (c.put_one.ensures c.if-put_one.true) c.is_early-early.ensures c.truth.ensures c.see_pairing_apart.ensures.seen;
+  same = ap (λ k. Rattle.sj_path_tree.specs.Tree.Compares c.args.self.now.op k (operand_core c.args.self.now.right)) c.see_pairing_apart.ensures.same;
 }
 
 pub Start::holds-returns-clause-decides : goal.Start::holds-returns-clause-decides

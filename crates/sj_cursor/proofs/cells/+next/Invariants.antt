@@ -101,14 +101,17 @@ decreases-Start::holds g l = 16 * pred_nodes (start_core l.self.now) + 9
 abbrev pub decreases-Comparison::holds : goal.decreases-Comparison::holds
 decreases-Comparison::holds g l = 16 * pred_nodes (comparison_core l.self.now) + 9
 
+abbrev pub decreases-Comparison::holds_beside_any : goal.decreases-Comparison::holds_beside_any
+decreases-Comparison::holds_beside_any g l = 16 * pred_nodes (comparison_core l.self.now) + 8
+
 abbrev pub decreases-Comparison::holds_pairwise : goal.decreases-Comparison::holds_pairwise
-decreases-Comparison::holds_pairwise g l = 16 * pred_nodes (comparison_core l.self.now) + 8
+decreases-Comparison::holds_pairwise g l = 16 * pred_nodes (comparison_core l.self.now) + 7
 
 abbrev pub decreases-Comparison::see_pairings : goal.decreases-Comparison::see_pairings
-decreases-Comparison::see_pairings g l = 16 * pred_nodes (comparison_core l.self.now) + 7
+decreases-Comparison::see_pairings g l = 16 * pred_nodes (comparison_core l.self.now) + 6
 
 abbrev pub decreases-Comparison::asks_right : goal.decreases-Comparison::asks_right
-decreases-Comparison::asks_right g l = 16 * pred_nodes (comparison_core l.self.now) + 7
+decreases-Comparison::asks_right g l = 16 * pred_nodes (comparison_core l.self.now) + 6
 
 -- ---- the items of an expression, opened
 
