@@ -37,14 +37,14 @@ pub record EndsFraction (bytes : List ℕ) (point end : ℕ) : Type 0 where
   pub within : end < length bytes
   pub near : end < point + 17
 
--- a number without a sign and an exponent, of few digits
+-- a number without a sign and an exponent, which is not long
 pub record IsUnsigned (bytes : List ℕ) (from end : ℕ) : Type 0 where
   pub point : ℕ
   pub whole : HasWhole bytes from point
   pub fraction : HasFraction bytes point end
   pub stops : prefix_len is_number_byte (drop end bytes) ≡ 0
   pub first : is_ascii_digit (get_or bytes from 0) ≡ true
-  pub near : end < from + 32
+  pub near : end < from + 63
 
 -- a number that begins with the byte c, and whose text is kept
 pub record IsPlainNumber (bytes : List ℕ) (at c end : ℕ) : Type 0 where

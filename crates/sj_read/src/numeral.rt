@@ -1,5 +1,6 @@
 // Numbers without an exponent, which most numbers are. One pass checks them and finds their end. What they spell is not read.
 ghost use Rattle.std.specs.Prelude.{◌≡◌, ◌+◌, ◌<◌, ◌≤◌, length, drop, map, slice_index, true, false, IfSome};
+ghost use Rattle.std.specs.Char.{is_ascii_digit};
 ghost use Rattle.std.specs.List.{prefix_len};
 ghost use Rattle.std.specs.Simd.Lanes.{mask_l};
 ghost use Rattle.sj_decimal.specs.Number.{is_number_byte as number_byte};
@@ -12,6 +13,9 @@ use std::simd::prelude::*;
 
 // The value of a longer number is read at once, so that it costs little to ask for it again and again.
 const LONGEST_KEPT: usize = 64;
+
+// The same without a minus sign, which may stand before, and one byte less.
+const MOST_KEPT: usize = LONGEST_KEPT - 2;
 
 // What becomes of a text that may be a number.
 #[derive(Clone, Copy)]
@@ -69,7 +73,8 @@ fn near_digits_end(bytes: &[u8], from: usize) -> Option<usize>
 #[inline(always)]
 fn digits_end(bytes: &[u8], from: usize) -> usize
     requires { from ≤ length bytes.now }
-    ensures { HasDigits bytes.now from result }
+    ensures digits { HasDigits bytes.now from result }
+    ensures first { from < result → is_ascii_digit (slice_index bytes.now from) ≡ true }
 {
     let mut at = from;
     while at < bytes.len() && bytes[at].is_ascii_digit() {
@@ -141,23 +146,22 @@ fn fraction_end(bytes: &[u8], point: usize) -> Option<usize>
     if end == point + 1 { None } else { Some(end) }
 }
 
-// The same as `plain_number_end`, for numbers of more digits and for those near the end of the text.
+// The same as `near_number_end`, for numbers of more digits and for those near the end of the text.
 #[inline(never)]
-fn far_number_end(bytes: &[u8], at: usize, c: u8) -> Option<usize>
-    requires within { at < length bytes.now }
-    requires here { slice_index bytes.now at ≡ c }
-    ensures { IfSome result (IsPlainNumber bytes.now at c) }
+fn far_number_end(bytes: &[u8], from: usize) -> Option<usize>
+    requires { from ≤ length bytes.now }
+    ensures { IfSome result (IsUnsigned bytes.now from) }
 {
-    if !begins_number(c) {
-        return None;
-    }
-    let from = if c == b'-' { at + 1 } else { at };
     let point = digits_end(bytes, from);
     if !is_whole(bytes, from, point) {
         return None;
     }
+    // Most have no fraction.
+    if !goes_on(bytes, point) && point - from <= MOST_KEPT {
+        return Some(point);
+    }
     let end = fraction_end(bytes, point)?;
-    if end > at + LONGEST_KEPT || goes_on(bytes, end) {
+    if end - from > MOST_KEPT || goes_on(bytes, end) {
         return None;
     }
     Some(end)
@@ -173,6 +177,6 @@ pub(crate) fn plain_number_end(bytes: &[u8], at: usize, c: u8) -> Option<usize>
     let from = if c == b'-' { at + 1 } else { at };
     match near_number_end(bytes, from) {
         Some(end) => Some(end),
-        None => Some(far_number_end(bytes, at, c)?),
+        None => Some(far_number_end(bytes, from)?),
     }
 }

@@ -1,14 +1,14 @@
 // The reader: a loop over the tokens that drives a `DocBuilder`.
-ghost use Rattle.std.specs.Prelude.{◌≡◌, ◌≢◌, ℕ, List, ◌+◌, ◌-◌, ◌<◌, ◌≤◌, length, drop, get_or, slice_index, IsUtf8, true, false, IfSome, MatchResult, IfOk, Ok, Err};
+ghost use Rattle.std.specs.Prelude.{◌≡◌, ◌≢◌, ℕ, List, ◌+◌, ◌-◌, ◌<◌, ◌≤◌, length, drop, get_or, slice_index, IsUtf8, true, false, IfSome, MatchOption, MatchResult, IfOk, Ok, Err};
 ghost use Rattle.sj_base.specs.ByteClasses.{is_blank as blank_byte};
 ghost use Rattle.sj_decimal.specs.Number.{begins_number as beginning_byte};
 ghost use Rattle.sj_decimal.specs.Shorts.{between};
 ghost use Rattle.sj_json.specs.Tree.{Tree};
-ghost use Rattle.sj_json.specs.Building.{State};
+ghost use Rattle.sj_json.specs.Building.{State, fresh};
 ghost use Rattle.sj_json.specs.Spelling.{SpellsText, IsJson};
 ghost use Rattle.sj_json.specs.Machine.{value as value_mode, key as key_mode, colon as colon_mode, after_value as after_mode};
 ghost use Rattle.sj_doc.specs.Builders.{node_total};
-ghost use Rattle.sj_read.specs.LinesRead.{IsReadAs};
+ghost use Rattle.sj_read.specs.LinesRead.{IsReadAs, HasRead};
 ghost use Rattle.sj_read.specs.Numerals.{IsPlainNumber};
 ghost use Rattle.sj_read.specs.Scans.{EndsPlain};
 ghost use Rattle.sj_read.specs.Turns.{mode_of, closes_at, Ready, StandsIn, StoodIn, HasTaken, TakesOneKey, Turns};
@@ -719,28 +719,62 @@ pub fn read(alloc: Global, line: &[u8]) -> Result<Doc, ReadRefusal>
 pub fn read_over(alloc: Global, builder: DocBuilder, line: &[u8]) -> Result<LineRead, Memory>
     ensures { IfOk result (IsReadAs line.now) }
 {
-    if line.len() > MAX_LENGTH {
-        return Ok(LineRead::NotJson(builder));
-    }
-    let Some(text) = text_of(line) else {
+    let Some(text) = text_within(line) else {
         return Ok(LineRead::NotJson(builder));
     };
-    let mut builder = builder.holding(text)?;
+    match builder.holding(text) {
+        Ok(builder) => read_held(alloc, builder, text),
+        Err(memory) => Err(memory),
+    }
+}
+
+// The same of a text that the builder holds.
+#[inline(always)]
+fn read_held(alloc: Global, builder: DocBuilder, text: &str) -> Result<LineRead, Memory>
+    requires fresh { builder ≡ (fresh, text.now) }
+    requires short { length text.now ≤ MAX_LENGTH }
+    ensures { IfOk result (IsReadAs text.now) }
+{
+    let mut builder = builder;
+    match read_text(alloc, &mut builder, text) {
+        Ok(()) => Ok(LineRead::Json(builder.finish())),
+        Err(ReadRefusal::NotJson) => Ok(LineRead::NotJson(builder)),
+        Err(ReadRefusal::Memory) => Err(Memory),
+    }
+}
+
+// The text, if the line is one and not too long.
+#[inline(always)]
+fn text_within(line: &[u8]) -> Option<&str>
+    ensures { MatchOption result (IsJson line.now → ⊥) (λ text. (text.now ≡ line.now) × IsUtf8 line.now × (length line.now ≤ MAX_LENGTH)) }
+{
+    if line.len() > MAX_LENGTH {
+        return None;
+    }
+    text_of(line)
+}
+
+// Reads a text into a builder that holds it. Where that gives `Ok`, the document is complete.
+#[inline(always)]
+fn read_text(alloc: Global, builder: &mut DocBuilder, text: &str) -> Result<(), ReadRefusal>
+    requires fresh { builder.old ≡ (fresh, text.now) }
+    requires short { length text.now ≤ MAX_LENGTH }
+    ensures { HasRead text.now result builder.new.0 }
+{
     let mut buffer = Vec::new(alloc);
     let mut mode = Mode::Value;
     let mut at = 0;
     while at < text.len() {
-        match turn(&mut builder, &mut buffer, &mut mode, text, at) {
+        match turn(builder, &mut buffer, &mut mode, text, at) {
             Ok(to) => at = to,
-            Err(ReadRefusal::NotJson) => return Ok(LineRead::NotJson(builder)),
-            Err(ReadRefusal::Memory) => return Err(Memory),
+            Err(refusal) => return Err(refusal),
         }
     }
     match mode {
         Mode::AfterValue => match builder.wants() {
-            Want::Nothing => Ok(LineRead::Json(builder.finish())),
-            _ => Ok(LineRead::NotJson(builder)),
+            Want::Nothing => Ok(()),
+            _ => Err(ReadRefusal::NotJson),
         },
-        _ => Ok(LineRead::NotJson(builder)),
+        _ => Err(ReadRefusal::NotJson),
     }
 }

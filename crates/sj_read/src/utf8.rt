@@ -1,6 +1,6 @@
 // The text of a line, where it is well-formed UTF-8. Most lines are ASCII but for a few characters, which is told faster
 // than by decoding each block.
-ghost use Rattle.std.specs.Prelude.{◌≡◌, ◌<◌, ◌≤◌, length, take, map, IsUtf8, MatchOption};
+ghost use Rattle.std.specs.Prelude.{◌≡◌, ◌+◌, ◌<◌, ◌≤◌, length, take, map, IsUtf8, MatchOption};
 ghost use Rattle.std.specs.Bool.{MatchBool};
 ghost use Rattle.std.specs.Simd.Lanes.{mask_l};
 ghost use Rattle.sj_read.specs.Scans.{is_high, AsciiBetween};
@@ -18,6 +18,20 @@ fn high_in_32(v: u8x32) -> u64
     ensures { result ≡ mask_l (map is_high v) }
 {
     v.simd_gt(u8x32::splat(0x7f)).to_bitmask()
+}
+
+#[inline(always)]
+fn high_in_8(v: u8x8) -> u64
+    ensures { result ≡ mask_l (map is_high v) }
+{
+    v.simd_gt(u8x8::splat(0x7f)).to_bitmask()
+}
+
+#[inline(always)]
+fn high_in_4(v: u8x4) -> u64
+    ensures { result ≡ mask_l (map is_high v) }
+{
+    v.simd_gt(u8x4::splat(0x7f)).to_bitmask()
 }
 
 // The first byte above 127 from the place on, or the length, one byte at a step.
@@ -53,7 +67,45 @@ fn ascii_end(bytes: &[u8], from: usize) -> usize
     if bytes.len() >= 32 && high_in_32(u8x32::from_slice(&bytes[bytes.len() - 32..])) == 0 {
         return bytes.len();
     }
-    ascii_end_by_one(bytes, i)
+    ascii_end_of_31(bytes, i)
+}
+
+// The same near the end of the bytes.
+#[inline(always)]
+fn ascii_end_of_31(bytes: &[u8], from: usize) -> usize
+    requires { from ≤ length bytes.now }
+    ensures later { from ≤ result }
+    ensures within { result ≤ length bytes.now }
+    ensures ascii { AsciiBetween bytes.now from result }
+{
+    let mut i = from;
+    while bytes.len() - i >= 8 {
+        let found = high_in_8(u8x8::from_slice(&bytes[i..]));
+        if found != 0 {
+            return i + found.trailing_zeros() as usize;
+        }
+        i += 8;
+    }
+    ascii_end_of_7(bytes, i)
+}
+
+// The same of the last seven bytes. Where there are four, the second vector reaches back over bytes of the first.
+#[inline(always)]
+fn ascii_end_of_7(bytes: &[u8], from: usize) -> usize
+    requires within { from ≤ length bytes.now }
+    requires few { length bytes.now < from + 8 }
+    ensures later { from ≤ result }
+    ensures within { result ≤ length bytes.now }
+    ensures ascii { AsciiBetween bytes.now from result }
+{
+    let len = bytes.len();
+    if len - from >= 4
+        && high_in_4(u8x4::from_slice(&bytes[from..])) == 0
+        && high_in_4(u8x4::from_slice(&bytes[len - 4..])) == 0
+    {
+        return len;
+    }
+    ascii_end_by_one(bytes, from)
 }
 
 // How many bytes a character has that begins with this byte, which is no ASCII.

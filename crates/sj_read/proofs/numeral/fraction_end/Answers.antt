@@ -12,7 +12,7 @@ returns-else-end-point c =
     let b = c.args.bytes.now in
     let from = c.args.point + 1 in
     let end = c.digits_end-end.result in
-    let read = c.digits_end-end.ensures.1 in
+    let read = c.digits_end-end.ensures.digits.1 in
     λ n. (
       digits_value_after 10 n (between b from end),
       fraction_reads b c.args.point n end (digits_value_after 10 n (between b from end)) (omega arith) c.if-bytes-point-ne46.false (record { passes = read.passes; digits = read.digits; value = refl }) c.if-end-point.false,

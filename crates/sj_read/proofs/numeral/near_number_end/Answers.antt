@@ -23,5 +23,5 @@ returns-else-goes_on c =
       fraction = behind.0;
       stops = c.goes_on.ensures c.if-goes_on.false;
       first = near.first (whole.some c.if-not-is_whole.false);
-      near = behind.1;
+      near = omega (arith, behind.1);
     }
