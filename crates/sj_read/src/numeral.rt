@@ -156,10 +156,6 @@ fn far_number_end(bytes: &[u8], from: usize) -> Option<usize>
     if !is_whole(bytes, from, point) {
         return None;
     }
-    // Most have no fraction.
-    if !goes_on(bytes, point) && point - from <= MOST_KEPT {
-        return Some(point);
-    }
     let end = fraction_end(bytes, point)?;
     if end - from > MOST_KEPT || goes_on(bytes, end) {
         return None;

@@ -1,27 +1,11 @@
 use Rattle.std.proofs.Common.{arith}
-use Rattle.sj_decimal.proofs.OnePass.{no_fraction}
 use Rattle.sj_read.proofs.numeral.far_number_end.Goals as goal
-
-pub returns-then-point-from-le-MOST_KEPT : goal.returns-then-point-from-le-MOST_KEPT
-returns-then-point-from-le-MOST_KEPT c =
-    let b = c.args.bytes.now in
-    let point = c.digits_end-point.result in
-    let digits = c.digits_end-point.ensures in
-    let whole = c.is_whole.ensures in
-    record {
-      point = point;
-      whole = whole.whole c.if-not-is_whole.false;
-      fraction = λ n. (n, no_fraction b point n digits.digits.1.passes.within);
-      stops = c.goes_on.ensures c.if-not-goes_on.true;
-      first = digits.first (whole.some c.if-not-is_whole.false);
-      near = omega arith;
-    }
 
 pub overflow_sub-end : goal.overflow_sub-end
 overflow_sub-end c = omega (arith, (c.in_ok-end.ensures {u = tt} 0).1.passes.later, c.digits_end-point.ensures.digits.1.passes.later)
 
-pub goes_on-requires-else-end-from-gt-MOST_KEPT : goal.goes_on-requires-else-end-from-gt-MOST_KEPT
-goes_on-requires-else-end-from-gt-MOST_KEPT c = (c.in_ok-end.ensures {u = tt} 0).1.passes.within
+pub goes_on-requires : goal.goes_on-requires
+goes_on-requires c = (c.in_ok-end.ensures {u = tt} 0).1.passes.within
 
 pub returns : goal.returns
 returns c =
@@ -32,7 +16,7 @@ returns c =
       point = c.digits_end-point.result;
       whole = whole.whole c.if-not-is_whole.false;
       fraction = fraction;
-      stops = c.goes_on-else-end-from-gt-MOST_KEPT.ensures c.if-goes_on.false;
+      stops = c.goes_on.ensures c.if-goes_on.false;
       first = digits.first (whole.some c.if-not-is_whole.false);
       near = omega (arith, c.if-end-from-gt-MOST_KEPT.false, (fraction 0).1.passes.later, digits.digits.1.passes.later);
     }
