@@ -1,10 +1,11 @@
 -- What is done with the opened items of an expression is the meaning of the whole.
 use Rattle.std.specs.Prelude.{if◌then◌else◌}
-use Rattle.std.proofs.Common.{◌≡◌, Bool, true, false, ◌+◌, ◌≤◌, ap, refl, arith}
+use Rattle.std.proofs.Common.{◌≡◌, Bool, true, false, ◌+◌, ◌≤◌, ap, sym, ◌∙◌, refl, arith}
 use Rattle.sj_path_tree.specs.Tree as t
 use Rattle.sj_path_tree.specs.declared.parts.Method.{Method}
 use Rattle.sj_path_tree.specs.Nodes.{expr_nodes, sub_nodes, subs_nodes}
-use Rattle.sj_step.specs.Trace.{each}
+use Rattle.sj_item.specs.Items.{ItemValue}
+use Rattle.sj_step.specs.Trace.{stop, only, join, each}
 use Rattle.sj_step.specs.Reach.{spread}
 use Rattle.sj_step.proofs.Traces.{each-only}
 use Rattle.sj_method.specs.Methods.{method_of}
@@ -32,6 +33,10 @@ doing_is (Acts simples.Minus) e env = refl
 doing_is (Acts (simples.Method m)) e env = method_is m e env
 doing_is (Keeps p) e env = refl
 doing_is (Picks s) e env = ap (λ u. each u (done (Picks s) env)) (as_it_is e env)
+
+-- one item is at hand, and there is no other
+pub begun_is : (d : Doing) (e : t.Expr) (env : Env) (x : ItemValue) → operand_whole (doing_opening d) e env ≡ only x → join (done d env x) stop ≡ meaning (doing_on d e) env
+begun_is d e env x h = ap (λ u. each u (done d env)) (sym h) ∙ doing_is d e env
 
 -- ---- nodes
 

@@ -53,6 +53,9 @@ pub whole_is_one : (s : Source) (env : Env) (x : ItemValue) → x ≡ source_val
     → operand_whole Unwrapped (source_expr s) env ≡ only x
 whole_is_one s env x e flat = ap (λ t. each t (unwrap env.mode)) (source_meaning s env) ∙ rw (← e) (each_only x (unwrap env.mode) (flat env.mode))
 
+pub root_is_one : (e : t.Expr) (env : Env) → e ≡ t.Root → ((mode : Mode) → unwrap mode env.root ≡ only env.root) → operand_whole Unwrapped e env ≡ only env.root
+root_is_one e env h flat = rw h (each_only env.root (unwrap env.mode) (flat env.mode))
+
 -- a literal is no array
 literal_flat : (literal : Literal) (mode : Mode) → unwrap mode (literal_item literal) ≡ only (literal_item literal)
 unfolding reach

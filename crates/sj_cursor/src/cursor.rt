@@ -6,7 +6,7 @@ ghost use Rattle.sj_step.specs.Answers.{answer_value};
 ghost use Rattle.sj_cursor.specs.Draws.{Draws};
 ghost use Rattle.sj_cursor.specs.Left.{core, left};
 ghost use Rattle.sj_cursor.specs.Meaning.{meaning, start_env};
-ghost use Rattle.sj_cursor.specs.Meaning.{Env as Surroundings};
+ghost use Rattle.sj_cursor.specs.Cells.{env_value};
 ghost use Rattle.sj_cursor.specs.Standing.{standing_left};
 
 use crate::build::expr_cell;
@@ -78,32 +78,34 @@ impl<'d> Model for Cursor<'d> {
 
 // Where a cursor stands at its beginning, its cells go back, wherever they stood.
 #[inline(always)]
-fn rewind_at_the_beginning(stands: &mut Stands, cell: &mut Cell<'_>)
-    ensures left { (env : Surroundings) → left cell.new env ≡ standing_left stands.old (meaning (core cell.old) env) (left cell.old env) }
+fn rewind_at_the_beginning<'d>(stands: &mut Stands, cell: &mut Cell<'d>, env: &Env<'_, 'd>)
+    ensures left { left cell.new (env_value env.now) ≡ standing_left stands.old (meaning (core cell.old) (env_value env.now)) (left cell.old (env_value env.now)) }
     ensures same { core cell.new ≡ core cell.old }
     ensures stands { stands.new ≡ Stands.WithItsCells }
 {
     match *stands {
         Stands::AtTheBeginning => {
-            cell.rewind();
+            cell.rewind(env);
             *stands = Stands::WithItsCells;
         }
         Stands::WithItsCells => {}
     }
 }
 
-// The next item of the cells of a path.
+// The next item of the cells of a path, which go back first where the cursor stands at its beginning.
 #[inline(always)]
 fn next_of<'d, L: Ledger>(
     path: &'d Path,
     vars: &'d Vars,
     root: &Item<'d>,
+    stands: &mut Stands,
     cell: &mut Cell<'d>,
     steps: &mut Steps<L>,
     place: &mut Item<'d>,
 ) -> Answer
-    ensures answers { Draws (left cell.old (start_env (path_of path.now) vars.now (item_value root.now))) (answer_value result place.new) (left cell.new (start_env (path_of path.now) vars.now (item_value root.now))) steps.old steps.new }
+    ensures answers { Draws (standing_left stands.old (meaning (core cell.old) (start_env (path_of path.now) vars.now (item_value root.now))) (left cell.old (start_env (path_of path.now) vars.now (item_value root.now)))) (answer_value result place.new) (left cell.new (start_env (path_of path.now) vars.now (item_value root.now))) steps.old steps.new }
     ensures same { core cell.new ≡ core cell.old }
+    ensures stands { stands.new ≡ Stands.WithItsCells }
 {
     let env = Env {
         mode: path.mode,
@@ -112,6 +114,7 @@ fn next_of<'d, L: Ledger>(
         context: root,
         last: 0,
     };
+    rewind_at_the_beginning(stands, cell, &env);
     cell.next(&env, steps, place)
 }
 
@@ -175,11 +178,11 @@ impl<'d> Cursor<'d> {
         ensures vars { self.new.vars ≡ self.old.vars }
         ensures root { self.new.root ≡ self.old.root }
     {
-        rewind_at_the_beginning(&mut self.stands, &mut self.cell);
         next_of(
             self.path,
             self.vars,
             &self.root,
+            &mut self.stands,
             &mut self.cell,
             steps,
             place,

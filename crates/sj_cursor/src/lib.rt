@@ -36,7 +36,8 @@
 //! **A fault** (a missing member in strict mode, say) passes through all cells to the caller and ends the path. Inside a
 //! predicate it makes the truth Unknown instead, and the path goes on.
 //!
-//! **A rewind** sends each cell back to its beginning: no item is at hand, and nothing was given. It takes no memory, so one
+//! **A rewind** sends each cell back to its beginning: no item is at hand, and nothing was given. An accessor of a member behind `$`, as
+//! `.lines` above, takes `$` in hand at once where this is no array, and a method does so too. It takes no memory, so one
 //! cursor serves the items of one row after another, of one line after another. The cells go back when they are first asked.
 //!
 //! **A plain path**, `lax $` and behind it accessors of members, `[*]` and subscripts such as `[0]`, needs no cells where a cursor is

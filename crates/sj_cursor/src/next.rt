@@ -136,7 +136,7 @@ impl<'d> Operand<'d> {
         if let Some(keyed) = self.keyed(env) {
             return keyed.look(how, limit, steps);
         }
-        self.rewind();
+        self.rewind(env);
         let mut found = Found::Nothing;
         let mut place = Item::Null;
         'looking: loop {

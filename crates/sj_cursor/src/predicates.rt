@@ -186,7 +186,7 @@ impl<'d> Operand<'d> {
         if let Some(pairing) = self.see_one(beside, env) {
             return pairing;
         }
-        self.rewind();
+        self.rewind(env);
         let mut pairing = Pairing {
             found: false,
             doubt: false,
@@ -268,7 +268,7 @@ impl<'d> Comparison<'d> {
         ensures seen { PairingsSeen early (items_compare self.old.op) (operand_whole Opening.Unwrapped (operand_core self.old.left) (env_value env.now)) (operand_whole Opening.Unwrapped (operand_core self.old.right) (env_value env.now)) result.found result.doubt result.some steps.old steps.new }
         ensures same { left_of.comparison_core self.new ≡ left_of.comparison_core self.old }
     {
-        self.left.rewind();
+        self.left.rewind(env);
         let mut pairings = Pairings {
             found: false,
             doubt: false,

@@ -80,13 +80,22 @@ impl<'d> Applied<'d> {
         ensures answers { Takes (results self.old.simple mode (item_value place.old)) (answer_value result place.new) (results_left self.new.left) steps.old steps.new }
         ensures same { self.new.simple ≡ self.old.simple }
     {
+        self.take(mode, place);
+        self.left.next(steps, place)
+    }
+
+    /// Takes an item in hand.
+    #[inline(always)]
+    pub(crate) fn take(&mut self, mode: Mode, item: &Item<'d>)
+        ensures starts { results_left self.new.left ≡ results self.old.simple mode (item_value item.now) }
+        ensures same { self.new.simple ≡ self.old.simple }
+    {
         // The two accessors that most paths are made of are begun in place.
         match self.simple {
-            Simple::Member(key) => self.left.restart(Reach::Member(key), place, mode),
-            Simple::AllElements => self.left.restart(Reach::AllElements, place, mode),
-            _ => self.restart(mode, place),
+            Simple::Member(key) => self.left.restart(Reach::Member(key), item, mode),
+            Simple::AllElements => self.left.restart(Reach::AllElements, item, mode),
+            _ => self.restart(mode, item),
         }
-        self.left.next(steps, place)
     }
 
     #[inline(never)]

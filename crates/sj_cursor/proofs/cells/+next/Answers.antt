@@ -47,7 +47,7 @@ Operand::look-returns-in-Some-clause-finds g t c = rw (c.in-Some.ensures c.args.
 pub Operand::look-looking-init : goal.Operand::look-looking-init
 Operand::look-looking-init g t c = record {
   same = c.rewind.ensures.same;
-  looking = looking_from _ _ _ _ (c.rewind.ensures.whole _ _);
+  looking = looking_from _ _ _ _ (c.rewind.ensures.whole _);
 }
 
 pub Operand::look-returns-then-is_enough-clause-finds : goal.Operand::look-returns-then-is_enough-clause-finds
@@ -91,7 +91,7 @@ Operand::exists-returns-clause-decides g t c = exists_decides _ _ _ _ _ _ (rw (c
 -- ---- pairs
 
 pub Operand::see_pairing_by_cells-pairing-init : goal.Operand::see_pairing_by_cells-pairing-init
-Operand::see_pairing_by_cells-pairing-init g t c = record { same = c.rewind.ensures.same; pairing = pairing_from _ _ _ _ _ (c.rewind.ensures.whole Unwrapped _) }
+Operand::see_pairing_by_cells-pairing-init g t c = record { same = c.rewind.ensures.same; pairing = pairing_from _ _ _ _ _ (c.rewind.ensures.whole Unwrapped) }
 
 pub Operand::see_pairing_by_cells-returns-then-halts-clause-seen : goal.Operand::see_pairing_by_cells-returns-then-halts-clause-seen
 Operand::see_pairing_by_cells-returns-then-halts-clause-seen g t c =
@@ -116,7 +116,7 @@ pub Comparison::see_pairings-pairings-init : goal.Comparison::see_pairings-pairi
 Comparison::see_pairings-pairings-init g t c = record {
   same = ap (λ k. Rattle.sj_path_tree.specs.Tree.Compares c.args.self.now.op k (operand_core c.args.self.now.right)) c.rewind.ensures.same;
   op = refl;
-  pairings = pairings_from _ _ _ _ _ _ (c.rewind.ensures.whole Unwrapped _);
+  pairings = pairings_from _ _ _ _ _ _ (c.rewind.ensures.whole Unwrapped);
 }
 
 pub Comparison::see_pairings-pairings-smaller : goal.Comparison::see_pairings-pairings-smaller
