@@ -1,4 +1,4 @@
--- for `ascii_end`, `is_text_from` and `text_of`
+-- for `ascii_end`, `ascii_end_of_31`, `ascii_end_of_7`, `is_text_from` and `text_of`
 pub mod Ascii
 -- for `far_string_end`, `string_end` and `unescape`, and for other lemmas
 pub mod Scanned
@@ -11,9 +11,10 @@ pub mod Numerals
 pub mod Escapes
 -- for `put_plain` and `unescape`
 pub mod Unescaping
--- for `read_over`
+-- for `read_held` and `read_text`
 pub mod Ends
--- for `high_in_32`, `others_in_16`, `stops_in_16`, `stops_in_32` and `stops_in_8`, and for other lemmas
+-- for `high_in_32`, `high_in_4`, `high_in_8`, `others_in_16`, `stops_in_16`, `stops_in_32` and `stops_in_8`, and for other
+-- lemmas
 pub mod Lanes
 -- for `long_plain_end`, `near_digits_end`, `near_end` and `plain_end_of_31`
 pub mod Runs
