@@ -14,7 +14,7 @@ TOLD_IN = ["docs/ARCHITECTURE.md", "docs/PROOFS.md"]
 # What a call's documentation gives as an example, up to the closing parenthesis, and the tests or tables that it names there.
 EXAMPLE = re.compile(r"^ *///? Example: (?:.*\n *///? )*?.*\(([^()]*)\)\.$", re.M)
 NAMED = re.compile(r"`([^`]+)`")
-WITH_EXAMPLES = ["sqljson", "sj_path", "sj_read", "sj_func", "sj_decimal"]
+WITH_EXAMPLES = ["sj_run", "sj_path", "sj_read", "sj_func", "sj_decimal"]
 
 
 def check_texts(tally, top):

@@ -1,10 +1,10 @@
 -- for `load_by`
 pub mod Loading
--- for `count_of`, `next_bound` and `statements_of`, for other lemmas, and for sqljson
+-- for `count_of`, `next_bound` and `statements_of`, for other lemmas, and for sj_run
 pub mod Verdicts
 -- for `number_of`
 mod Digits
--- for the lemmas of `Unaccepted`, and for sqljson
+-- for the lemmas of `Unaccepted`, and for sj_run
 pub mod ShownFiles
--- for sqljson
+-- for sj_run
 pub mod Unaccepted

@@ -1,4 +1,4 @@
 -- for `GeneratedSource::give` and `GeneratedSourceSource::read`
 mod Giving
--- for sqljson
+-- for sj_run
 pub mod Lengths

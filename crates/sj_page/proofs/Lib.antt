@@ -1,4 +1,4 @@
 -- for `write_all` and `write_parts`, and for other lemmas and crates above
 pub mod Writing
--- for sqljson
+-- for sj_run
 pub mod Printing

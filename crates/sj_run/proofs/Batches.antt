@@ -1,0 +1,199 @@
+-- What is asked of lines that are read together.
+use Rattle.std.proofs.Common.{◌≡◌, ◌≢◌, ◌↔◌, IsTrue, ℕ, ◌+◌, ◌<◌, List, [], ◌∷◌, ◌++◌, length, take, drop, set, map, get_or, ◌≤◌, Bool, true, false, Option, None, Some, refl, sym, ◌∙◌, ap, arith, append_assoc, length-append}
+use Rattle.std.proofs.lemmas.List.{append-nil, map-append, take_more, take_at, drop_more, drop-map}
+use Rattle.std.proofs.Math.Seq.{map-set_same}
+use Rattle.std.specs.Bool.{one_answer}
+use Rattle.std.specs.List.{list_all}
+use Rattle.sj_rows.specs.Lines.{is_blank_byte}
+use Rattle.sj_rows.specs.HeldLines.{HeldLines, gives, drained}
+use Rattle.sj_base.specs.Count.{raised}
+use Rattle.sj_json.specs.Tree.{Tree}
+use Rattle.sj_json.specs.Document.{document}
+use Rattle.sj_json.specs.Keys.{HasUniqueKeys}
+use Rattle.sj_bound.specs.Bound.{Bound}
+use Rattle.sj_bound.specs.View.{bound_of}
+use Rattle.sj_bound.specs.declared.bound.Bound.{Bound as BoundHeld}
+use Rattle.sj_json.specs.UniqueKeys.{has_unique_keys}
+use Rattle.sj_json.proofs.Distinct.{unique_from, unique_to}
+use Rattle.sj_select_list.specs.Line.{Line}
+use Rattle.sj_select.specs.Seen.{Seen}
+use Rattle.sj_page.specs.Pages.{nothing, followed_by}
+use Rattle.sj_file.specs.declared.job.Keys.{Keys}
+use Rattle.sj_file.specs.declared.job.Keys.TheVariants.{Any, Unique}
+use Rattle.sj_file.specs.Job.{Job}
+use Rattle.sj_run.specs.declared.batch.ReadLine.{ReadLine}
+use Rattle.sj_run.specs.declared.batch.Reading.TheVariants.{Repeated, Json}
+use Rattle.sj_run.specs.declared.batch.Behind.{Behind}
+use Rattle.sj_run.specs.declared.batch.Behind.TheVariants.{Nothing, Perhaps}
+use Rattle.sj_run.specs.Output.{line_as, Asked, asked_from, tree_asked, line_asked, lines_asked, prints, cost}
+use Rattle.sj_run.specs.Batch.{reading, read_line, read_lines, ReadFront, ReadOn, line_read, batch_asked, bounds_in}
+use Rattle.sj_run.proofs.Streaming.{lines_asked-append, prints-append, cost-append}
+
+-- ---- what is asked of lines that were read is what is asked of the lines
+
+batch_asked-append : (K : List Bound) (xs ys : List ReadLine) → batch_asked K (xs ++ ys) ≡ batch_asked K xs ++ batch_asked K ys
+batch_asked-append K [] ys = refl
+batch_asked-append K (x ∷ xs) ys =
+    let these = asked_from 1 K x.number (line_read x.reading) in
+    ap (λ (t : List Asked). these ++ t) (batch_asked-append K xs ys) ∙ sym (append_assoc these (batch_asked K xs) (batch_asked K ys))
+
+-- a line is seen as it was read
+same_line : (keys : Keys) (doc : Option Tree) → line_read (reading keys doc) ≡ line_as keys doc
+same_line Any None = refl
+same_line Unique None = refl
+same_line Any (Some t) = refl
+same_line Unique (Some t) = by_keys (has_unique_keys t) refl
+  where
+    by_keys : (distinct : Bool) → has_unique_keys t ≡ distinct → line_read (reading Unique (Some t)) ≡ line_as Unique (Some t)
+    by_keys true is = rw is refl
+    by_keys false is = rw is refl
+
+read_tree : (K : Job) (n : ℕ) (doc : Option Tree) → asked_from 1 K.statements n (line_read (reading K.keys doc)) ++ [] ≡ tree_asked K n doc
+read_tree K n doc = append-nil _ ∙ ap (λ (l : Line). asked_from 1 K.statements n l) (same_line K.keys doc)
+
+by_blank : (K : Job) (n : ℕ) (line : List ℕ) (blank : Bool) → list_all is_blank_byte line ≡ blank → batch_asked K.statements (read_line K.keys n (Some line)) ≡ line_asked K n (Some line)
+by_blank K n line true is = rw is refl
+by_blank K n line false is = rw is (read_tree K n (document line))
+
+line_asked_is : (K : Job) (n : ℕ) (line : Option (List ℕ)) → batch_asked K.statements (read_line K.keys n line) ≡ line_asked K n line
+line_asked_is K n None = append-nil _ ∙ ap (λ (l : Line). asked_from 1 K.statements n l) (same_line K.keys None)
+line_asked_is K n (Some line) = by_blank K n line (list_all is_blank_byte line) refl
+
+read_asked : (K : Job) (n : ℕ) (lines : List (Option (List ℕ))) → batch_asked K.statements (read_lines K.keys n lines) ≡ lines_asked K n lines
+read_asked K n [] = refl
+read_asked K n (l ∷ ls) =
+    batch_asked-append K.statements (read_line K.keys n l) (read_lines K.keys (n + 1) ls) ∙ ap (λ (t : List Asked). t ++ batch_asked K.statements (read_lines K.keys (n + 1) ls)) (line_asked_is K n l)
+    ∙ ap (λ (t : List Asked). line_asked K n l ++ t) (read_asked K (n + 1) ls)
+
+read_lines-append : (keys : Keys) (n : ℕ) (ls ms : List (Option (List ℕ))) → read_lines keys n (ls ++ ms) ≡ read_lines keys n ls ++ read_lines keys (n + length ls) ms
+read_lines-append keys n [] ms = ap (λ (k : ℕ). read_lines keys k ms) (omega arith)
+read_lines-append keys n (l ∷ ls) ms =
+    let same : n + 1 + length ls ≡ n + length (l ∷ ls) = omega arith in
+    ap (λ (t : List ReadLine). read_line keys n l ++ t) (read_lines-append keys (n + 1) ls ms ∙ ap (λ (k : ℕ). read_lines keys (n + 1) ls ++ read_lines keys k ms) same)
+    ∙ sym (append_assoc (read_line keys n l) (read_lines keys (n + 1) ls) (read_lines keys (n + length (l ∷ ls)) ms))
+
+-- ---- keys
+
+-- whether keys are unique is answered as the definition has it
+same_answer : (t : Tree) (answer : Bool) → (IsTrue answer ↔ HasUniqueKeys t) → has_unique_keys t ≡ answer
+same_answer t answer h = one_answer (has_unique_keys t) answer (unique_from t, unique_to t) h
+
+pub judged_unique : (t : Tree) (answer : Bool) → (IsTrue answer ↔ HasUniqueKeys t) → answer ≡ true → Json t ≡ reading Unique (Some t)
+judged_unique t answer h is = rw (same_answer t answer h ∙ is) refl
+
+pub judged_repeated : (t : Tree) (answer : Bool) → (IsTrue answer ↔ HasUniqueKeys t) → answer ≡ false → Repeated t ≡ reading Unique (Some t)
+judged_repeated t answer h is = rw (same_answer t answer h ∙ is) refl
+
+-- ---- reading on
+
+more_front : (keys : Keys) (n : ℕ) (front : List (Option (List ℕ))) (line : Option (List ℕ)) → read_lines keys n (front ++ line ∷ []) ≡ read_lines keys n front ++ read_line keys (n + length front) line
+more_front keys n front line = read_lines-append keys n front (line ∷ []) ∙ ap (λ (t : List ReadLine). read_lines keys n front ++ t) (append-nil (read_line keys (n + length front) line))
+
+-- nothing was read yet
+pub read_none : (keys : Keys) (h : HeldLines) → ReadFront keys h h []
+read_none keys h = record { front = []; split = refl; given = omega arith; rest = refl; fed = refl; ended = refl; batch_is = refl }
+
+-- the next line was read behind the others
+pub read_next : (keys : Keys) (old now new : HeldLines) (b b' : List ReadLine) (line : Option (List ℕ)) → ReadFront keys old now b → gives now line new → b' ≡ b ++ read_line keys (now.given + 1) line → ReadFront keys old new b'
+read_next keys old now new b b' line r g is = record {
+  front = r.front ++ line ∷ [];
+  split = r.split ∙ ap (λ (t : List (Option (List ℕ))). r.front ++ t) g.0 ∙ sym (append_assoc r.front (line ∷ []) new.waiting);
+  given = omega (arith, r.given, g.2, length-append r.front (line ∷ []));
+  rest = g.1 ∙ r.rest;
+  fed = g.3 ∙ r.fed;
+  ended = g.4 ∙ r.ended;
+  batch_is =
+      let number : now.given + 1 ≡ old.given + 1 + length r.front = omega (arith, r.given) in
+      is ∙ ap (λ (t : List ReadLine). t ++ read_line keys (now.given + 1) line) r.batch_is ∙ ap (λ (k : ℕ). read_lines keys (old.given + 1) r.front ++ read_line keys k line) number
+      ∙ sym (more_front keys (old.given + 1) r.front line);
+}
+
+-- no line waits any more
+pub read_all : (keys : Keys) (old now : HeldLines) (b : List ReadLine) → ReadFront keys old now b → now.waiting ≡ [] → ReadOn keys old now b Nothing
+read_all keys old now b r none = record { read = r; behind_is = none }
+
+some_front : (keys : Keys) (n : ℕ) (front : List (Option (List ℕ))) (b : List ReadLine) → b ≡ read_lines keys n front → 0 < length b → front ≢ []
+some_front keys n front b is some none =
+    let empty : length b ≡ 0 = ap length is ∙ ap (λ (l : List (Option (List ℕ))). length (read_lines keys n l)) none in
+    omega (arith, empty, some)
+
+-- some lines were read
+pub read_some : (keys : Keys) (old now : HeldLines) (b : List ReadLine) → ReadFront keys old now b → 0 < length b → ReadOn keys old now b Perhaps
+read_some keys old now b r some = record { read = r; behind_is = some_front keys (old.given + 1) r.front b r.batch_is some }
+
+-- what is left is less than what waited
+pub read_less : (keys : Keys) (old new : HeldLines) (b : List ReadLine) → ReadOn keys old new b Perhaps → length new.waiting < length old.waiting
+read_less keys old new b r = less r.read.front r.read.split r.behind_is
+  where
+    less : (front : List (Option (List ℕ))) → old.waiting ≡ front ++ new.waiting → front ≢ [] → length new.waiting < length old.waiting
+    less [] split some = absurd (some refl)
+    less (l ∷ ls) split some = omega (arith, ap length split, length-append (l ∷ ls) new.waiting)
+
+-- ---- the lines that wait
+
+-- what is asked of the lines that were read goes before what is asked of those that wait
+asked_more : (K : Job) (old new : HeldLines) (b b' : List ReadLine) (behind : Behind) → ReadOn K.keys old new b behind → b' ≡ b
+    → lines_asked K (old.given + 1) old.waiting ≡ batch_asked K.statements b' ++ lines_asked K (new.given + 1) new.waiting
+asked_more K old new b b' behind r these =
+    let number : new.given + 1 ≡ old.given + 1 + length r.read.front = omega (arith, r.read.given) in
+    ap (lines_asked K (old.given + 1)) r.read.split ∙ lines_asked-append K (old.given + 1) r.read.front new.waiting
+    ∙ ap (λ (k : ℕ). lines_asked K (old.given + 1) r.read.front ++ lines_asked K k new.waiting) (sym number)
+    ∙ ap (λ (t : List Asked). t ++ lines_asked K (new.given + 1) new.waiting) (sym (ap (batch_asked K.statements) (these ∙ r.read.batch_is) ∙ read_asked K (old.given + 1) r.read.front))
+
+pub waiting_prints : (K : Job) (old new : HeldLines) (b b' : List ReadLine) (behind : Behind) → ReadOn K.keys old new b behind → b' ≡ b
+    → prints (lines_asked K (old.given + 1) old.waiting) ≡ followed_by (prints (batch_asked K.statements b')) (prints (lines_asked K (new.given + 1) new.waiting))
+waiting_prints K old new b b' behind r these = ap prints (asked_more K old new b b' behind r these) ∙ prints-append (batch_asked K.statements b') (lines_asked K (new.given + 1) new.waiting)
+
+-- nothing where no line waits
+pub none_waits : (K : Job) (old new : HeldLines) (b : List ReadLine) → ReadOn K.keys old new b Nothing → prints (lines_asked K (new.given + 1) new.waiting) ≡ nothing
+none_waits K old new b r = ap (λ (l : List (Option (List ℕ))). prints (lines_asked K (new.given + 1) l)) r.behind_is
+
+pub waiting_cost : (K : Job) (old new : HeldLines) (b b' : List ReadLine) (behind : Behind) → ReadOn K.keys old new b behind → b' ≡ b
+    → cost (lines_asked K (old.given + 1) old.waiting) ≡ cost (batch_asked K.statements b') + cost (lines_asked K (new.given + 1) new.waiting)
+waiting_cost K old new b b' behind r these = ap cost (asked_more K old new b b' behind r these) ∙ cost-append (batch_asked K.statements b') (lines_asked K (new.given + 1) new.waiting)
+
+-- the lines that were read are some of those that are all given in the end
+pub drained_more : (keys : Keys) (old new : HeldLines) (b : List ReadLine) (behind : Behind) → ReadOn keys old new b behind → drained new ≡ drained old
+drained_more keys old new b behind r = drained_same old new r.read.rest count r.read.fed r.read.ended
+  where
+    count : new.given + length new.waiting ≡ old.given + length old.waiting
+    count = omega (arith, r.read.given, ap length r.read.split, length-append r.read.front new.waiting)
+
+    drained_same : (old new : HeldLines) → new.rest ≡ old.rest → new.given + length new.waiting ≡ old.given + length old.waiting → new.fed ≡ old.fed → new.ended ≡ old.ended → drained new ≡ drained old
+    drained_same old new a b c d = cc
+
+-- ---- the lines of a batch
+
+pub batch_first : (K : List Bound) (lines : List ReadLine) (i : ℕ) (x : ReadLine) → i < length lines → x ≡ get_or lines i x → prints (batch_asked K (drop i lines)) ≡ followed_by (prints (asked_from 1 K x.number (line_read x.reading))) (prints (batch_asked K (drop (i + 1) lines)))
+batch_first K lines i x within is =
+    ap (λ (l : List ReadLine). prints (batch_asked K l)) (drop_more lines i x within) ∙ ap (λ (y : ReadLine). prints (batch_asked K (y ∷ drop (i + 1) lines))) (sym is)
+    ∙ prints-append (asked_from 1 K x.number (line_read x.reading)) (batch_asked K (drop (i + 1) lines))
+
+pub batch_first_cost : (K : List Bound) (lines : List ReadLine) (i : ℕ) (x : ReadLine) → i < length lines → x ≡ get_or lines i x → cost (batch_asked K (drop i lines)) ≡ cost (asked_from 1 K x.number (line_read x.reading)) + cost (batch_asked K (drop (i + 1) lines))
+batch_first_cost K lines i x within is =
+    ap (λ (l : List ReadLine). cost (batch_asked K l)) (drop_more lines i x within) ∙ ap (λ (y : ReadLine). cost (batch_asked K (y ∷ drop (i + 1) lines))) (sym is)
+    ∙ cost-append (asked_from 1 K x.number (line_read x.reading)) (batch_asked K (drop (i + 1) lines))
+
+-- ---- the rows of statements
+
+-- one more statement
+pub more_rows : (S : List BoundHeld) (i : ℕ) (d : BoundHeld) (rs qs : List Seen) (r : Seen) → i < length S → bounds_in rs ≡ map bound_of (take i S) → r.bound ≡ get_or S i d → qs ≡ rs ++ r ∷ []
+    → bounds_in qs ≡ map bound_of (take (i + 1) S)
+more_rows S i d rs qs r within so_far bound is =
+    ap bounds_in is ∙ map-append (λ (x : Seen). bound_of x.bound) rs (r ∷ []) ∙ ap (λ (l : List Bound). l ++ bound_of r.bound ∷ []) so_far
+    ∙ ap (λ (x : BoundHeld). map bound_of (take i S) ++ bound_of x ∷ []) bound ∙ sym (map-append bound_of (take i S) (get_or S i d ∷ [])) ∙ ap (map bound_of) (sym (take_more S i d within))
+
+-- the statements that are left, of which the first is the one at this place
+pub rows_first : (xs : List Seen) (P : List Bound) (i : ℕ) (d x : Seen) → i < length xs → bounds_in xs ≡ P → x ≡ get_or xs i d → drop i P ≡ bound_of x.bound ∷ drop (i + 1) P
+rows_first xs P i d x within same is =
+    ap (drop i) (sym same) ∙ drop-map (λ (s : Seen). bound_of s.bound) i xs ∙ ap bounds_in (drop_more xs i d within)
+    ∙ ap (λ (l : List Bound). bound_of (get_or xs i d).bound ∷ l) (sym (drop-map (λ (s : Seen). bound_of s.bound) (i + 1) xs) ∙ ap (drop (i + 1)) same)
+    ∙ ap (λ (s : Seen). bound_of s.bound ∷ drop (i + 1) P) (sym is)
+
+-- rows that were asked keep their statement
+pub rows_asked : (xs : List Seen) (i : ℕ) (d y : Seen) → y.bound ≡ (get_or xs i d).bound → bounds_in (set xs i y) ≡ bounds_in xs
+rows_asked xs i d y kept = map-set_same (λ (s : Seen). bound_of s.bound) xs i y d (ap bound_of kept)
+
+-- the rows of all statements were asked
+pub rows_kept : (new rest : List Seen) (len : ℕ) (P : List Bound) → length new ≡ len → bounds_in new ≡ P → bounds_in (take len (new ++ rest)) ≡ P
+rows_kept new rest len P is same = ap bounds_in (take_at new rest len is) ∙ same

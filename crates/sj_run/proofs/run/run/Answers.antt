@@ -1,0 +1,92 @@
+use Rattle.sj_run.proofs.Ending as ending
+use Rattle.sj_run.proofs.run.run.Goals as goal
+
+pub returns-clause-headline : goal.returns-clause-headline
+returns-clause-headline g c = ending.ran_headline _ _ _ _ c.answer-status.ensures.ran
+
+pub returns-clause-front : goal.returns-clause-front
+returns-clause-front g c = ending.ran_front _ _ _ _ c.answer-status.ensures.ran
+
+pub returns-clause-least : goal.returns-clause-least
+returns-clause-least g c = ending.ran_least _ _ _ _ c.answer-status.ensures.ran
+
+pub returns-clause-read_fault_writes : goal.returns-clause-read_fault_writes
+returns-clause-read_fault_writes g c = ending.ran_read_fault _ _ _ _ c.answer-status.ensures.ran
+
+pub returns-clause-input_limit_writes : goal.returns-clause-input_limit_writes
+returns-clause-input_limit_writes g c = ending.ran_limit _ _ _ _ c.answer-status.ensures.ran
+
+pub returns-clause-checked : goal.returns-clause-checked
+returns-clause-checked g c = ending.ran_checked _ _ _ _ c.answer-status.ensures.ran
+
+pub returns-clause-check_front : goal.returns-clause-check_front
+returns-clause-check_front g c = ending.ran_check_front _ _ _ _ c.answer-status.ensures.ran
+
+pub returns-clause-check_completes : goal.returns-clause-check_completes
+returns-clause-check_completes g c = ending.ran_check_completes _ _ _ _ c.answer-status.ensures.ran
+
+pub returns-clause-generated_told : goal.returns-clause-generated_told
+returns-clause-generated_told g c = ending.ran_generated _ _ _ _ c.answer-status.ensures.ran
+
+pub returns-clause-generated_front : goal.returns-clause-generated_front
+returns-clause-generated_front g c = ending.ran_generated_front _ _ _ _ c.answer-status.ensures.ran
+
+pub returns-clause-generated_completes : goal.returns-clause-generated_completes
+returns-clause-generated_completes g c = ending.ran_generated_completes _ _ _ _ c.answer-status.ensures.ran
+
+pub returns-clause-generated_within : goal.returns-clause-generated_within
+returns-clause-generated_within g c = ending.ran_generated_within _ _ _ _ c.answer-status.ensures.ran
+
+pub returns-clause-usage : goal.returns-clause-usage
+returns-clause-usage g c = ending.ran_usage _ _ _ _ c.answer-status.ensures.ran
+
+pub returns-clause-shelf_fault : goal.returns-clause-shelf_fault
+returns-clause-shelf_fault g c = ending.ran_shelf_fault _ _ _ _ c.answer-status.ensures.ran
+
+pub returns-clause-read_fault : goal.returns-clause-read_fault
+returns-clause-read_fault g c = ending.ran_read_rose _ _ _ _ c.answer-status.ensures.ran
+
+pub returns-clause-write_fault : goal.returns-clause-write_fault
+returns-clause-write_fault g c = ending.ran_write_rose _ _ _ _ c.answer-status.ensures.ran
+
+pub returns-clause-quiet_shelf : goal.returns-clause-quiet_shelf
+returns-clause-quiet_shelf g c = ending.ran_quiet _ _ _ _ c.answer-status.ensures.ran
+
+pub returns-clause-done : goal.returns-clause-done
+returns-clause-done g c = ending.ran_done _ _ _ _ c.answer-status.ensures.ran
+
+pub returns-clause-memory : goal.returns-clause-memory
+returns-clause-memory g c = ending.ran_memory _ _ _ _ c.answer-status.ensures.ran
+
+pub returns-clause-read_to_end : goal.returns-clause-read_to_end
+returns-clause-read_to_end g c = ending.ran_to_end _ _ _ _ c.answer-status.ensures.ran
+
+pub returns-clause-refused : goal.returns-clause-refused
+returns-clause-refused g c = ending.ran_refused _ _ _ _ c.answer-status.ensures.ran
+
+pub returns-clause-refuses : goal.returns-clause-refuses
+returns-clause-refuses g c = ending.ran_refuses _ _ _ _ c.answer-status.ensures.ran
+
+pub returns-clause-too_long : goal.returns-clause-too_long
+returns-clause-too_long g c = ending.ran_too_long _ _ _ _ c.answer-status.ensures.ran
+
+pub returns-clause-finds_too_long : goal.returns-clause-finds_too_long
+returns-clause-finds_too_long g c = ending.ran_finds_too_long _ _ _ _ c.answer-status.ensures.ran
+
+pub returns-clause-too_long_reads : goal.returns-clause-too_long_reads
+returns-clause-too_long_reads g c = ending.ran_too_long_reads _ _ _ _ c.answer-status.ensures.ran
+
+pub returns-clause-absent : goal.returns-clause-absent
+returns-clause-absent g c = ending.ran_absent _ _ _ _ c.answer-status.ensures.ran
+
+pub returns-clause-input_limit : goal.returns-clause-input_limit
+returns-clause-input_limit g c = ending.ran_input_limit _ _ _ _ c.answer-status.ensures.ran
+
+pub returns-clause-finds_input_limit : goal.returns-clause-finds_input_limit
+returns-clause-finds_input_limit g c = ending.ran_finds_limit _ _ _ _ c.answer-status.ensures.ran
+
+pub returns-clause-complete : goal.returns-clause-complete
+returns-clause-complete g c = ending.ran_completes _ _ _ _ c.answer-status.ensures.ran
+
+pub returns-clause-within : goal.returns-clause-within
+returns-clause-within g c = ending.ran_within _ _ _ _ c.answer-status.ensures.ran

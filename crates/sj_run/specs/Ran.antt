@@ -1,0 +1,98 @@
+-- What a command has done when it ends, and why it ends.
+use Rattle.std.specs.Prelude.{◌≡◌, ◌≤◌, ◌⊎◌, ℕ, List, ◌∷◌, [], length, Option, None, Some, codes, decimal}
+use Rattle.sj_base.specs.Count.{Rose, raised}
+use Rattle.sj_outside.specs.declared.outside.Shelf as shelves
+use Rattle.sj_outside.specs.declared.outside.Source as sources
+use Rattle.sj_outside.specs.declared.outside.Sink as sinks
+use Rattle.sj_bound.specs.Bound.{Bound}
+use Rattle.sj_generated.specs.Lines.{generated}
+use Rattle.sj_page.specs.Sides.{OutputSide, output_side, Grew, joined}
+use Rattle.sj_page.specs.declared.page.Page.{Page}
+use Rattle.sj_file.specs.declared.job.Keys.TheVariants.{Any}
+use Rattle.sj_file.specs.declared.status.Status.{Status}
+use Rattle.sj_file.specs.declared.status.Status.TheVariants.{Done, Usage, Refused, ShelfFault, ReadFault, WriteFault, Memory, InputLimit, FileTooLong}
+use Rattle.sj_file.specs.Job.{job}
+use Rattle.sj_file.specs.File.{ShelfSide, shelf_at, Form, running, checking, generating, name_in}
+use Rattle.sj_file.specs.Accepted.{Accepted, IsUnaccepted}
+use Rattle.sj_run.specs.Input.{InputSide, input_at}
+use Rattle.sj_run.specs.Output.{allowed}
+use Rattle.sj_run.specs.Stream.{Streamed, IsFrontOf}
+use Rattle.sj_run.specs.Summary.{summary_text}
+
+-- the output as it is seen at one moment, by what a sink tells and counts
+abbrev pub out_at : {O : Type 0} → sinks.Ghosts O → O → OutputSide
+out_at tells out = output_side tells.taken tells.size tells.faults out
+
+-- the shelf, the input and the output at one moment
+pub record Moment : Type 0 where
+  pub shelf : ShelfSide
+  pub input : InputSide
+  pub out : OutputSide
+
+abbrev pub moment : ShelfSide → InputSide → OutputSide → Moment
+moment shelf input out = record { shelf = shelf; input = input; out = out }
+
+-- by what they tell and count
+abbrev pub moment_at : {H I O : Type 0} → shelves.Ghosts H → sources.Ghosts I → sinks.Ghosts O → H → I → ℕ → O → Moment
+moment_at h i o shelf input steps out = moment (shelf_at h shelf) (input_at i input steps) (out_at o out)
+
+-- ---- what is done with the statements of a file
+
+-- what `check` tells of statements that are accepted
+abbrev pub accepted_text : List Bound → List ℕ
+accepted_text statements = joined (codes "accepted " ∷ decimal (length statements) ∷ codes "\n" ∷ [])
+
+-- a text was told, or a front of it, or nothing
+abbrev pub Tells : List ℕ → OutputSide → OutputSide → Status → Type 0
+Tells text to to' Done = Grew to to' text × (to'.faults ≡ to.faults)
+Tells text to to' WriteFault = IsFrontOf text to to' × Rose to.faults to'.faults
+Tells text to to' Memory = to' ≡ to
+Tells text to to' Usage = ⊥
+Tells text to to' (Refused k kind) = ⊥
+Tells text to to' ShelfFault = ⊥
+Tells text to to' ReadFault = ⊥
+Tells text to to' InputLimit = ⊥
+Tells text to to' FileTooLong = ⊥
+
+-- the statements ran over generated lines, in place of the input
+pub record RanGenerated (number : ℕ) (statements : List Bound) (from from' : InputSide) : Type 0 where
+  pub left : from'.left ≡ from.left
+  pub faults : from'.faults ≡ from.faults
+  pub costs : from'.steps ≤ raised from.steps (allowed (job Any statements) (generated number))
+
+-- WHAT A FORM DOES with the statements of an accepted file, and how that ended
+abbrev pub Does : Form → List Bound → InputSide → InputSide → OutputSide → OutputSide → Status → Type 0
+Does (running keys name) statements from from' to to' status = (page : Page) × Streamed (job keys statements) from from' to (record { out = to'; page = page }) status
+Does (checking name) statements from from' to to' status = (from' ≡ from) × Tells (accepted_text statements) to to' status
+Does (generating number name) statements from from' to to' status = RanGenerated number statements from from' × Tells (summary_text number statements) to to' status
+
+-- ---- the whole
+
+-- no file was accepted, and nothing was read or written
+pub record Idle (name : List ℕ) (before after : Moment) (status : Status) : Type 0 where
+  pub why : IsUnaccepted name before.shelf after.shelf status
+  pub input : after.input ≡ before.input
+  pub out : after.out ≡ before.out
+
+-- a file was accepted, and this was done
+pub record Did (form : Form) (before after : Moment) (status : Status) : Type 0 where
+  pub statements : List Bound
+  pub accepted : Accepted (name_in form) before.shelf after.shelf statements
+  pub does : Does form statements before.input after.input before.out after.out status
+
+-- A COMMAND: with words of one of the forms it is the one or the other, and otherwise it is Usage and does nothing.
+abbrev pub Ran : Option Form → Moment → Moment → Status → Type 0
+Ran None before after status = (status ≡ Usage) × (after ≡ before)
+Ran (Some form) before after status = Idle (name_in form) before after status ⊎ Did form before after status
+
+-- a command that ended before a file was accepted
+abbrev pub IsBefore : Status → Type 0
+IsBefore Usage = Unit {0}
+IsBefore ShelfFault = Unit {0}
+IsBefore FileTooLong = Unit {0}
+IsBefore (Refused k kind) = Unit {0}
+IsBefore Done = ⊥
+IsBefore ReadFault = ⊥
+IsBefore WriteFault = ⊥
+IsBefore InputLimit = ⊥
+IsBefore Memory = ⊥

@@ -1,0 +1,21 @@
+-- What `selfrun` tells of a run over generated lines.
+use Rattle.std.specs.Prelude.{ℕ, List, [], ◌∷◌, length, codes, decimal}
+use Rattle.std.specs.Io.Iter.{u64_saturate}
+use Rattle.sj_bound.specs.Bound.{Bound}
+use Rattle.sj_generated.specs.Lines.{generated}
+use Rattle.sj_page.specs.Sides.{joined}
+use Rattle.sj_file.specs.declared.job.Keys.TheVariants.{Any}
+use Rattle.sj_file.specs.Job.{job}
+use Rattle.sj_run.specs.Output.{asked, rows_in, errors_in, output}
+
+abbrev pub counts_text : ℕ → ℕ → ℕ → ℕ → List ℕ
+counts_text lines rows errors bytes =
+    joined (codes "lines " ∷ decimal lines ∷ codes " rows " ∷ decimal rows ∷ codes " errors " ∷ decimal errors ∷ codes " bytes " ∷ decimal bytes ∷ codes "\n" ∷ [])
+
+-- THE SUMMARY: how many lines there are, and how many rows, error rows and bytes the output for them has. Each count stays
+-- at its last value
+abbrev pub summary_text : ℕ → List Bound → List ℕ
+summary_text number statements =
+    let here = job Any statements in
+    let all = asked here (generated number) in
+    counts_text number (u64_saturate (rows_in all)) (u64_saturate (errors_in all)) (u64_saturate (length (output here (generated number))))

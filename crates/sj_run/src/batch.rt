@@ -1,0 +1,172 @@
+// Lines that are read together, before their rows are made.
+ghost use Rattle.std.specs.Prelude.{◌≡◌, ◌+◌, ◌++◌, ◌∷◌, [], false, Some, OnOk, IfOk};
+ghost use Rattle.sj_rows.specs.Line.{line_seen};
+ghost use Rattle.sj_json.specs.Document.{document};
+ghost use Rattle.sj_run.specs.Batch.{reading, read_line, ReadOn};
+
+use sj_base::{Memory, push};
+use sj_doc::{Doc, DocBuilder};
+use sj_file::Keys;
+use sj_read::{LineRead, read_over};
+use sj_rows::{Line, Lines, is_blank};
+use std::alloc::Global;
+
+/// How many lines are read before their rows are made: the cursors of the statements, which are made for the documents
+/// that are there, serve all of them.
+const LINES_TOGETHER: usize = 64;
+
+/// A line that is not blank, with its number.
+#[derive(Drop)]
+pub(crate) struct ReadLine {
+    pub(crate) number: u64,
+    pub(crate) reading: Reading,
+}
+
+/// What a line was read as.
+#[derive(Drop)]
+pub(crate) enum Reading {
+    NotJson,
+    /// Some object has two equal keys, and keys are to be unique.
+    Repeated(Doc),
+    Json(Doc),
+}
+
+impl Reading {
+    /// The document, whose memory may be taken again.
+    fn into_doc(self) -> Option<Doc> {
+        match self {
+            Reading::NotJson => None,
+            Reading::Repeated(doc) | Reading::Json(doc) => Some(doc),
+        }
+    }
+}
+
+/// Whether lines may wait behind those that were read.
+#[derive(Clone, Copy)]
+pub(crate) enum Behind {
+    Nothing,
+    Perhaps,
+}
+
+/// The lines that were read last, and the memory of earlier ones, which the next ones take.
+#[derive(Drop)]
+pub(crate) struct Batch {
+    lines: Vec<ReadLine>,
+    spare: Vec<DocBuilder>,
+}
+
+impl Batch {
+    /// No lines. It takes no memory.
+    pub(crate) fn new(alloc: Global) -> Batch
+        ensures { result.lines.items ≡ [] }
+    {
+        Batch {
+            lines: Vec::new(alloc),
+            spare: Vec::new(alloc),
+        }
+    }
+
+    /// The lines that were read last.
+    pub(crate) fn lines(&self) -> &[ReadLine]
+        ensures { result.now ≡ self.now.lines.items }
+    {
+        self.lines.as_slice()
+    }
+
+    #[tactic(auto, using(crate::proofs::Batches::read_none, crate::proofs::Batches::read_next, crate::proofs::Batches::read_all, crate::proofs::Batches::read_some))]
+    /// Reads the next of the lines that wait, in place of those that were read before.
+    pub(crate) fn read_on(
+        &mut self,
+        alloc: Global,
+        keys: Keys,
+        waiting: &mut Lines,
+    ) -> Result<Behind, Memory>
+        ensures { IfOk result (λ behind. ReadOn keys waiting.old waiting.new self.new.lines.items behind) }
+    {
+        self.clear()?;
+        while self.lines.len() < LINES_TOGETHER {
+            let number = waiting.number() + 1;
+            let Some(line) = waiting.next_line() else {
+                return Ok(Behind::Nothing);
+            };
+            self.read_line(alloc, keys, number, line)?;
+        }
+        Ok(Behind::Perhaps)
+    }
+
+    /// Sets the lines aside. The document of the first is the first to be taken again, so that the memory of a long
+    /// line, which stands first in its piece, is taken once.
+    fn clear(&mut self) -> Result<(), Memory>
+        ensures { OnOk result (self.new.lines.items ≡ []) }
+    {
+        while let Some(line) = self.lines.pop() {
+            if let Some(doc) = line.reading.into_doc() {
+                push(&mut self.spare, doc.recycle())?;
+            }
+        }
+        Ok(())
+    }
+
+    /// Reads a line behind the others, unless it is blank.
+    fn read_line(
+        &mut self,
+        alloc: Global,
+        keys: Keys,
+        number: u64,
+        line: Line<'_>,
+    ) -> Result<(), Memory>
+        ensures { OnOk result (self.new.lines.items ≡ self.old.lines.items ++ read_line keys number (line_seen line.entry)) }
+    {
+        let reading = match line {
+            Line::TooLong => Reading::NotJson,
+            Line::Bytes(bytes) => {
+                if is_blank(bytes) {
+                    return Ok(());
+                }
+                reading_of(alloc, keys, bytes, &mut self.spare)?
+            }
+        };
+        self.lines.push(ReadLine { number, reading })?;
+        Ok(())
+    }
+}
+
+/// What a line is read as, in the memory of an earlier one where some is spare. A line that is not JSON leaves it for the next.
+fn reading_of(
+    alloc: Global,
+    keys: Keys,
+    line: &[u8],
+    spare: &mut Vec<DocBuilder>,
+) -> Result<Reading, Memory>
+    ensures { IfOk result (λ r. r ≡ reading keys (document line.now)) }
+{
+    let builder = match spare.pop() {
+        Some(builder) => builder,
+        None => DocBuilder::new(alloc),
+    };
+    match read_over(alloc, builder, line) {
+        Ok(LineRead::Json(doc)) => judged(alloc, keys, doc),
+        Ok(LineRead::NotJson(builder)) => {
+            push(spare, builder)?;
+            Ok(Reading::NotJson)
+        }
+        Err(memory) => Err(memory),
+    }
+}
+
+/// A document as a line whose keys are to be unique or not.
+#[tactic(auto, using(crate::proofs::Batches::judged_unique, crate::proofs::Batches::judged_repeated))]
+fn judged(alloc: Global, keys: Keys, doc: Doc) -> Result<Reading, Memory>
+    ensures { IfOk result (λ r. r ≡ reading keys (Some doc)) }
+{
+    match keys {
+        Keys::Any => Ok(Reading::Json(doc)),
+        Keys::Unique => {
+            if doc.unique_keys(alloc)? {
+                Ok(Reading::Json(doc))
+            } else {
+                Ok(Reading::Repeated(doc))
+            }
+        }
+    }
+}

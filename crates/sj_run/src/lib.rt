@@ -1,0 +1,18 @@
+//! What the command does: the statements of a file over the lines of an input (ISO/IEC 9075-2, SQL/JSON functions).
+//!
+//! It stands on `sj_file` for what the words ask for and for the statements of a file, on `sj_read` for the documents of
+//! lines, on `sj_select` for the rows that a statement gives, on `sj_rows` for lines, on `sj_page` for rows on their way
+//! to the output, and on `sj_generated` for lines that are not read. [`run`] is the top call. It knows files and streams
+//! only by the traits of `sj_outside`. Its contract says what a run has written when it ends, for every cut of the
+//! input, why it ended, and how many steps it took.
+#![tactic(auto)]
+
+mod batch;
+mod check;
+mod generate;
+mod notes;
+mod rows;
+mod run;
+mod stream;
+
+pub use run::run;

@@ -1,0 +1,135 @@
+//! Calls that fail, sinks without room, and the cuts of an input. What statements give for lines is in the tables of
+//! `checks/rows/`.
+use crate::cases::expect;
+use crate::runs::{ROOT, Setup, plain, repeated, run_on, told};
+use sj_file::Status;
+use std::alloc::Global;
+use std::test::Fail;
+
+const THREE: &[u8] = b"{\"a\":{\"b\":null}}\n{\"a\":{\"b\":null}}\n{\"a\":{\"b\":null}}\n";
+
+/// The numbers of a text, between commas; of a dash none.
+fn numbers(alloc: Global, text: &str) -> Result<Vec<u64>, Fail> {
+    let mut all = Vec::new(alloc);
+    if text != "-" {
+        for number in text.split(',') {
+            all.push(number.parse()?)?;
+        }
+    }
+    Ok(all)
+}
+
+/// Runs over three lines of 17 bytes, with what fails or is short: the words, the calls of the shelf and of the input
+/// that fail, how many bytes a read gives at most, and the room for what is written and for the message.
+const FAULTS: &str = r#"run f;-;-;0;99;99 => Done "1\t1\tR\tTRUE\n2\t1\tR\tTRUE\n3\t1\tR\tTRUE\n" ""
+run f;0;-;0;99;99 => ShelfFault "" "statement file cannot be read\n"
+run f;1;-;0;99;99 => ShelfFault "" "statement file cannot be read\n"
+run f;2;-;0;99;99 => ShelfFault "" "statement file cannot be read\n"
+run f;1;-;0;99;0 => ShelfFault "" ""
+check f;1;-;0;99;99 => ShelfFault "" "statement file cannot be read\n"
+selfrun 3 f;1;-;0;99;99 => ShelfFault "" "statement file cannot be read\n"
+selfrun 3 g;-;-;0;99;0 => ShelfFault "" ""
+run -x;-;-;0;99;0 => Usage "" ""
+run f;-;0;17;99;99 => ReadFault "" "input failed\n"
+run f;-;1;17;99;99 => ReadFault "1\t1\tR\tTRUE\n" "input failed\n"
+run f;-;2;17;99;99 => ReadFault "1\t1\tR\tTRUE\n2\t1\tR\tTRUE\n" "input failed\n"
+run f;-;3;17;99;99 => ReadFault "1\t1\tR\tTRUE\n2\t1\tR\tTRUE\n3\t1\tR\tTRUE\n" "input failed\n"
+run f;-;1;26;99;99 => ReadFault "1\t1\tR\tTRUE\n" "input failed\n"
+run f;-;1;26;99;0 => ReadFault "1\t1\tR\tTRUE\n" ""
+run f;-;4;17;99;99 => Done "1\t1\tR\tTRUE\n2\t1\tR\tTRUE\n3\t1\tR\tTRUE\n" ""
+run f;-;-;0;32;99 => WriteFault "1\t1\tR\tTRUE\n2\t1\tR\tTRUE\n3\t1\tR\tTRUE" "output failed\n"
+run f;-;-;0;32;0 => WriteFault "1\t1\tR\tTRUE\n2\t1\tR\tTRUE\n3\t1\tR\tTRUE" ""
+run f;-;-;0;0;99 => WriteFault "" "output failed\n"
+check f;-;-;0;5;99 => WriteFault "accep" "output failed\n"
+check f;-;-;0;5;0 => WriteFault "accep" ""
+check f;-;-;0;99;0 => Done "accepted 1\n" ""
+selfrun 3 f;-;-;0;9;99 => WriteFault "lines 3 r" "output failed\n"
+selfrun 3 f;-;-;0;99;0 => Done "lines 3 rows 3 errors 0 bytes 33\n" """#;
+
+/// What a run tells whose words and faults a text gives.
+fn told_of(alloc: Global, text: &str) -> Result<String, Fail> {
+    let mut fields = text.split(';');
+    let words = fields.next().ok_or("no words")?;
+    let shelf_fails = numbers(alloc, fields.next().ok_or("no calls of the shelf")?)?;
+    let input_fails = numbers(alloc, fields.next().ok_or("no calls of the input")?)?;
+    let setup = Setup {
+        words,
+        shelf_fails: &shelf_fails,
+        input_fails: &input_fails,
+        room: 0,
+        ..plain(ROOT, THREE, fields.next().ok_or("no cut")?.parse()?)
+    };
+    let room = fields.next().ok_or("no room")?.parse()?;
+    let note_room = fields.next().ok_or("no room for the message")?.parse()?;
+    let ran = run_on(
+        alloc,
+        &Setup {
+            room,
+            note_room,
+            ..setup
+        },
+    )?;
+    told(alloc, &ran)
+}
+
+#[test]
+fn faults_at_each_call_and_sinks_without_room(rt: HostRuntime) -> Result<(), Fail> {
+    for line in FAULTS.lines() {
+        let (text, want) = line.split_once(" => ").ok_or("no arrow")?;
+        expect(&rt, told_of(rt.alloc(), text)?.as_str(), want, text);
+    }
+    Ok(())
+}
+
+#[test]
+fn refusals_without_room_for_the_message(rt: HostRuntime) -> Result<(), Fail> {
+    for (note_room, want) in [
+        (99, r#"Refused(1, Syntax) "" "statement 1: syntax error\n""#),
+        (0, r#"Refused(1, Syntax) "" """#),
+    ] {
+        let setup = Setup {
+            note_room,
+            ..plain(b"SELECT 1", THREE, 0)
+        };
+        let ran = run_on(rt.alloc(), &setup)?;
+        expect(&rt, told(rt.alloc(), &ran)?.as_str(), want, "refused");
+    }
+    Ok(())
+}
+
+// Lines, a blank one and one that is no JSON, with at most so many bytes at each read.
+#[test]
+fn lines_in_any_cut(rt: HostRuntime) -> Result<(), Fail> {
+    let file = b"SELECT JSON_EXISTS(doc, 'lax $.a.b');".as_slice();
+    let input = b"{\"a\":{\"b\":null}}\n{\"a\":\"x\"}\n \t\r\n{\"a\":\n".as_slice();
+    for cut in 0..40 {
+        let ran = run_on(rt.alloc(), &plain(file, input, cut))?;
+        expect(
+            &rt,
+            told(rt.alloc(), &ran)?.as_str(),
+            r#"Done "1\t1\tR\tTRUE\n2\t1\tR\tFALSE\n4\t1\tR\tFALSE\n" """#,
+            "cut",
+        );
+    }
+    Ok(())
+}
+
+const MANY_ROWS: &[u8] =
+    b"SELECT * FROM JSON_TABLE(doc,'lax $' COLUMNS (NESTED 'lax $.x[*]' COLUMNS (a INTEGER PATH 'lax $'), NESTED 'lax $.x[*]' COLUMNS (b INTEGER PATH 'lax $')) PLAN DEFAULT (CROSS));";
+
+// A line of many rows is written before it ends, and a sink that is full stops it.
+#[test]
+fn rows_are_written_within_a_line(rt: HostRuntime) -> Result<(), Fail> {
+    let alloc = rt.alloc();
+    let input = repeated(alloc, "{\"x\":[10", ",10", 119, "]}")?;
+    let setup = plain(MANY_ROWS, input.as_bytes(), 0);
+    let whole = run_on(alloc, &setup)?;
+    assert!(rt; whole.status == Status::Done);
+    assert!(rt; whole.out.len() == 120 * 120 * 12);
+    let room = 70_000;
+    let cut = run_on(alloc, &Setup { room, ..setup })?;
+    assert!(rt; cut.status == Status::WriteFault);
+    assert!(rt; cut.out.len() == room);
+    assert!(rt; whole.out.as_slice().starts_with(cut.out.as_slice()));
+    Ok(())
+}

@@ -1,5 +1,0 @@
-use Rattle.sqljson.proofs.Streaming.{no_memory}
-use Rattle.sqljson.proofs.stream.stream.Goals as goal
-
-pub returns-in-Err : goal.returns-in-Err
-returns-in-Err g c = no_memory _ _ _ _
