@@ -1,4 +1,5 @@
 // A document is built, walked and built anew.
+use crate::cases::{expect, expect_count};
 use sj_base::{Memory, Steps, Tally};
 use sj_decimal::Decimal;
 use sj_doc::{Doc, DocBuilder, Kind, Num, Want};
@@ -10,14 +11,14 @@ use std::test::Fail;
 fn built(rt: &impl Abort, alloc: Global) -> Result<Doc, Memory> {
     let mut builder = DocBuilder::new(alloc);
     builder.open_object()?;
-    assert_eq!(rt; builder.wants(), Want::KeyOrClose);
+    assert!(rt; builder.wants() == Want::KeyOrClose);
     builder.key("a")?;
     builder.text("x")?;
     builder.key("a")?;
     builder.open_array()?;
     builder.truth(true)?;
     builder.null()?;
-    assert_eq!(rt; builder.depth(), 2);
+    expect_count(rt, builder.depth(), 2);
     builder.close();
     builder.close();
     Ok(builder.finish())
@@ -27,15 +28,15 @@ fn walks(rt: &impl Abort, doc: &Doc) -> Result<(), Fail> {
     let mut steps = Steps::new(Tally::new());
     let mut members = doc.root().children();
     let first = members.next(&mut steps).ok_or("no member")?;
-    assert_eq!(rt; first.key.ok_or("no key")?, "a");
-    assert_eq!(rt; first.node.kind(), Kind::String);
+    expect(rt, first.key.ok_or("no key")?, "a", "key");
+    assert!(rt; first.node.kind() == Kind::String);
     let second = members.next(&mut steps).ok_or("no second member")?;
-    assert_eq!(rt; second.node.len(), 2);
-    assert_eq!(rt; second.node.id(), 2);
+    expect_count(rt, second.node.len(), 2);
+    expect_count(rt, second.node.id(), 2);
     let element = second.node.children().next(&mut steps).ok_or("no element")?;
-    assert_eq!(rt; element.node.kind(), Kind::Truth);
+    assert!(rt; element.node.kind() == Kind::Truth);
     assert!(rt; doc.root().tour().next(&mut steps).is_some());
-    assert_eq!(rt; steps.ledger().count(), 3);
+    expect_count(rt, steps.ledger().count(), 3);
     Ok(())
 }
 
@@ -46,9 +47,9 @@ fn searches(rt: &impl Abort, doc: &Doc) -> Result<(), Fail> {
     let found = under
         .next_under("a", &mut steps)
         .ok_or("no member under the key")?;
-    assert_eq!(rt; found.id(), 1);
+    expect_count(rt, found.id(), 1);
     assert!(rt; under.next_under("b", &mut steps).is_none());
-    assert_eq!(rt; steps.ledger().count(), 2);
+    expect_count(rt, steps.ledger().count(), 2);
     Ok(())
 }
 
@@ -58,7 +59,7 @@ fn builds_and_walks(rt: HostRuntime) -> Result<(), Fail> {
     assert!(rt; !doc.unique_keys(rt.alloc())?);
     walks(&rt, &doc)?;
     searches(&rt, &doc)?;
-    assert_eq!(rt; doc.recycle().wants(), Want::Value);
+    assert!(rt; doc.recycle().wants() == Want::Value);
     Ok(())
 }
 
@@ -74,10 +75,10 @@ fn keeps_numbers(rt: HostRuntime) -> Result<(), Fail> {
     let mut elements = doc.root().children();
     for wanted in ["1.5", "-7"] {
         let element = elements.next(&mut steps).ok_or("no element")?;
-        assert_eq!(rt; element.node.kind(), Kind::Number);
+        assert!(rt; element.node.kind() == Kind::Number);
         match element.node.number() {
-            Num::Exact(n) => assert_eq!(rt; n.text().as_str(), wanted),
-            Num::Wide(spelling) => assert_eq!(rt; spelling, wanted),
+            Num::Exact(n) => expect(&rt, n.text().as_str(), wanted, "exact"),
+            Num::Wide(spelling) => expect(&rt, spelling, wanted, "wide"),
         }
     }
     Ok(())

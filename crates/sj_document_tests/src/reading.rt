@@ -1,5 +1,6 @@
 // Lines that are cut at each place, what a document then has, and the limits. Which texts are JSON and what they are read as
 // is in `checks/rows/json.txt`.
+use crate::cases::{expect, expect_count};
 use sj_base::{Steps, Tally};
 use sj_doc::{Kind, Visit};
 use sj_read::{LineRead, ReadRefusal, read, read_over};
@@ -18,7 +19,7 @@ fn is_read(alloc: Global, line: &[u8]) -> Result<bool, Fail> {
 
 // Stops the test where the line is read and should not be, or is not read and should be.
 fn expect_read(rt: &impl Abort, alloc: Global, line: &[u8], json: bool) -> Result<(), Fail> {
-    assert_eq!(rt; is_read(alloc, line)?, json, "{line:?}");
+    assert!(rt; is_read(alloc, line)? == json, "{line:?}");
     Ok(())
 }
 
@@ -64,13 +65,13 @@ fn keeps_members_in_order(rt: HostRuntime) -> Result<(), Fail> {
     ];
     for (key, kind, id, len) in wanted {
         let child = children.next(&mut steps).ok_or("a child is missing")?;
-        assert_eq!(rt; child.key.ok_or("no key")?, key);
-        assert_eq!(rt; child.node.kind(), kind);
-        assert_eq!(rt; child.node.id(), id);
-        assert_eq!(rt; child.node.len(), len);
+        expect(&rt, child.key.ok_or("no key")?, key, "key");
+        assert!(rt; child.node.kind() == kind);
+        expect_count(&rt, child.node.id(), id);
+        expect_count(&rt, child.node.len(), len);
     }
     assert!(rt; children.next(&mut steps).is_none());
-    assert_eq!(rt; steps.ledger().count(), 3);
+    expect_count(&rt, steps.ledger().count(), 3);
     assert!(rt; !first.unique_keys(rt.alloc())?);
     let LineRead::NotJson(builder) = read_over(rt.alloc(), first.recycle(), b"[1, {\"a\": 2}")?
     else {
@@ -79,7 +80,7 @@ fn keeps_members_in_order(rt: HostRuntime) -> Result<(), Fail> {
     let LineRead::Json(second) = read_over(rt.alloc(), builder, b" [ ] ")? else {
         return Err("the line is JSON".into());
     };
-    assert_eq!(rt; second.root().kind(), Kind::Array);
+    assert!(rt; second.root().kind() == Kind::Array);
     assert!(rt; second.unique_keys(rt.alloc())?);
     Ok(())
 }
@@ -131,9 +132,9 @@ fn tours_in_order(rt: HostRuntime) -> Result<(), Fail> {
     ];
     for (sign, id) in wanted {
         let visit = tour.next(&mut steps).ok_or("a visit is missing")?;
-        assert_eq!(rt; shape(visit), (sign, id));
+        assert!(rt; shape(visit) == (sign, id));
     }
     assert!(rt; tour.next(&mut steps).is_none());
-    assert_eq!(rt; steps.ledger().count(), 4);
+    expect_count(&rt, steps.ledger().count(), 4);
     Ok(())
 }

@@ -1,8 +1,13 @@
-//! What the tests ask of texts.
+//! What the tests ask of texts and numbers.
 use std::process::Abort;
 
 /// Stops the test where a text is not what it should be. Each place with an assertion of its own takes a proof of how
 /// its message is made, so the tests share this one.
 pub(crate) fn expect(rt: &impl Abort, found: &str, want: &str, about: &str) {
     assert_eq!(rt; found, want, "{about}");
+}
+
+/// The same of a number.
+pub(crate) fn expect_count(rt: &impl Abort, found: u64, want: u64) {
+    assert_eq!(rt; found, want);
 }

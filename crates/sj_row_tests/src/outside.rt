@@ -1,5 +1,6 @@
 // Each call with ample memory, its answer compared; the objects in memory by tables of failing calls and cuts; the
 // adapters over fakes and a file.
+use super::cases::{expect, expect_count};
 use sj_base::{Bytes, Ledger, Memory, Steps, Tally, Text};
 use sj_outside::{
     CountSink, Failed, FileShelf, MemShelf, MemSink, MemSource, QuietShelf, QuietSource, Shelf,
@@ -13,23 +14,22 @@ use std::test::Fail;
 #[test]
 fn texts_and_bytes_are_what_was_put_in(rt: HostRuntime) -> Result<(), Fail> {
     let text = Text::from_str(rt.alloc(), "grün")?;
-    assert_eq!(rt; text.as_str(), "grün");
-    assert_eq!(rt; Text::from_string(text.into_string()).as_str(), "grün");
+    expect(&rt, text.as_str(), "grün", "from_str");
+    let text = Text::from_string(text.into_string());
+    expect(&rt, text.as_str(), "grün", "from_string");
 
     let mut bytes = Bytes::new(rt.alloc());
     assert!(rt; bytes.is_empty());
     bytes.push(b"ab")?;
     bytes.push(b"cde")?;
-    assert_eq!(rt; bytes.as_slice(), b"abcde".as_slice());
-    assert_eq!(rt; bytes.len(), 5);
+    assert!(rt; bytes.as_slice() == b"abcde".as_slice());
+    assert!(rt; bytes.len() == 5);
     bytes.remove(1);
-    assert_eq!(rt; bytes.as_slice(), b"acde".as_slice());
+    assert!(rt; bytes.as_slice() == b"acde".as_slice());
     assert!(rt; bytes.len() >= 2);
     bytes.truncate(2);
-    assert_eq!(rt;
-        Bytes::from_vec(bytes.into_vec()).as_slice(),
-        b"ac".as_slice()
-    );
+    let bytes = Bytes::from_vec(bytes.into_vec());
+    assert!(rt; bytes.as_slice() == b"ac".as_slice());
     Ok(())
 }
 
@@ -40,7 +40,7 @@ fn steps_are_counted(rt: HostRuntime) {
     let mut steps = Steps::new(tally);
     steps.tick();
     steps.tick();
-    assert_eq!(rt; steps.ledger().count(), 3);
+    expect_count(&rt, steps.ledger().count(), 3);
 }
 
 /// Reads into four places once for each wanted answer, and compares the bytes.
@@ -48,7 +48,7 @@ fn compare_reads<S: Source>(rt: &impl Abort, source: &mut S, wants: &[Result<&[u
     let mut buf = [0; 4];
     for want in wants {
         let answer = source.read(&mut buf);
-        assert_eq!(rt; answer, want.map(|bytes| bytes.len()));
+        assert!(rt; answer == want.map(|bytes| bytes.len()));
         if let Ok(bytes) = want {
             assert!(rt; buf.starts_with(bytes));
         }
@@ -73,7 +73,7 @@ fn a_source_fails_and_is_cut_at_the_listed_calls(rt: HostRuntime) -> Result<(), 
         Ok(b"".as_slice()),
     ];
     compare_reads(&rt, &mut source, &wants);
-    assert_eq!(rt; source.calls(), 7);
+    expect_count(&rt, source.calls(), 7);
 
     let mut quiet = QuietSource::new(b"abcde".to_vec(rt.alloc())?);
     let wants = [
@@ -88,7 +88,7 @@ fn a_source_fails_and_is_cut_at_the_listed_calls(rt: HostRuntime) -> Result<(), 
 /// Writes three bytes once for each wanted answer.
 fn compare_writes<S: Sink>(rt: &impl Abort, sink: &mut S, wants: &[Result<usize, Failed>]) {
     for want in wants {
-        assert_eq!(rt; sink.write(b"abc"), *want);
+        assert!(rt; sink.write(b"abc") == *want);
     }
 }
 
@@ -98,12 +98,12 @@ fn a_sink_fails_at_the_listed_calls_and_without_room(rt: HostRuntime) -> Result<
     let mut sink = MemSink::new(rt.alloc(), 5, fails)?;
     let wants = [Err(Failed), Ok(3), Err(Failed), Ok(2), Err(Failed)];
     compare_writes(&rt, &mut sink, &wants);
-    assert_eq!(rt; sink.bytes(), b"abcab".as_slice());
-    assert_eq!(rt; sink.faults(), 3);
+    assert!(rt; sink.bytes() == b"abcab".as_slice());
+    expect_count(&rt, sink.faults(), 3);
 
     let mut counter = CountSink::new();
     compare_writes(&rt, &mut counter, &[Ok(3), Ok(3)]);
-    assert_eq!(rt; counter.size(), 6);
+    expect_count(&rt, counter.size(), 6);
     Ok(())
 }
 
@@ -118,10 +118,10 @@ fn compare_calls<S: Shelf>(rt: &impl Abort, shelf: &mut S, calls: &[Call]) {
     let mut buf = [0; 4];
     for call in calls {
         match *call {
-            Call::Picks(name, want) => assert_eq!(rt; shelf.pick(name), want),
+            Call::Picks(name, want) => assert!(rt; shelf.pick(name) == want),
             Call::Reads(want) => {
                 let answer = shelf.read(&mut buf);
-                assert_eq!(rt; answer, want.map(|bytes| bytes.len()));
+                assert!(rt; answer == want.map(|bytes| bytes.len()));
                 if let Ok(bytes) = want {
                     assert!(rt; buf.starts_with(bytes));
                 }
@@ -166,14 +166,10 @@ fn a_shelf_gives_its_file_from_the_front_at_each_pick(rt: HostRuntime) -> Result
 
 #[test]
 fn failures_have_texts(rt: HostRuntime) -> Result<(), Fail> {
-    assert_eq!(rt;
-        format!(in rt.alloc(); "{Memory}")?.as_str(),
-        "out of memory"
-    );
-    assert_eq!(rt;
-        format!(in rt.alloc(); "{Failed}")?.as_str(),
-        "the outside failed"
-    );
+    let memory = format!(in rt.alloc(); "{Memory}")?;
+    expect(&rt, memory.as_str(), "out of memory", "Memory");
+    let failed = format!(in rt.alloc(); "{Failed}")?;
+    expect(&rt, failed.as_str(), "the outside failed", "Failed");
     Ok(())
 }
 
