@@ -1,6 +1,7 @@
 // JSON_ARRAY.
-ghost use Rattle.std.specs.Prelude.{◌≡◌, IfOk};
+ghost use Rattle.std.specs.Prelude.{◌≡◌, [], IfOk, OnOk};
 ghost use Rattle.sj_value.specs.Values.{IsPrintable};
+ghost use Rattle.sj_build.specs.Constructors as spec;
 ghost use Rattle.sj_build.specs.Constructors.{array_value};
 
 use crate::element::{begin, is_kept, lead, value_text};
@@ -22,15 +23,23 @@ pub fn json_array(alloc: Global, values: &[SqlValue], nulls: Nulls) -> Result<Sq
     ensures printable { IfOk result IsPrintable }
 {
     let mut text = Bytes::new(alloc);
+    array_text(&mut text, values, nulls)?;
+    Ok(SqlValue::Json(text))
+}
+
+// Writes the text of the array. The room for it is lent, so that nothing is given up where it returns early.
+fn array_text(text: &mut Bytes, values: &[SqlValue], nulls: Nulls) -> Result<(), Memory>
+    requires { text.old ≡ [] }
+    ensures { OnOk result (text.new ≡ spec.array_text nulls values.now) }
+{
     let mut place = Place::First;
-    begin(&mut text, b'[')?;
+    begin(text, b'[')?;
     for value in values {
         if is_kept(nulls, value) {
-            lead(&mut text, place)?;
-            value_text(&mut text, value)?;
+            lead(text, place)?;
+            value_text(text, value)?;
             place = Place::Later;
         }
     }
-    text.push(b"]")?;
-    Ok(SqlValue::Json(text))
+    text.push(b"]")
 }

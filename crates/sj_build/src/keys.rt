@@ -11,15 +11,15 @@ use indexmap::IndexSet;
 use sj_base::{Memory, State};
 use std::alloc::Global;
 
-// The keys that are lent to an object while it is made, where no two may be equal. Its `drop` is written out, so that
-// it is given up by one call, and not part by part at each place where the maker may return early.
-pub(crate) struct LentKeys<'k> {
-    pub(crate) noted: Option<IndexSet<&'k str>>,
-}
-
-impl<'k> Drop for LentKeys<'k> {
-    fn drop(self) {
-        let LentKeys { noted: _noted } = self;
+// No keys yet, in a set where no two may be equal.
+pub(crate) fn no_keys<'k>(alloc: Global, unique: bool) -> Option<IndexSet<&'k str>>
+    ensures unique { is_some result ≡ unique }
+    ensures none { lent_keys result ≡ [] }
+{
+    if unique {
+        Some(IndexSet::new(alloc))
+    } else {
+        None
     }
 }
 

@@ -1,12 +1,13 @@
 // JSON_OBJECT.
-ghost use Rattle.std.specs.Prelude.{◌≡◌, Ok, IfOk, IfErr};
+ghost use Rattle.std.specs.Prelude.{◌≡◌, [], Ok, is_some, IfOk, IfErr, OnOk};
 ghost use Rattle.sj_value.specs.Values.{IsPrintable};
 ghost use Rattle.sj_build.specs.Answers.{RefusesAs};
 ghost use Rattle.sj_build.specs.Constructors.{object_value};
+ghost use Rattle.sj_build.specs.Keys.{lent_keys};
 
 use crate::element::{begin, kept_key, lead, member_text};
 use crate::field::Field;
-use crate::keys::{LentKeys, note_lent};
+use crate::keys::{no_keys, note_lent};
 use crate::refusal::BuildRefusal;
 use indexmap::IndexSet;
 use sj_base::Bytes;
@@ -35,23 +36,33 @@ pub fn json_object(
     ensures printable { IfOk result IsPrintable }
 {
     let mut text = Bytes::new(alloc);
-    let mut keys = LentKeys {
-        noted: if unique {
-            Some(IndexSet::new(alloc))
-        } else {
-            None
-        },
-    };
+    let mut keys = no_keys(alloc, unique);
+    object_text(&mut text, &mut keys, fields, nulls)?;
+    Ok(SqlValue::Json(text))
+}
+
+// Writes the text of the object. The room for it and for its keys is lent, so that nothing is given up where it returns early.
+fn object_text<'k>(
+    text: &mut Bytes,
+    keys: &mut Option<IndexSet<&'k str>>,
+    fields: &'k [Field],
+    nulls: Nulls,
+) -> Result<(), BuildRefusal>
+    requires text { text.old ≡ [] }
+    requires keys { lent_keys keys.old ≡ [] }
+    ensures ok { OnOk result (object_value nulls (is_some keys.old) fields.now ≡ Ok (SqlValue.Json text.new)) }
+    ensures refusal { IfErr result (RefusesAs (object_value nulls (is_some keys.old) fields.now)) }
+{
     let mut place = Place::First;
-    begin(&mut text, b'{')?;
+    begin(text, b'{')?;
     for field in fields {
         if let Some(key) = kept_key(&field.key, &field.value, nulls)? {
-            note_lent(&mut keys.noted, key)?;
-            lead(&mut text, place)?;
-            member_text(&mut text, key, &field.value)?;
+            note_lent(keys, key)?;
+            lead(text, place)?;
+            member_text(text, key, &field.value)?;
             place = Place::Later;
         }
     }
     text.push(b"}")?;
-    Ok(SqlValue::Json(text))
+    Ok(())
 }

@@ -1,7 +1,0 @@
-use Rattle.std.proofs.Common.{◌≡◌, take, is_some}
-use Rattle.sj_build.specs.Keys.{lent_keys}
-use Rattle.sj_build.proofs.Members.{IsOpen}
-use Rattle.sj_build.proofs.object.json_object.Given as goal
-
-abbrev pub invariant-loop-field : goal.invariant-loop-field
-invariant-loop-field l = IsOpen l.nulls (is_some l.keys.noted) (take l.field-index l.fields) l.text l.place (lent_keys l.keys.noted) × (is_some l.keys.noted ≡ l.unique)
