@@ -22,8 +22,8 @@ IsOpen choice unique fields text place keys = (text ≡ 123 ∷ joined member_te
 pub parted : (fields : List Field) (i : ℕ) (field : Field) → i < length fields → field ≡ get_or fields i field → take i fields ++ field ∷ drop (suc i) fields ≡ fields
 parted fields i field lt is = ap (λ f. take i fields ++ f ∷ drop (suc i) fields) is ∙ ap (λ l. take i fields ++ l) (sym (drop-cons fields i field lt)) ∙ take-append-drop i fields
 
-pub one_more : (fields : List Field) (i : ℕ) (field : Field) → i < length fields → field ≡ get_or fields i field → take i fields ++ field ∷ [] ≡ take (i + 1) fields
-one_more fields i field lt is = ap (λ f. take i fields ++ f ∷ []) is ∙ sym (take-suc fields i field lt) ∙ ap (λ n. take n fields) (sym (add-one i))
+pub one_more : {X : Type 0} (xs : List X) (i : ℕ) (x : X) → i < length xs → x ≡ get_or xs i x → take i xs ++ x ∷ [] ≡ take (i + 1) xs
+one_more xs i x lt is = ap (λ y. take i xs ++ y ∷ []) is ∙ sym (take-suc xs i x lt) ∙ ap (λ n. take n xs) (sym (add-one i))
 
 module _ (choice : Nulls) (unique : Bool) (fields : List Field) (text : List ℕ) (place : Place) (keys : List (List ℕ)) (o : IsOpen choice unique fields text place keys) (field : Field) where
   pub open_dropped : kept_key choice field ≡ Ok None → IsOpen choice unique (fields ++ field ∷ []) text place keys
