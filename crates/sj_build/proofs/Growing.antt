@@ -12,6 +12,24 @@ use Rattle.sj_build.specs.SoFar.{so_far}
 use Rattle.sj_text.specs.declared.place.Place.{Place}
 use Rattle.sj_text.specs.declared.place.Place.TheVariants.{Later}
 
+-- the opening bracket was appended where there was no text
+pub opening_first : (bracket old new : List ℕ) → old ≡ [] → new ≡ old ++ bracket → new ≡ old ++ opening bracket old
+opening_first bracket [] new none is = is
+opening_first bracket (x ∷ xs) new none is = absurd cc
+
+pub opening_later : (bracket old new : List ℕ) → (old ≡ [] → ⊥) → new ≡ old → new ≡ old ++ opening bracket old
+opening_later bracket [] new some is = absurd (some refl)
+opening_later bracket (x ∷ xs) new some is = is ∙ sym (append-nil (x ∷ xs))
+
+-- four pieces, one behind the other
+pub four_behind : (old a b c d one two three four : List ℕ) → one ≡ old ++ a → two ≡ one ++ b → three ≡ two ++ c → four ≡ three ++ d → four ≡ old ++ (a ++ (b ++ (c ++ d)))
+four_behind old a b c d one two three four e1 e2 e3 e4 =
+    e4
+    ∙ ap (λ l. l ++ d) (e3 ∙ ap (λ l. l ++ c) (e2 ∙ ap (λ l. l ++ b) e1))
+    ∙ append_assoc ((old ++ a) ++ b) c d
+    ∙ append_assoc (old ++ a) b (c ++ d)
+    ∙ append_assoc old a (b ++ (c ++ d))
+
 -- one text more stands behind a comma, unless it is the first
 joined-push : {X : Type 0} (text : X → List ℕ) (xs : List X) (x : X) → joined text (xs ++ x ∷ []) ≡ joined text xs ++ (comma (place_behind xs) ++ text x)
 joined-push text [] x = append-nil (text x)

@@ -1,0 +1,15 @@
+use Rattle.std.proofs.Common.{◌≡◌, List, ◌∷◌, [], ◌++◌, true≢false, sym, ◌∙◌}
+use Rattle.std.proofs.lemmas.Result.{on_ok_weaker}
+use Rattle.sj_build.specs.Growing.{opening}
+use Rattle.sj_build.proofs.Growing.{opening_first, opening_later, four_behind}
+use Rattle.sj_build.proofs.array_agg.append.Goals as goal
+use Rattle.sj_build.proofs.array_agg.append.Goals.{then-is_empty+in_ok-begin, else-is_empty}
+
+pub returns-clause-ok : goal.returns-clause-ok
+returns-clause-ok c =
+    let old = c.args.text.now in
+    let opened : c.if-is_empty.text ≡ old ++ opening (91 ∷ []) old = elim c.if-is_empty.branch [
+      | then-is_empty+in_ok-begin w ↦ opening_first (91 ∷ []) old _ (c.is_empty.ensures.0 w.if-is_empty.true) (w.text-is ∙ w.in_ok-begin.ensures.ok)
+      | else-is_empty w ↦ opening_later (91 ∷ []) old _ (λ none. true≢false (sym (c.is_empty.ensures.1 none) ∙ w.if-is_empty.false)) w.text-is
+    ] in
+    on_ok_weaker c.push.result (λ pushed. four_behind old _ _ _ _ _ _ _ _ opened c.in_ok-lead.ensures.ok c.in_ok-value_text.ensures.ok pushed) c.push.ensures.ok
