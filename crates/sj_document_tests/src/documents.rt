@@ -63,23 +63,32 @@ fn builds_and_walks(rt: HostRuntime) -> Result<(), Fail> {
     Ok(())
 }
 
-#[test]
-fn keeps_numbers(rt: HostRuntime) -> Result<(), Fail> {
-    let mut builder = DocBuilder::new(rt.alloc());
+// [1.5,-7]
+fn numbers(alloc: Global) -> Result<Doc, Fail> {
+    let mut builder = DocBuilder::new(alloc);
     builder.open_array()?;
     builder.exact(Decimal::from_parts(15, 1).ok_or("no decimal")?)?;
     builder.exact(Decimal::from_parts(-7, 0).ok_or("no decimal")?)?;
     builder.close();
-    let doc = builder.finish();
+    Ok(builder.finish())
+}
+
+fn expect_numbers(rt: &impl Abort, doc: &Doc) -> Result<(), Fail> {
     let mut steps = Steps::new(Tally::new());
     let mut elements = doc.root().children();
     for wanted in ["1.5", "-7"] {
         let element = elements.next(&mut steps).ok_or("no element")?;
         assert!(rt; element.node.kind() == Kind::Number);
         match element.node.number() {
-            Num::Exact(n) => expect(&rt, n.text().as_str(), wanted, "exact"),
-            Num::Wide(spelling) => expect(&rt, spelling, wanted, "wide"),
+            Num::Exact(n) => expect(rt, n.text().as_str(), wanted, "exact"),
+            Num::Wide(spelling) => expect(rt, spelling, wanted, "wide"),
         }
     }
     Ok(())
+}
+
+#[test]
+fn keeps_numbers(rt: HostRuntime) -> Result<(), Fail> {
+    let doc = numbers(rt.alloc())?;
+    expect_numbers(&rt, &doc)
 }

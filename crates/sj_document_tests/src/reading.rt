@@ -2,7 +2,7 @@
 // is in `checks/rows/json.txt`.
 use crate::cases::{expect, expect_count};
 use sj_base::{Steps, Tally};
-use sj_doc::{Kind, Visit};
+use sj_doc::{Doc, Kind, Visit};
 use sj_read::{LineRead, ReadRefusal, read, read_over};
 use std::alloc::Global;
 use std::process::Abort;
@@ -53,11 +53,10 @@ fn refuses_a_truncated_line(rt: HostRuntime) -> Result<(), Fail> {
     Ok(())
 }
 
-#[test]
-fn keeps_members_in_order(rt: HostRuntime) -> Result<(), Fail> {
-    let first = read(rt.alloc(), b"{\"a\":null,\"b\":[true,\"x\"],\"a\":{}}")?;
+/// The members of a document, with their keys, kinds, numbers and sizes.
+fn expect_members(rt: &impl Abort, doc: &Doc) -> Result<(), Fail> {
     let mut steps = Steps::new(Tally::new());
-    let mut children = first.root().children();
+    let mut children = doc.root().children();
     let wanted = [
         ("a", Kind::Null, 1, 0),
         ("b", Kind::Array, 2, 2),
@@ -65,14 +64,27 @@ fn keeps_members_in_order(rt: HostRuntime) -> Result<(), Fail> {
     ];
     for (key, kind, id, len) in wanted {
         let child = children.next(&mut steps).ok_or("a child is missing")?;
-        expect(&rt, child.key.ok_or("no key")?, key, "key");
+        expect(rt, child.key.ok_or("no key")?, key, "key");
         assert!(rt; child.node.kind() == kind);
-        expect_count(&rt, child.node.id(), id);
-        expect_count(&rt, child.node.len(), len);
+        expect_count(rt, child.node.id(), id);
+        expect_count(rt, child.node.len(), len);
     }
     assert!(rt; children.next(&mut steps).is_none());
-    expect_count(&rt, steps.ledger().count(), 3);
-    assert!(rt; !first.unique_keys(rt.alloc())?);
+    expect_count(rt, steps.ledger().count(), 3);
+    Ok(())
+}
+
+#[test]
+fn keeps_members_in_order(rt: HostRuntime) -> Result<(), Fail> {
+    let doc = read(rt.alloc(), b"{\"a\":null,\"b\":[true,\"x\"],\"a\":{}}")?;
+    expect_members(&rt, &doc)?;
+    assert!(rt; !doc.unique_keys(rt.alloc())?);
+    Ok(())
+}
+
+#[test]
+fn reads_on_in_the_memory_of_a_line_that_is_no_json(rt: HostRuntime) -> Result<(), Fail> {
+    let first = read(rt.alloc(), b"{\"a\":null}")?;
     let LineRead::NotJson(builder) = read_over(rt.alloc(), first.recycle(), b"[1, {\"a\": 2}")?
     else {
         return Err("the line is not JSON".into());
@@ -86,23 +98,27 @@ fn keeps_members_in_order(rt: HostRuntime) -> Result<(), Fail> {
 }
 
 // A string is passed over many bytes at a step: it may end or be broken at any of them.
+fn expect_ends(rt: &impl Abort, alloc: Global, line: &mut Vec<u8>) -> Result<(), Fail> {
+    for letters in 0..80 {
+        line.push(b'"')?;
+        expect_read(rt, alloc, line, true)?;
+        line.extend_from_slice(b"                                        ")?;
+        expect_read(rt, alloc, line, true)?;
+        line.truncate(letters + 1);
+        line.extend_from_slice(b"\x1f                                      \"")?;
+        expect_read(rt, alloc, line, false)?;
+        line.truncate(letters + 1);
+        expect_read(rt, alloc, line, false)?;
+        line.push(b'a')?;
+    }
+    Ok(())
+}
+
 #[test]
 fn finds_the_end_of_a_string(rt: HostRuntime) -> Result<(), Fail> {
     let mut line = Vec::new(rt.alloc());
     line.push(b'"')?;
-    for letters in 0..80 {
-        line.push(b'"')?;
-        expect_read(&rt, rt.alloc(), &line, true)?;
-        line.extend_from_slice(b"                                        ")?;
-        expect_read(&rt, rt.alloc(), &line, true)?;
-        line.truncate(letters + 1);
-        line.extend_from_slice(b"\x1f                                      \"")?;
-        expect_read(&rt, rt.alloc(), &line, false)?;
-        line.truncate(letters + 1);
-        expect_read(&rt, rt.alloc(), &line, false)?;
-        line.push(b'a')?;
-    }
-    Ok(())
+    expect_ends(&rt, rt.alloc(), &mut line)
 }
 
 // A sign for what the visit is, and the number of its node, 0 where it leaves one.
@@ -115,9 +131,7 @@ fn shape(visit: Visit<'_>) -> (char, u64) {
     }
 }
 
-#[test]
-fn tours_in_order(rt: HostRuntime) -> Result<(), Fail> {
-    let doc = read(rt.alloc(), b"[true,{\"a\":\"x\"},[]]")?;
+fn expect_tour(rt: &impl Abort, doc: &Doc) -> Result<(), Fail> {
     let mut steps = Steps::new(Tally::new());
     let mut tour = doc.root().tour();
     let wanted = [
@@ -135,6 +149,12 @@ fn tours_in_order(rt: HostRuntime) -> Result<(), Fail> {
         assert!(rt; shape(visit) == (sign, id));
     }
     assert!(rt; tour.next(&mut steps).is_none());
-    expect_count(&rt, steps.ledger().count(), 4);
+    expect_count(rt, steps.ledger().count(), 4);
     Ok(())
+}
+
+#[test]
+fn tours_in_order(rt: HostRuntime) -> Result<(), Fail> {
+    let doc = read(rt.alloc(), b"[true,{\"a\":\"x\"},[]]")?;
+    expect_tour(&rt, &doc)
 }

@@ -57,13 +57,19 @@ fn expect_members(
     Ok(())
 }
 
+/// Adds the members of a line to an object, and compares what it then is.
+fn expect_object(rt: &impl Abort, alloc: Global, line: &str) -> Result<(), Fail> {
+    let (members, want) = line.split_once(" | ").ok_or("no object")?;
+    let mut object = ObjectAgg::new(alloc, Nulls::Absent, true);
+    expect_members(rt, alloc, &mut object, members)?;
+    expect(rt, shown(&object.finish()), want, members);
+    Ok(())
+}
+
 #[test]
 fn a_refused_member_changes_nothing(rt: HostRuntime) -> Result<(), Fail> {
     for line in MEMBERS.lines() {
-        let (members, want) = line.split_once(" | ").ok_or("no object")?;
-        let mut object = ObjectAgg::new(rt.alloc(), Nulls::Absent, true);
-        expect_members(&rt, rt.alloc(), &mut object, members)?;
-        expect(&rt, shown(&object.finish()), want, members);
+        expect_object(&rt, rt.alloc(), line)?;
     }
     Ok(())
 }

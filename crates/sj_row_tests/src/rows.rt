@@ -6,6 +6,7 @@ ghost use Rattle.sj_rows.specs.Lines.{max_input};
 use super::cases::expect_count;
 use sj_base::{Bytes, State};
 use sj_rows::{Line, Lines, begin_row, end_row, error_text};
+use std::alloc::Global;
 use std::process::Abort;
 use std::test::Fail;
 
@@ -41,6 +42,25 @@ fn show_cut(lines: &mut Lines, front: &[u8], back: &[u8], out: &mut Bytes) -> Re
     show_lines(lines, out)
 }
 
+/// Feeds the bytes in two pieces, and compares the lines and their number.
+fn expect_lines(
+    rt: &impl Abort,
+    alloc: Global,
+    front: &[u8],
+    back: &[u8],
+    want: &[u8],
+    number: u64,
+) -> Result<(), Fail>
+    requires limit { length front.now + length back.now ≤ max_input }
+{
+    let mut lines = Lines::new(alloc);
+    let mut out = Bytes::new(alloc);
+    show_cut(&mut lines, front, back, &mut out)?;
+    assert!(rt; out.as_slice() == want, "behind {front:?}");
+    expect_count(rt, lines.number(), number);
+    Ok(())
+}
+
 #[test]
 fn lines_do_not_depend_on_the_cuts(rt: HostRuntime) -> Result<(), Fail> {
     for (bytes, want, number) in [
@@ -57,11 +77,8 @@ fn lines_do_not_depend_on_the_cuts(rt: HostRuntime) -> Result<(), Fail> {
     ] {
         assert!(rt; bytes.len() < 20);
         for cut in 0..bytes.len() + 1 {
-            let mut lines = Lines::new(rt.alloc());
-            let mut out = Bytes::new(rt.alloc());
-            show_cut(&mut lines, &bytes[..cut], &bytes[cut..], &mut out)?;
-            assert!(rt; out.as_slice() == want, "at {cut}");
-            expect_count(&rt, lines.number(), number);
+            let (front, back) = (&bytes[..cut], &bytes[cut..]);
+            expect_lines(&rt, rt.alloc(), front, back, want, number)?;
         }
     }
     Ok(())

@@ -89,17 +89,20 @@ fn expect_lines<'d>(
     Ok(())
 }
 
+fn expect_case(rt: &impl Abort, alloc: Global, case: &str) -> Result<(), Fail> {
+    let (given, wants) = case.split_once(" => ").ok_or("no arrow")?;
+    let (first, given) = given.split_once(" ; ").ok_or("no document")?;
+    let (second, statement) = given.split_once(" ; ").ok_or("no second document")?;
+    let first = read(alloc, first.as_bytes())?;
+    let second = read(alloc, second.as_bytes())?;
+    let bound = bound(alloc, statement)?;
+    expect_lines(rt, alloc, &bound, (&first, &second), wants)
+}
+
 #[test]
 fn goes_from_line_to_line(rt: HostRuntime) -> Result<(), Fail> {
-    let alloc = rt.alloc();
-    for line in STATEMENTS.lines() {
-        let (given, wants) = line.split_once(" => ").ok_or("no arrow")?;
-        let (first, given) = given.split_once(" ; ").ok_or("no document")?;
-        let (second, statement) = given.split_once(" ; ").ok_or("no second document")?;
-        let first = read(alloc, first.as_bytes())?;
-        let second = read(alloc, second.as_bytes())?;
-        let bound = bound(alloc, statement)?;
-        expect_lines(&rt, alloc, &bound, (&first, &second), wants)?;
+    for case in STATEMENTS.lines() {
+        expect_case(&rt, rt.alloc(), case)?;
     }
     Ok(())
 }
