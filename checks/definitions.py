@@ -44,7 +44,7 @@ counted. `checks/definitions.py` makes it of the sources, and fails where the pa
 `Layouts` of a document or the `Machine` of the reader do. [PROOFS.md](PROOFS.md) has the definitions of each crate in
 words.
 
-The list begins with what the contract of `run` names (`crates/sj_run/src/run.rt`), and goes on with what these
+The list begins with what the contract of `run` names (`crates/sj_run/src/command.rt`), and goes on with what these
 definitions name. Lines are counted with the comments above a definition, and without imports and empty lines. Types that
 are written in the code, such as the kinds of refusals, are not counted, and neither are the kit's own definitions, of
 lists and numbers.
@@ -170,7 +170,7 @@ def defined(lines):
 
 def rests(top):
     it = Rests(top / "crates")
-    it.follow(it.cited("sj_run/src/run.rt", "run"))
+    it.follow(it.cited("sj_run/src/command.rt", "run"))
     whole = Rests(top / "crates")
     whole.follow(it.told & LAWS.keys(), by_law=False)
     it.ways = {part: lines for part, lines in whole.found.items() if part not in it.found}

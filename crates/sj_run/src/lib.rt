@@ -9,10 +9,10 @@
 
 mod batch;
 mod check;
+mod command;
 mod generate;
 mod notes;
 mod rows;
-mod run;
 mod stream;
 
-pub use run::run;
+pub use command::run;

@@ -1,5 +1,5 @@
 use Rattle.sj_run.proofs.Ending as ending
-use Rattle.sj_run.proofs.run.run.Goals as goal
+use Rattle.sj_run.proofs.command.run.Goals as goal
 
 pub returns-clause-headline : goal.returns-clause-headline
 returns-clause-headline g c = ending.ran_headline _ _ _ _ c.answer-status.ensures.ran

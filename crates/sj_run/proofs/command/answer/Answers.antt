@@ -1,7 +1,7 @@
 use Rattle.std.proofs.Common.{None}
 use Rattle.sj_run.specs.Input.{input_at}
 use Rattle.sj_run.proofs.Ending.{not_usage}
-use Rattle.sj_run.proofs.run.answer.Goals as goal
+use Rattle.sj_run.proofs.command.answer.Goals as goal
 
 pub returns-in-Some-Check-clause-usage_untouched : goal.returns-in-Some-Check-clause-usage_untouched
 returns-in-Some-Check-clause-usage_untouched g c = λ is.
