@@ -53,7 +53,9 @@ fn refuses_a_truncated_line(rt: HostRuntime) -> Result<(), Fail> {
     Ok(())
 }
 
-/// The members of a document, with their keys, kinds, numbers and sizes.
+const MEMBERS: &[u8] = b"{\"a\":null,\"b\":[true,\"x\"],\"a\":{}}";
+
+/// They have these keys, kinds, numbers and sizes.
 fn expect_members(rt: &impl Abort, doc: &Doc) -> Result<(), Fail> {
     let mut steps = Steps::new(Tally::new());
     let mut children = doc.root().children();
@@ -76,7 +78,7 @@ fn expect_members(rt: &impl Abort, doc: &Doc) -> Result<(), Fail> {
 
 #[test]
 fn keeps_members_in_order(rt: HostRuntime) -> Result<(), Fail> {
-    let doc = read(rt.alloc(), b"{\"a\":null,\"b\":[true,\"x\"],\"a\":{}}")?;
+    let doc = read(rt.alloc(), MEMBERS)?;
     expect_members(&rt, &doc)?;
     assert!(rt; !doc.unique_keys(rt.alloc())?);
     Ok(())
@@ -84,7 +86,7 @@ fn keeps_members_in_order(rt: HostRuntime) -> Result<(), Fail> {
 
 #[test]
 fn reads_on_in_the_memory_of_a_line_that_is_no_json(rt: HostRuntime) -> Result<(), Fail> {
-    let first = read(rt.alloc(), b"{\"a\":null}")?;
+    let first = read(rt.alloc(), MEMBERS)?;
     let LineRead::NotJson(builder) = read_over(rt.alloc(), first.recycle(), b"[1, {\"a\": 2}")?
     else {
         return Err("the line is not JSON".into());
