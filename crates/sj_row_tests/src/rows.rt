@@ -5,7 +5,7 @@ ghost use Rattle.sj_rows.specs.Lines.{max_input};
 
 use super::cases::expect_count;
 use sj_base::{Bytes, State};
-use sj_rows::{Line, Lines, begin_row, end_row, error_text};
+use sj_rows::{Line, Lines, RowHead, end_row, error_text};
 use std::alloc::Global;
 use std::process::Abort;
 use std::test::Fail;
@@ -122,10 +122,42 @@ fn no_byte_is_searched_twice(rt: HostRuntime) -> Result<(), Fail> {
 #[test]
 fn prints_the_ends_of_numbers_and_states(rt: HostRuntime) -> Result<(), Fail> {
     let mut out = Bytes::new(rt.alloc());
-    begin_row(&mut out, 1, 2)?;
+    RowHead::new().begin(&mut out, 1, 2)?;
     end_row(&mut out)?;
     error_text(&mut out, u64::MAX, u32::MAX, State::S22034)?;
     let want = b"1\t2\tR\n18446744073709551615\t4294967295\tE\t22034\n".as_slice();
     assert!(rt; out.as_slice() == want);
     Ok(())
+}
+
+/// Prints a row without fields for each line and statement, over one head, and compares the rows.
+fn expect_heads(
+    rt: &impl Abort,
+    alloc: Global,
+    rows: &[(u64, u32)],
+    want: &[u8],
+) -> Result<(), Fail> {
+    let mut out = Bytes::new(alloc);
+    let mut head = RowHead::new();
+    for (line, statement) in rows {
+        head.begin(&mut out, *line, *statement)?;
+        end_row(&mut out)?;
+        head.advance();
+    }
+    assert!(rt; out.as_slice() == want);
+    Ok(())
+}
+
+#[test]
+fn a_head_is_kept_from_row_to_row(rt: HostRuntime) -> Result<(), Fail> {
+    let alloc = rt.alloc();
+    let rows = [(8, 1), (9, 1), (10, 1)];
+    expect_heads(&rt, alloc, &rows, b"8\t1\tR\n9\t1\tR\n10\t1\tR\n")?;
+    let rows = [(99, 1), (100, 1), (100, 1), (101, 2)];
+    let want = b"99\t1\tR\n100\t1\tR\n100\t1\tR\n101\t2\tR\n".as_slice();
+    expect_heads(&rt, alloc, &rows, want)?;
+    let rows = [(u64::MAX - 1, 2), (u64::MAX, 2), (u64::MAX, 2), (0, 2)];
+    let want =
+        b"18446744073709551614\t2\tR\n18446744073709551615\t2\tR\n18446744073709551615\t2\tR\n0\t2\tR\n".as_slice();
+    expect_heads(&rt, alloc, &rows, want)
 }

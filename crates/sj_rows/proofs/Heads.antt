@@ -2,7 +2,9 @@
 use Rattle.std.proofs.Common.{◌≡◌, ℕ, ◌+◌, ◌-◌, ◌<◌, ◌≤◌, List, [], ◌∷◌, ◌++◌, length, take, drop, get_or, set, replicate, decimal, codes, sym, ap, ◌∙◌, arith, append_assoc}
 use Rattle.std.proofs.Math.Seq.{take-append_seam}
 use Rattle.std.proofs.lemmas.List.{take-take, length-append, get_or-take, get_or-set_other, get_or-replicate, drop_more}
+use Rattle.sj_rows.specs.RowHead.{IsHead, lettered}
 use Rattle.sj_rows.specs.RowText.{row_head}
+use Rattle.sj_rows.specs.declared.row.HeadText.{HeadText}
 
 -- the room of a head: TABs, and the letter in the middle
 abbrev pub room : ℕ → List ℕ
@@ -27,7 +29,7 @@ behind_tab new digits at tab some within written =
 -- the statement's number was written before the letter and its TAB, and the line's number before the TAB that precedes it
 pub head_is : (new whole : List ℕ) (second first line statement letter : ℕ) → take second new ≡ take second (room letter) → drop second new ≡ decimal statement ++ drop 31 (room letter)
     → 0 < second → second ≤ 31 → second ≤ length new → drop first whole ≡ decimal line ++ drop (second - 1) new
-    → drop first whole ≡ (row_head line statement ++ 9 ∷ letter ∷ []) ++ replicate 33 9
+    → drop first whole ≡ lettered line statement letter ++ replicate 33 9
 head_is new whole second first line statement letter kept written some small within last =
     let mark : List ℕ = 9 ∷ letter ∷ [] in
     let rest : List ℕ = replicate 33 9 in
@@ -47,7 +49,14 @@ front_is all text rest window count is long within =
     take-take count window all within ∙ ap (take count) is ∙ ap (λ (n : ℕ). take n (text ++ rest)) (sym long) ∙ take-append_seam text rest
 
 -- as long as the two numbers and three bytes
-pub length_head : (line statement letter : ℕ) → length (row_head line statement ++ 9 ∷ letter ∷ []) ≡ length (decimal line) + (length (decimal statement) + 3)
+pub length_head : (line statement letter : ℕ) → length (lettered line statement letter) ≡ length (decimal line) + (length (decimal statement) + 3)
 length_head line statement letter =
     let lengths = length-append (row_head line statement) (9 ∷ letter ∷ []) in
     omega (arith, lengths, length-append (decimal line) (codes "\t" ++ decimal statement), length-append (codes "\t") (decimal statement))
+
+-- the text of a head ends at 33
+pub text_of : (text : HeadText) (line statement letter : ℕ) → IsHead text line statement letter → take (33 - text.first) (drop text.first text.bytes) ≡ lettered line statement letter
+text_of text line statement letter is =
+    let long : 33 - text.first ≡ length (lettered line statement letter) = omega (arith, is.ends) in
+    ap (take (33 - text.first)) is.written ∙ ap (λ (n : ℕ). take n (lettered line statement letter ++ replicate 33 9)) long
+    ∙ take-append_seam (lettered line statement letter) (replicate 33 9)

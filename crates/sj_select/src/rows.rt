@@ -15,7 +15,7 @@ ghost use Rattle.sj_select.specs.Stages.{left_at, due_at, turn_for, stage_behind
 use crate::source::{Found, RowSource};
 use sj_base::{Bytes, Ledger, Memory, State, Steps};
 use sj_bound::Bound;
-use sj_rows::{begin_row, end_row};
+use sj_rows::{RowHead, end_row};
 use sj_select_list::LineDoc;
 use std::alloc::Global;
 use std::marker::Model;
@@ -111,6 +111,14 @@ fn end_text(out: &mut Bytes, start: usize, found: Found) -> Result<(), Memory>
     }
 }
 
+// Behind the last row of a line, makes the head that of the next line. No further row of the line is asked for.
+#[inline(always)]
+fn advance_behind(head: &mut RowHead, found: Found) {
+    if let Found::LastRow = found {
+        head.advance();
+    }
+}
+
 /// The rows of a statement, for one line after another (ISO/IEC 9075-2, query specification).
 ///
 /// No list of rows is kept: one row is found at a time. The aggregates of a statement take one row of its table after another, and
@@ -126,6 +134,7 @@ pub struct RowsOf<'d> {
     line: LineDoc<'d>,
     source: RowSource<'d>,
     stage: Stage,
+    head: RowHead,
 }
 
 impl<'d> Drop for RowsOf<'d> {
@@ -136,6 +145,7 @@ impl<'d> Drop for RowsOf<'d> {
             line: _line,
             source: _source,
             stage: _stage,
+            head: _head,
         } = self;
     }
 }
@@ -179,6 +189,7 @@ impl<'d> RowsOf<'d> {
                     line,
                     source,
                     stage: Stage::Going,
+                    head: RowHead::new(),
                 })
             }
             Err(memory) => Err(memory),
@@ -247,12 +258,13 @@ impl<'d> RowsOf<'d> {
         ensures bound { self.new.bound ≡ self.old.bound }
         ensures line { self.new.line ≡ self.old.line }
     {
-        begin_row(out, number, statement)?;
+        self.head.begin(out, number, statement)?;
         // Where memory runs out, nothing is left.
         let stage = mem::replace(&mut self.stage, Stage::Ended);
         let found = stage.print(self.alloc, &mut self.source, self.line, out, steps)?;
         end_text(out, start, found)?;
         self.stage = Stage::behind(found);
+        advance_behind(&mut self.head, found);
         Ok(Turn::of(found))
     }
 

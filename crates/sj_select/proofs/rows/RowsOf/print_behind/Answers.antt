@@ -13,8 +13,8 @@ use Rattle.sj_select.proofs.AnsweredRows.{turn_is, rest_is, text_is, front_stays
 use Rattle.sj_select.proofs.CountedSteps.{spends_rest}
 use Rattle.sj_select.proofs.rows.RowsOf.print_behind.Goals as goal
 
-pub invariant_of-self : goal.invariant_of-self
-invariant_of-self g c = (c.print.ensures.ready, c.print.ensures.is_for (bound_of c.self.inside.bound.now) c.self.invariant.1)
+pub invariant_of-self-in_err-found : goal.invariant_of-self-in_err-found
+invariant_of-self-in_err-found g c = (c.print.ensures.ready, c.print.ensures.is_for (bound_of c.self.inside.bound.now) c.self.invariant.1)
 
 pub returns-in_err-found-clause-err : goal.returns-in_err-found-clause-err
 returns-in_err-found-clause-err g c =
@@ -22,7 +22,7 @@ returns-in_err-found-clause-err g c =
     let left = left_at c.replace-stage.result (source_left s (line_of c.self.inside.line) c.self.inside.source) in
     let later = source_left s (line_of c.self.inside.line) c.print.new.source in
     at_error c.from_residual-in_err-found.result
-    (front_stays_by left later c.begin_row.new.out c.print.new.out c.args.number c.args.statement c.args.out.now c.print.new.out c.in_ok-begin_row.ensures.ok (c.in_err-found.ensures.err s c.self.invariant.1))
+    (front_stays_by left later c.begin.new.out c.print.new.out c.args.number c.args.statement c.args.out.now c.print.new.out c.in_ok-begin.ensures.ok (c.in_err-found.ensures.err s c.self.invariant.1))
 
 pub returns-in_err-found-clause-spends : goal.returns-in_err-found-clause-spends
 returns-in_err-found-clause-spends g c =
@@ -40,7 +40,7 @@ end_text-requires g c =
     let left = left_at c.replace-stage.result (source_left s (line_of c.self.inside.line) c.self.inside.source) in
     let later = source_left s (line_of c.self.inside.line) c.print.new.source in
     longer c.args.start c.args.out.now c.print.new.out c.requires
-    (front_stays left later c.begin_row.new.out c.print.new.out c.args.number c.args.statement c.args.out.now c.print.new.out c.in_ok-begin_row.ensures.ok c.in_ok-found.found (c.in_ok-found.ensures.prints s c.self.invariant.1))
+    (front_stays left later c.begin.new.out c.print.new.out c.args.number c.args.statement c.args.out.now c.print.new.out c.in_ok-begin.ensures.ok c.in_ok-found.found (c.in_ok-found.ensures.prints s c.self.invariant.1))
 
 pub invariant_of-self-in_err-end_text : goal.invariant_of-self-in_err-end_text
 invariant_of-self-in_err-end_text g c = (c.print.ensures.ready, c.print.ensures.is_for (bound_of c.self.inside.bound.now) c.self.invariant.1)
@@ -52,7 +52,7 @@ returns-in_err-end_text-clause-err g c =
     let later = source_left s (line_of c.self.inside.line) c.print.new.source in
     at_error c.from_residual-in_err-end_text.result
     (rw c.in_err-end_text.ensures.err
-    (front_stays left later c.begin_row.new.out c.print.new.out c.args.number c.args.statement c.args.out.now c.print.new.out c.in_ok-begin_row.ensures.ok c.in_ok-found.found (c.in_ok-found.ensures.prints s c.self.invariant.1)))
+    (front_stays left later c.begin.new.out c.print.new.out c.args.number c.args.statement c.args.out.now c.print.new.out c.in_ok-begin.ensures.ok c.in_ok-found.found (c.in_ok-found.ensures.prints s c.self.invariant.1)))
 
 pub returns-in_err-end_text-clause-spends : goal.returns-in_err-end_text-clause-spends
 returns-in_err-end_text-clause-spends g c =
@@ -78,8 +78,8 @@ returns-clause-gives g c =
     let prints = c.in_ok-found.ensures.prints s c.self.invariant.1 in
     let was : left ≡ c.args.self.now.left = ap (λ (t : Stage). left_at t (source_left s line c.self.inside.source)) c.replace-stage.ensures.value ∙ ap (λ (v : Seen). v.left) c.self.view_is in
     record {
-      answers = c.of.ensures ∙ turn_is left later c.begin_row.new.out c.print.new.out f prints ∙ ap turn_of was;
-      leaves = ap (λ (t : Stage). left_at t later) c.behind-self-inside.ensures ∙ rest_is left later c.begin_row.new.out c.print.new.out f prints ∙ ap rest was;
+      answers = c.of.ensures ∙ turn_is left later c.begin.new.out c.print.new.out f prints ∙ ap turn_of was;
+      leaves = ap (λ (t : Stage). left_at t later) c.behind-self-inside.ensures ∙ rest_is left later c.begin.new.out c.print.new.out f prints ∙ ap rest was;
       ends = ap (λ (t : Stage). due_at t due) c.behind-self-inside.ensures ∙ due_is f due ∙ ap (λ (t : Turn). due_behind t (due_at (stage_behind f) due)) (sym c.of.ensures)
           ∙ ap (λ (t : Stage). due_behind c.of.result (due_at t due)) (sym c.behind-self-inside.ensures);
     }
@@ -91,7 +91,7 @@ returns-clause-text g c =
     let left = left_at c.replace-stage.result (source_left s line c.self.inside.source) in
     let later = source_left s line c.print.new.source in
     let was : left ≡ c.args.self.now.left = ap (λ (t : Stage). left_at t (source_left s line c.self.inside.source)) c.replace-stage.ensures.value ∙ ap (λ (v : Seen). v.left) c.self.view_is in
-    text_is left later c.begin_row.new.out c.print.new.out c.args.number c.args.statement c.args.out.now c.end_text.new.out c.in_ok-begin_row.ensures.ok c.in_ok-found.found c.args.start c.requires
+    text_is left later c.begin.new.out c.print.new.out c.args.number c.args.statement c.args.out.now c.end_text.new.out c.in_ok-begin.ensures.ok c.in_ok-found.found c.args.start c.requires
     (c.in_ok-found.ensures.prints s c.self.invariant.1) c.in_ok-end_text.ensures.ends
     ∙ ap (λ (l : StatementRows). c.args.out.now ++ next_text c.args.number c.args.statement l) was
 
