@@ -29,6 +29,7 @@ PAIRS = {"(": ")", "[": "]", "{": "}"}
 AS_IT_WAS, LONGER, BY_CLAUSES = "as it was", "as it was, and a front of the text", "by its clauses"
 # The arguments of which a call that is out of memory says only in part what they are, and why that does.
 LEFT_ANYWHERE = {
+    ("read_over", "buffer"): "nothing in it is read again",
     ("json_value", "cursor"): "it is rewound before its next use",
     ("json_value_field", "cursor"): "it is rewound before its next use",
     ("json_query", "cursor"): "it is rewound before its next use",

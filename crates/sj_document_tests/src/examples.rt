@@ -74,7 +74,9 @@ fn size(doc: &Doc) -> u64 {
 fn expect_lines(rt: &impl Abort, alloc: Global) -> Result<(), Fail> {
     let first = read(alloc, b"{\"a\":1,\"a\":2}")?;
     assert!(rt; size(&first) == 2);
-    let LineRead::Json(second) = read_over(alloc, first.recycle(), b"[1, 2, 3]")? else {
+    let mut buffer = Vec::new(alloc);
+    let LineRead::Json(second) = read_over(alloc, first.recycle(), &mut buffer, b"[1, 2, 3]")?
+    else {
         return Err("the line is JSON".into());
     };
     assert!(rt; size(&second) == 3);

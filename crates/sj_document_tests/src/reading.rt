@@ -86,16 +86,23 @@ fn keeps_members_in_order(rt: HostRuntime) -> Result<(), Fail> {
 
 #[test]
 fn reads_on_in_the_memory_of_a_line_that_is_no_json(rt: HostRuntime) -> Result<(), Fail> {
-    let first = read(rt.alloc(), MEMBERS)?;
-    let LineRead::NotJson(builder) = read_over(rt.alloc(), first.recycle(), b"[1, {\"a\": 2}")?
+    let alloc = rt.alloc();
+    let mut buffer = Vec::new(alloc);
+    let first = read(alloc, MEMBERS)?;
+    let LineRead::NotJson(builder) = read_over(
+        alloc,
+        first.recycle(),
+        &mut buffer,
+        b"[1, {\"a\\n\": 2}",
+    )?
     else {
         return Err("the line is not JSON".into());
     };
-    let LineRead::Json(second) = read_over(rt.alloc(), builder, b" [ ] ")? else {
+    let LineRead::Json(second) = read_over(alloc, builder, &mut buffer, b" [ ] ")? else {
         return Err("the line is JSON".into());
     };
     assert!(rt; second.root().kind() == Kind::Array);
-    assert!(rt; second.unique_keys(rt.alloc())?);
+    assert!(rt; second.unique_keys(alloc)?);
     Ok(())
 }
 

@@ -16,5 +16,7 @@ pub mod Ends
 -- for `high_in_32`, `high_in_4`, `high_in_8`, `others_in_16`, `stops_in_16`, `stops_in_32` and `stops_in_8`, and for other
 -- lemmas
 pub mod Lanes
--- for `long_plain_end`, `near_digits_end`, `near_end` and `plain_end_of_31`
+-- for `long_plain_end`, `near_digits_end`, `near_end`, `plain_end_of_15`, `plain_end_of_31` and `short_plain_end`
 pub mod Runs
+-- for `stops_in_last_16`
+pub mod Last

@@ -25,6 +25,13 @@ module _ (p q : ℕ → Bool) (opposite : (x : ℕ) → q x ≡ not (p x)) where
   all_pass [] e = refl
   all_pass (x ∷ xs) e = none_fails (p x) _ (length xs) _ (prefix_len-le-length (λ y. not (p y)) xs) (omega arith) (all_pass xs)
 
+  -- a list of so few bytes that one mask has them all
+  pub run_in : (xs : List ℕ) → length xs ≤ 64 → 0 < mask_l (map p xs) → prefix_len q xs ≡ count_trailing_zeros 64 (mask_l (map p xs))
+  run_in xs few some = same_run xs ∙ sym (trailing_mask_l p 64 xs few some)
+
+  pub run_all : (xs : List ℕ) → mask_l (map p xs) ≡ 0 → prefix_len q xs ≡ length xs
+  run_all xs none = same_run xs ∙ leading_from_mask_l p xs none
+
   split : (d : List ℕ) (i n : ℕ) → prefix_len q (drop i d) ≡ cond (eqb (prefix_len q (chunk i n d)) (length (chunk i n d))) (length (chunk i n d) + prefix_len q (drop (i + n) d)) (prefix_len q (chunk i n d))
   split d i n = ap (prefix_len q) (chunk-drop i n d) ∙ prefix_len-append q (chunk i n d) (drop (i + n) d)
 

@@ -40,4 +40,4 @@ mod scan;
 mod unescape;
 mod utf8;
 
-pub use reader::{LineRead, MAX_DEPTH, MAX_LENGTH, ReadRefusal, read, read_over};
+pub use reader::{LineRead, MAX_DEPTH, MAX_LENGTH, MOST_KEPT, ReadRefusal, read, read_over};

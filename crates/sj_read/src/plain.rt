@@ -46,9 +46,9 @@ fn plain_end_of_7(text: &[u8], from: usize) -> usize
     i
 }
 
-// Near the end of the text.
+// In a text of less than 16 bytes.
 #[inline(never)]
-fn plain_end_of_31(text: &[u8], from: usize) -> usize
+fn short_plain_end(text: &[u8], from: usize) -> usize
     requires { from ≤ length text.now }
     ensures value { result ≡ from + prefix_len is_plain (drop from text.now) }
     ensures bound { result ≤ length text.now }
@@ -64,7 +64,56 @@ fn plain_end_of_31(text: &[u8], from: usize) -> usize
     plain_end_of_7(text, i)
 }
 
-// Text that is longer than most.
+// The bytes that stop plain text, from a place among the last 16 on. All 16 are looked at together, and those before the
+// place are shifted out.
+#[inline(always)]
+fn stops_in_last_16(text: &[u8], from: usize) -> u64
+    requires long { 16 ≤ length text.now }
+    requires within { from ≤ length text.now }
+    requires last { length text.now ≤ from + 16 }
+    ensures { result ≡ mask_l (map is_stop (drop from text.now)) }
+{
+    let first = text.len() - 16;
+    stops_in_16(u8x16::from_slice(&text[first..])) >> (from - first)
+}
+
+// Where at most 15 bytes are left.
+#[inline(always)]
+fn plain_end_of_15(text: &[u8], from: usize) -> usize
+    requires within { from ≤ length text.now }
+    requires last { length text.now < from + 16 }
+    ensures value { result ≡ from + prefix_len is_plain (drop from text.now) }
+    ensures bound { result ≤ length text.now }
+{
+    if text.len() < 16 {
+        return short_plain_end(text, from);
+    }
+    let found = stops_in_last_16(text, from);
+    if found == 0 {
+        return text.len();
+    }
+    from + found.trailing_zeros() as usize
+}
+
+// Where at most 31 bytes are left.
+#[inline(always)]
+fn plain_end_of_31(text: &[u8], from: usize) -> usize
+    requires within { from ≤ length text.now }
+    requires last { length text.now < from + 32 }
+    ensures value { result ≡ from + prefix_len is_plain (drop from text.now) }
+    ensures bound { result ≤ length text.now }
+{
+    if text.len() - from < 16 {
+        return plain_end_of_15(text, from);
+    }
+    let found = stops_in_16(u8x16::from_slice(&text[from..]));
+    if found != 0 {
+        return from + found.trailing_zeros() as usize;
+    }
+    plain_end_of_15(text, from + 16)
+}
+
+// Text that is longer than most, or stands near the end.
 #[inline(never)]
 pub(crate) fn long_plain_end(text: &[u8], from: usize) -> usize
     requires { from ≤ length text.now }

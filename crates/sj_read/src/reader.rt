@@ -28,6 +28,9 @@ pub const MAX_LENGTH: usize = sj_json::MAX_LENGTH;
 /// The greatest number of arrays and objects that may be open at one place.
 pub const MAX_DEPTH: u64 = 100_000;
 
+/// The most bytes of a buffer that are kept for the next line.
+pub const MOST_KEPT: usize = 65_536;
+
 /// Why a line was not read.
 #[derive(Clone, Copy, Debug, Drop, PartialEq, Eq, Error)]
 pub enum ReadRefusal {
@@ -702,7 +705,8 @@ pub fn read(alloc: Global, line: &[u8]) -> Result<Doc, ReadRefusal>
     ensures ok { IfOk result (λ doc. SpellsText doc line.now × IsJson line.now) }
     ensures refused { result ≡ Err ReadRefusal.NotJson → IsJson line.now → ⊥ }
 {
-    match read_over(alloc, DocBuilder::new(alloc), line) {
+    let mut buffer = Vec::new(alloc);
+    match read_over(alloc, DocBuilder::new(alloc), &mut buffer, line) {
         Ok(LineRead::Json(doc)) => Ok(doc),
         Ok(LineRead::NotJson(_)) => Err(ReadRefusal::NotJson),
         Err(Memory) => Err(ReadRefusal::Memory),
@@ -710,37 +714,71 @@ pub fn read(alloc: Global, line: &[u8]) -> Result<Doc, ReadRefusal>
 }
 
 /// The same, in the memory of a builder, whatever it holds: that of an earlier document, by `Doc::recycle`, or of an
-/// earlier line that is not JSON.
+/// earlier line that is not JSON. The buffer is for the texts of strings with escapes, and may hold anything. Behind a line
+/// that needed more than [`MOST_KEPT`] bytes of it, its memory is given back to the allocator.
 ///
 /// # Errors
-/// [`Memory`] where memory runs out. The memory of the builder is given back to the allocator then.
+/// [`Memory`] where memory runs out. The memory of the builder is given back to the allocator then, and the buffer may hold
+/// anything.
 ///
 /// Example: `[1, 2, 3]` is read in the memory of the document before (`sj_document_tests::examples::lines_are_read`).
-pub fn read_over(alloc: Global, builder: DocBuilder, line: &[u8]) -> Result<LineRead, Memory>
-    ensures { IfOk result (IsReadAs line.now) }
+pub fn read_over(
+    alloc: Global,
+    builder: DocBuilder,
+    buffer: &mut Vec<u8>,
+    line: &[u8],
+) -> Result<LineRead, Memory>
+    ensures read { IfOk result (IsReadAs line.now) }
+    ensures short { length buffer.old.items ≤ MOST_KEPT → length buffer.new.items ≤ MOST_KEPT }
 {
     let Some(text) = text_within(line) else {
         return Ok(LineRead::NotJson(builder));
     };
     match builder.holding(text) {
-        Ok(builder) => read_held(alloc, builder, text),
+        Ok(builder) => read_held(alloc, builder, buffer, text),
         Err(memory) => Err(memory),
     }
 }
 
 // The same of a text that the builder holds.
 #[inline(always)]
-fn read_held(alloc: Global, builder: DocBuilder, text: &str) -> Result<LineRead, Memory>
+fn read_held(
+    alloc: Global,
+    builder: DocBuilder,
+    buffer: &mut Vec<u8>,
+    text: &str,
+) -> Result<LineRead, Memory>
     requires fresh { builder ≡ (fresh, text.now) }
     requires short { length text.now ≤ MAX_LENGTH }
-    ensures { IfOk result (IsReadAs text.now) }
+    ensures read { IfOk result (IsReadAs text.now) }
+    ensures short { length buffer.new.items ≤ MOST_KEPT }
 {
     let mut builder = builder;
-    match read_text(alloc, &mut builder, text) {
+    match read_tidied(alloc, &mut builder, buffer, text) {
         Ok(()) => Ok(LineRead::Json(builder.finish())),
         Err(ReadRefusal::NotJson) => Ok(LineRead::NotJson(builder)),
         Err(ReadRefusal::Memory) => Err(Memory),
     }
+}
+
+// Reads a text as `read_text` does. The memory of a long buffer is given back then.
+#[inline(always)]
+fn read_tidied(
+    alloc: Global,
+    builder: &mut DocBuilder,
+    buffer: &mut Vec<u8>,
+    text: &str,
+) -> Result<(), ReadRefusal>
+    requires fresh { builder.old ≡ (fresh, text.now) }
+    requires short { length text.now ≤ MAX_LENGTH }
+    ensures read { HasRead text.now result builder.new.0 }
+    ensures short { length buffer.new.items ≤ MOST_KEPT }
+{
+    let read = read_text(builder, buffer, text);
+    if buffer.len() > MOST_KEPT {
+        *buffer = Vec::new(alloc);
+    }
+    read
 }
 
 // The text, if the line is one and not too long.
@@ -756,16 +794,15 @@ fn text_within(line: &[u8]) -> Option<&str>
 
 // Reads a text into a builder that holds it. Where that gives `Ok`, the document is complete.
 #[inline(always)]
-fn read_text(alloc: Global, builder: &mut DocBuilder, text: &str) -> Result<(), ReadRefusal>
+fn read_text(builder: &mut DocBuilder, buffer: &mut Vec<u8>, text: &str) -> Result<(), ReadRefusal>
     requires fresh { builder.old ≡ (fresh, text.now) }
     requires short { length text.now ≤ MAX_LENGTH }
     ensures { HasRead text.now result builder.new.0 }
 {
-    let mut buffer = Vec::new(alloc);
     let mut mode = Mode::Value;
     let mut at = 0;
     while at < text.len() {
-        match turn(builder, &mut buffer, &mut mode, text, at) {
+        match turn(builder, buffer, &mut mode, text, at) {
             Ok(to) => at = to,
             Err(refusal) => return Err(refusal),
         }

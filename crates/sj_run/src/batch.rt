@@ -53,6 +53,8 @@ pub(crate) enum Behind {
 pub(crate) struct Batch {
     lines: Vec<ReadLine>,
     spare: Vec<DocBuilder>,
+    // for the texts of strings with escapes
+    buffer: Vec<u8>,
 }
 
 impl Batch {
@@ -63,6 +65,7 @@ impl Batch {
         Batch {
             lines: Vec::new(alloc),
             spare: Vec::new(alloc),
+            buffer: Vec::new(alloc),
         }
     }
 
@@ -123,7 +126,7 @@ impl Batch {
                 if is_blank(bytes) {
                     return Ok(());
                 }
-                reading_of(alloc, keys, bytes, &mut self.spare)?
+                reading_of(alloc, keys, bytes, &mut self.spare, &mut self.buffer)?
             }
         };
         self.lines.push(ReadLine { number, reading })?;
@@ -137,6 +140,7 @@ fn reading_of(
     keys: Keys,
     line: &[u8],
     spare: &mut Vec<DocBuilder>,
+    buffer: &mut Vec<u8>,
 ) -> Result<Reading, Memory>
     ensures { IfOk result (λ r. r ≡ reading keys (document line.now)) }
 {
@@ -144,7 +148,7 @@ fn reading_of(
         Some(builder) => builder,
         None => DocBuilder::new(alloc),
     };
-    match read_over(alloc, builder, line) {
+    match read_over(alloc, builder, buffer, line) {
         Ok(LineRead::Json(doc)) => judged(alloc, keys, doc),
         Ok(LineRead::NotJson(builder)) => {
             push(spare, builder)?;

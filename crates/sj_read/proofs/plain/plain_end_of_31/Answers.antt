@@ -7,20 +7,17 @@ use Rattle.sj_read.proofs.plain.plain_end_of_31.Goals as goal
 
 pub returns-then-found-ne0-clause-value : goal.returns-then-found-ne0-clause-value
 returns-then-found-ne0-clause-value c =
-    let found = c.stops_in_8-found in
-    let run = run_stops is_stop is_plain (λ x. refl) c.args.text.now c.loop-i.i 8 (omega arith) (omega arith) (omega (arith, found.ensures)) ∙ ap (count_trailing_zeros 64) (sym found.ensures) in
-    omega (arith, run, c.loop-i.invariant.0)
+    let found = c.stops_in_16-found in
+    let run = run_stops is_stop is_plain (λ x. refl) c.args.text.now c.args.from 16 (omega arith) (omega arith) (omega (arith, found.ensures)) ∙ ap (count_trailing_zeros 64) (sym found.ensures) in
+    omega (arith, run)
 
 pub returns-then-found-ne0-clause-bound : goal.returns-then-found-ne0-clause-bound
 returns-then-found-ne0-clause-bound c =
-    let found = c.stops_in_8-found in
-    let run = run_stops is_stop is_plain (λ x. refl) c.args.text.now c.loop-i.i 8 (omega arith) (omega arith) (omega (arith, found.ensures)) ∙ ap (count_trailing_zeros 64) (sym found.ensures) in
-    omega (arith, run, run_bound is_plain c.args.text.now c.loop-i.i c.loop-i.invariant.1)
+    let found = c.stops_in_16-found in
+    let run = run_stops is_stop is_plain (λ x. refl) c.args.text.now c.args.from 16 (omega arith) (omega arith) (omega (arith, found.ensures)) ∙ ap (count_trailing_zeros 64) (sym found.ensures) in
+    omega (arith, run, run_bound is_plain c.args.text.now c.args.from c.requires.within)
 
-pub loop-i-preserved : goal.loop-i-preserved
-loop-i-preserved c =
-    let run = run_through is_stop is_plain (λ x. refl) c.args.text.now c.loop-i.i 8 (omega arith) (omega (arith, c.stops_in_8-found.ensures)) in
-    (omega (arith, run, c.loop-i.invariant.0), omega arith)
-
-pub returns-clause-bound : goal.returns-clause-bound
-returns-clause-bound c = omega (arith, run_bound is_plain c.args.text.now c.loop-i.i c.loop-i.invariant.1)
+pub returns-clause-value : goal.returns-clause-value
+returns-clause-value c =
+    let run = run_through is_stop is_plain (λ x. refl) c.args.text.now c.args.from 16 (omega arith) (omega (arith, c.stops_in_16-found.ensures)) in
+    omega (arith, run, c.plain_end_of_15-2.ensures.value)

@@ -1,7 +1,7 @@
 use Rattle.std.proofs.Common.{◌≡◌, ◌+◌, ◌-◌, ◌≤◌, length, drop}
 use Rattle.std.specs.List.{prefix_len}
 use Rattle.sj_base.specs.ByteClasses.{is_plain}
-use Rattle.sj_read.proofs.plain.plain_end_of_31.Given as goal
+use Rattle.sj_read.proofs.plain.short_plain_end.Given as goal
 
 abbrev pub invariant-loop-i : goal.invariant-loop-i
 invariant-loop-i l =
