@@ -48,6 +48,7 @@ LEFT_ANYWHERE = {
     ("finish_all", "values"): "they are cleared before their next use",
     ("ValueCall::outcome", "self"): "its cursor is rewound before its next use",
     ("QueryCall::outcome", "self"): "its cursor is rewound before its next use",
+    ("RowHead::begin", "self"): "it is turned to the next row's line and statement",
     ("RowsOf::print", "self"): "the rows are rewound before their next use",
 }
 INTRODUCTION = """# What a refused call leaves
