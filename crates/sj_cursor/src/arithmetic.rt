@@ -9,7 +9,7 @@ ghost use Rattle.sj_cursor.specs.Meaning.{meaning};
 
 use crate::cells::{Binary, Reached};
 use crate::env::Env;
-use sj_base::{Ledger, State, Steps};
+use sj_base::{State, Steps};
 use sj_decimal::Decimal;
 use sj_item::{Exact, Item};
 use sj_method::binary;
@@ -32,7 +32,7 @@ fn computed<'d>(op: Arith, left: Decimal, right: Result<Decimal, State>) -> Walk
 
 impl<'d> Binary<'d> {
     #[cycle(next)]
-    pub(crate) fn start<L: Ledger>(&mut self, env: &Env<'_, 'd>, steps: &mut Steps<L>) -> Walk<'d>
+    pub(crate) fn start(&mut self, env: &Env<'_, 'd>, steps: &mut Steps) -> Walk<'d>
         ensures starts { Approaches (meaning (left_of.binary_core self.old) (env_value env.now)) steps.old (walk_left result) steps.new }
         ensures same { left_of.binary_core self.new ≡ left_of.binary_core self.old }
     {
@@ -48,10 +48,10 @@ impl<'d> Binary<'d> {
 
     #[cycle(next)]
     #[inline(never)]
-    pub(crate) fn next<L: Ledger>(
+    pub(crate) fn next(
         &mut self,
         env: &Env<'_, 'd>,
-        steps: &mut Steps<L>,
+        steps: &mut Steps,
         place: &mut Item<'d>,
     ) -> Answer
         ensures answers { Draws (left_of.binary_left self.old (env_value env.now)) (answer_value result place.new) (left_of.binary_left self.new (env_value env.now)) steps.old steps.new }

@@ -7,7 +7,7 @@ ghost use Rattle.sj_cursor.specs.Looks.{single_in};
 ghost use Rattle.sj_cursor.specs.Single.{need, single};
 
 use crate::cursor::{Cursor, Stands};
-use sj_base::{Ledger, State, Steps};
+use sj_base::{State, Steps};
 use sj_item::Item;
 use sj_plain_path::{Found, FoundNodes, Limit, Look};
 use sj_step::Answer;
@@ -18,7 +18,7 @@ impl<'d> Cursor<'d> {
     ///
     /// # Errors
     /// The state of the fault that leaves this open: in lax mode where no item comes before it, and in strict mode always.
-    pub fn exists<L: Ledger>(&mut self, steps: &mut Steps<L>) -> Result<bool, State>
+    pub fn exists(&mut self, steps: &mut Steps) -> Result<bool, State>
         ensures answers { result ≡ exists_answer self.old.path.mode self.old.left }
         ensures costs { steps.new ≤ raised steps.old (need self.old.path.mode 1 self.old.left) }
         ensures path { self.new.path ≡ self.old.path }
@@ -37,11 +37,7 @@ impl<'d> Cursor<'d> {
     /// `several` where there are several items, and the state of a fault. In lax mode several items come first, and in strict mode
     /// a fault does.
     #[inline(always)]
-    pub fn single<L: Ledger>(
-        &mut self,
-        several: State,
-        steps: &mut Steps<L>,
-    ) -> Result<Option<Item<'d>>, State>
+    pub fn single(&mut self, several: State, steps: &mut Steps) -> Result<Option<Item<'d>>, State>
         ensures answers { single_value result ≡ single self.old.path.mode several self.old.left }
         ensures costs { steps.new ≤ raised steps.old (need self.old.path.mode 2 self.old.left) }
         ensures path { self.new.path ≡ self.old.path }
@@ -60,11 +56,11 @@ impl<'d> Cursor<'d> {
     // The same, cell by cell. The place in memory for the answer is cleared here, and not on the other way too. Put together anew, the
     // answer leaves that of the other way in registers.
     #[inline(always)]
-    fn single_apart<L: Ledger>(
+    fn single_apart(
         &mut self,
         limit: Limit,
         several: State,
-        steps: &mut Steps<L>,
+        steps: &mut Steps,
     ) -> Result<Option<Item<'d>>, State>
         requires { limit ≡ limit_of_single self.old.path.mode }
         ensures answers { single_value result ≡ single self.old.path.mode several self.old.left }
@@ -78,11 +74,11 @@ impl<'d> Cursor<'d> {
 
     // The same, out of line.
     #[inline(never)]
-    fn single_on<L: Ledger>(
+    fn single_on(
         &mut self,
         limit: Limit,
         several: State,
-        steps: &mut Steps<L>,
+        steps: &mut Steps,
     ) -> Result<Option<Item<'d>>, State>
         requires { limit ≡ limit_of_single self.old.path.mode }
         ensures answers { single_value result ≡ single self.old.path.mode several self.old.left }
@@ -96,7 +92,7 @@ impl<'d> Cursor<'d> {
 
     // Goes on until enough was found. A plain path is gone through without cells, from its beginning on.
     #[inline(always)]
-    fn look<L: Ledger>(&mut self, limit: Limit, steps: &mut Steps<L>) -> Look<'d>
+    fn look(&mut self, limit: Limit, steps: &mut Steps) -> Look<'d>
         ensures finds { Finds limit self.old.left (look_value result) steps.old steps.new }
         ensures path { self.new.path ≡ self.old.path }
         ensures vars { self.new.vars ≡ self.old.vars }
@@ -112,7 +108,7 @@ impl<'d> Cursor<'d> {
 
     // The same, cell by cell.
     #[inline(never)]
-    fn look_on<L: Ledger>(&mut self, limit: Limit, steps: &mut Steps<L>) -> Look<'d>
+    fn look_on(&mut self, limit: Limit, steps: &mut Steps) -> Look<'d>
         ensures finds { Finds limit self.old.left (look_value result) steps.old steps.new }
         ensures path { self.new.path ≡ self.old.path }
         ensures vars { self.new.vars ≡ self.old.vars }

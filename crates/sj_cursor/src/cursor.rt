@@ -12,7 +12,7 @@ ghost use Rattle.sj_cursor.specs.Standing.{standing_left};
 use crate::build::expr_cell;
 use crate::cells::Cell;
 use crate::env::Env;
-use sj_base::{Ledger, Memory, Steps};
+use sj_base::{Memory, Steps};
 use sj_item::{Item, Pull};
 use sj_path_tree::{Mode, Path, Vars};
 use sj_plain_path::Chain;
@@ -94,13 +94,13 @@ fn rewind_at_the_beginning<'d>(stands: &mut Stands, cell: &mut Cell<'d>, env: &E
 
 // The next item of the cells of a path, which go back first where the cursor stands at its beginning.
 #[inline(always)]
-fn next_of<'d, L: Ledger>(
+fn next_of<'d>(
     path: &'d Path,
     vars: &'d Vars,
     root: &Item<'d>,
     stands: &mut Stands,
     cell: &mut Cell<'d>,
-    steps: &mut Steps<L>,
+    steps: &mut Steps,
     place: &mut Item<'d>,
 ) -> Answer
     ensures answers { Draws (standing_left stands.old (meaning (core cell.old) (start_env (path_of path.now) vars.now (item_value root.now))) (left cell.old (start_env (path_of path.now) vars.now (item_value root.now)))) (answer_value result place.new) (left cell.new (start_env (path_of path.now) vars.now (item_value root.now))) steps.old steps.new }
@@ -156,7 +156,7 @@ impl<'d> Cursor<'d> {
 
     /// The next item, or the end. It takes no memory. The counter rises by no more than the children of nodes that are handed out
     /// before that item or end. After an end the same end comes again, without a step.
-    pub fn next<L: Ledger>(&mut self, steps: &mut Steps<L>) -> Pull<'d>
+    pub fn next(&mut self, steps: &mut Steps) -> Pull<'d>
         ensures answers { Draws self.old.left (pull_value result) self.new.left steps.old steps.new }
         ensures path { self.new.path ≡ self.old.path }
         ensures vars { self.new.vars ≡ self.old.vars }
@@ -168,11 +168,7 @@ impl<'d> Cursor<'d> {
     }
 
     // The same, with the item put into a place.
-    pub(crate) fn put_next<L: Ledger>(
-        &mut self,
-        steps: &mut Steps<L>,
-        place: &mut Item<'d>,
-    ) -> Answer
+    pub(crate) fn put_next(&mut self, steps: &mut Steps, place: &mut Item<'d>) -> Answer
         ensures answers { Draws self.old.left (answer_value result place.new) self.new.left steps.old steps.new }
         ensures path { self.new.path ≡ self.old.path }
         ensures vars { self.new.vars ≡ self.old.vars }

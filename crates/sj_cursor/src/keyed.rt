@@ -13,7 +13,7 @@ ghost use Rattle.sj_plain_path.specs.declared.opening.Opening.{Opening as HowOpe
 
 use crate::cells::{Cell, Each, Operand, Operator, Simple, Source};
 use crate::env::Env;
-use sj_base::{Ledger, Steps};
+use sj_base::Steps;
 use sj_doc::NodeRef;
 use sj_item::Item;
 use sj_path_tree::Mode;
@@ -28,12 +28,7 @@ pub(crate) struct Keyed<'d> {
 
 impl<'d> Keyed<'d> {
     /// These from the first one on, until enough was found.
-    pub(crate) fn look<L: Ledger>(
-        self,
-        how: Opening,
-        limit: Limit,
-        steps: &mut Steps<L>,
-    ) -> Look<'d>
+    pub(crate) fn look(self, how: Opening, limit: Limit, steps: &mut Steps) -> Look<'d>
         ensures { Finds limit (below how (Link.Member self.entry.key ∷ []) (node_value self.entry.node)) (look_value result) steps.old steps.new }
     {
         self.look_in_place(how, limit, steps)
@@ -41,12 +36,7 @@ impl<'d> Keyed<'d> {
 
     /// The same, inlined where it is called.
     #[inline(always)]
-    pub(crate) fn look_in_place<L: Ledger>(
-        self,
-        how: Opening,
-        limit: Limit,
-        steps: &mut Steps<L>,
-    ) -> Look<'d>
+    pub(crate) fn look_in_place(self, how: Opening, limit: Limit, steps: &mut Steps) -> Look<'d>
         ensures { Finds limit (below how (Link.Member self.entry.key ∷ []) (node_value self.entry.node)) (look_value result) steps.old steps.new }
     {
         look_below(how, &[Link::Member(self.key)], self.node, limit, steps)
@@ -54,11 +44,11 @@ impl<'d> Keyed<'d> {
 
     /// Their pairs with what stands beside them; with `early`, up to the first true one.
     #[inline(always)]
-    pub(crate) fn see_pairing<L: Ledger>(
+    pub(crate) fn see_pairing(
         self,
         early: bool,
         beside: Beside<'_, 'd>,
-        steps: &mut Steps<L>,
+        steps: &mut Steps,
     ) -> Pairing
         ensures { PairingSeen early (beside_truth beside.entry) (below Opening.Unwrapped (Link.Member self.entry.key ∷ []) (node_value self.entry.node)) result.found result.doubt steps.old steps.new }
     {

@@ -19,7 +19,7 @@ ghost use Rattle.sj_cursor.specs.Single.{need, single};
 use crate::cells::{Cell, Each, Filter, Operand, Operator};
 use crate::env::Env;
 use crate::look::{single_operand, single_subscript};
-use sj_base::{Ledger, State, Steps};
+use sj_base::{State, Steps};
 use sj_decimal::Decimal;
 use sj_doc::Kind;
 use sj_item::{Item, Truth};
@@ -32,10 +32,10 @@ impl<'d> Cell<'d> {
     /// The next item of the cell's trace, or its end.
     #[cycle(next)]
     #[inline(always)]
-    pub(crate) fn next<L: Ledger>(
+    pub(crate) fn next(
         &mut self,
         env: &Env<'_, 'd>,
-        steps: &mut Steps<L>,
+        steps: &mut Steps,
         place: &mut Item<'d>,
     ) -> Answer
         ensures answers { Draws (left_of.left self.old (env_value env.now)) (answer_value result place.new) (left_of.left self.new (env_value env.now)) steps.old steps.new }
@@ -93,11 +93,11 @@ impl<'d> Operand<'d> {
 
     #[cycle(next)]
     #[inline(always)]
-    pub(crate) fn next<L: Ledger>(
+    pub(crate) fn next(
         &mut self,
         how: Opening,
         env: &Env<'_, 'd>,
-        steps: &mut Steps<L>,
+        steps: &mut Steps,
         place: &mut Item<'d>,
     ) -> Answer
         ensures answers { Draws (operand_left how self.old (env_value env.now)) (answer_value result place.new) (operand_left how self.new (env_value env.now)) steps.old steps.new }
@@ -123,12 +123,12 @@ impl<'d> Operand<'d> {
 
     // From the beginning until enough was found.
     #[cycle(next)]
-    pub(crate) fn look<L: Ledger>(
+    pub(crate) fn look(
         &mut self,
         how: Opening,
         limit: Limit,
         env: &Env<'_, 'd>,
-        steps: &mut Steps<L>,
+        steps: &mut Steps,
     ) -> Look<'d>
         ensures finds { Finds limit (operand_whole how (operand_core self.old) (env_value env.now)) (look_value result) steps.old steps.new }
         ensures same { operand_core self.new ≡ operand_core self.old }
@@ -160,11 +160,7 @@ impl<'d> Operand<'d> {
 
     // The operand of arithmetic.
     #[cycle(next)]
-    pub(crate) fn number<L: Ledger>(
-        &mut self,
-        env: &Env<'_, 'd>,
-        steps: &mut Steps<L>,
-    ) -> Result<Decimal, State>
+    pub(crate) fn number(&mut self, env: &Env<'_, 'd>, steps: &mut Steps) -> Result<Decimal, State>
         ensures answers { result ≡ operand_in (single env.now.mode State.S22038 (operand_whole Opening.Unwrapped (operand_core self.old) (env_value env.now))) }
         ensures costs { steps.new ≤ raised steps.old (need env.now.mode 2 (operand_whole Opening.Unwrapped (operand_core self.old) (env_value env.now))) }
         ensures same { operand_core self.new ≡ operand_core self.old }
@@ -175,11 +171,7 @@ impl<'d> Operand<'d> {
 
     // The subscript.
     #[cycle(next)]
-    pub(crate) fn index<L: Ledger>(
-        &mut self,
-        env: &Env<'_, 'd>,
-        steps: &mut Steps<L>,
-    ) -> Result<i128, State>
+    pub(crate) fn index(&mut self, env: &Env<'_, 'd>, steps: &mut Steps) -> Result<i128, State>
         ensures answers { result ≡ subscript_in (single env.now.mode State.S22033 (operand_whole Opening.AsItIs (operand_core self.old) (env_value env.now))) }
         ensures costs { steps.new ≤ raised steps.old (need env.now.mode 2 (operand_whole Opening.AsItIs (operand_core self.old) (env_value env.now))) }
         ensures same { operand_core self.new ≡ operand_core self.old }
@@ -192,10 +184,10 @@ impl<'d> Operand<'d> {
 impl<'d> Each<'d> {
     #[cycle(next)]
     #[inline(never)]
-    pub(crate) fn next<L: Ledger>(
+    pub(crate) fn next(
         &mut self,
         env: &Env<'_, 'd>,
-        steps: &mut Steps<L>,
+        steps: &mut Steps,
         place: &mut Item<'d>,
     ) -> Answer
         ensures answers { Draws (left_of.each_left self.old (env_value env.now)) (answer_value result place.new) (left_of.each_left self.new (env_value env.now)) steps.old steps.new }
@@ -231,10 +223,10 @@ impl<'d> Operator<'d> {
     // What is left of the item at hand.
     #[cycle(next)]
     #[inline(always)]
-    pub(crate) fn next<L: Ledger>(
+    pub(crate) fn next(
         &mut self,
         env: &Env<'_, 'd>,
-        steps: &mut Steps<L>,
+        steps: &mut Steps,
         place: &mut Item<'d>,
     ) -> Answer
         ensures answers { Draws (left_of.operator_left self.old (env_value env.now)) (answer_value result place.new) (left_of.operator_left self.new (env_value env.now)) steps.old steps.new }
@@ -250,10 +242,10 @@ impl<'d> Operator<'d> {
     // Takes the item at the place in hand, and gives the first of what is done with it.
     #[cycle(next)]
     #[inline(always)]
-    pub(crate) fn begin<L: Ledger>(
+    pub(crate) fn begin(
         &mut self,
         env: &Env<'_, 'd>,
-        steps: &mut Steps<L>,
+        steps: &mut Steps,
         place: &mut Item<'d>,
     ) -> Answer
         ensures answers { Draws (done (doing self.old) (env_value env.now) (item_value place.old)) (answer_value result place.new) (left_of.operator_left self.new (env_value env.now)) steps.old steps.new }
@@ -281,12 +273,7 @@ impl<'d> Filter<'d> {
     // The item, where its predicate is true.
     #[cycle(next)]
     #[inline(always)]
-    pub(crate) fn begin<L: Ledger>(
-        &mut self,
-        env: &Env<'_, 'd>,
-        steps: &mut Steps<L>,
-        place: &Item<'d>,
-    ) -> Answer
+    pub(crate) fn begin(&mut self, env: &Env<'_, 'd>, steps: &mut Steps, place: &Item<'d>) -> Answer
         ensures answers { Draws (done (left_of.Keeps (left_of.filter_core self.old)) (env_value env.now) (item_value place.now)) (answer_value result place.now) stop steps.old steps.new }
         ensures same { left_of.filter_core self.new ≡ left_of.filter_core self.old }
     {

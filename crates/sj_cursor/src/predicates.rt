@@ -19,7 +19,7 @@ use crate::env::Env;
 use crate::next::is_array;
 use crate::one::initial_item;
 use crate::pairing::{Pairings, is_early};
-use sj_base::{Ledger, Steps};
+use sj_base::Steps;
 use sj_item::{Item, Truth};
 use sj_plain_path::{Beside, Limit, Opening, Pairing};
 use sj_step::Answer;
@@ -27,7 +27,7 @@ use sj_step::Answer;
 impl<'d> Test<'d> {
     #[cycle(next)]
     #[inline(always)]
-    pub(crate) fn holds<L: Ledger>(&mut self, env: &Env<'_, 'd>, steps: &mut Steps<L>) -> Truth
+    pub(crate) fn holds(&mut self, env: &Env<'_, 'd>, steps: &mut Steps) -> Truth
         ensures decides { Decides (verdict (left_of.test_core self.old) (env_value env.now)) result steps.old steps.new }
         ensures same { left_of.test_core self.new ≡ left_of.test_core self.old }
     {
@@ -41,11 +41,7 @@ impl<'d> Test<'d> {
     // The same of any predicate.
     #[cycle(next)]
     #[inline(never)]
-    pub(crate) fn holds_of_any<L: Ledger>(
-        &mut self,
-        env: &Env<'_, 'd>,
-        steps: &mut Steps<L>,
-    ) -> Truth
+    pub(crate) fn holds_of_any(&mut self, env: &Env<'_, 'd>, steps: &mut Steps) -> Truth
         ensures decides { Decides (verdict (left_of.test_core self.old) (env_value env.now)) result steps.old steps.new }
         ensures same { left_of.test_core self.new ≡ left_of.test_core self.old }
     {
@@ -73,7 +69,7 @@ fn is_unknown(truth: Truth) -> Truth
 impl<'d> Operand<'d> {
     #[cycle(next)]
     #[inline(never)]
-    pub(crate) fn exists<L: Ledger>(&mut self, env: &Env<'_, 'd>, steps: &mut Steps<L>) -> Truth
+    pub(crate) fn exists(&mut self, env: &Env<'_, 'd>, steps: &mut Steps) -> Truth
         ensures decides { Decides (verdict (exists_of (operand_core self.old)) (env_value env.now)) result steps.old steps.new }
         ensures same { operand_core self.new ≡ operand_core self.old }
     {
@@ -137,12 +133,12 @@ impl<'d> Operand<'d> {
     // The pairs of its items with what stands beside them; with `early`, up to the first true one.
     #[cycle(next)]
     #[inline(always)]
-    pub(crate) fn see_pairing<L: Ledger>(
+    pub(crate) fn see_pairing(
         &mut self,
         early: bool,
         beside: Beside<'_, 'd>,
         env: &Env<'_, 'd>,
-        steps: &mut Steps<L>,
+        steps: &mut Steps,
     ) -> Pairing
         ensures seen { PairingSeen early (beside_truth beside.entry) (operand_whole Opening.Unwrapped (operand_core self.old) (env_value env.now)) result.found result.doubt steps.old steps.new }
         ensures same { operand_core self.new ≡ operand_core self.old }
@@ -157,12 +153,12 @@ impl<'d> Operand<'d> {
     // The same out of line, for those that few predicates ask. Each function that it is inlined into has room on the stack for it.
     #[cycle(next)]
     #[inline(never)]
-    pub(crate) fn see_pairing_apart<L: Ledger>(
+    pub(crate) fn see_pairing_apart(
         &mut self,
         early: bool,
         beside: Beside<'_, 'd>,
         env: &Env<'_, 'd>,
-        steps: &mut Steps<L>,
+        steps: &mut Steps,
     ) -> Pairing
         ensures seen { PairingSeen early (beside_truth beside.entry) (operand_whole Opening.Unwrapped (operand_core self.old) (env_value env.now)) result.found result.doubt steps.old steps.new }
         ensures same { operand_core self.new ≡ operand_core self.old }
@@ -173,12 +169,12 @@ impl<'d> Operand<'d> {
     // The same, asked of its cells.
     #[cycle(next)]
     #[inline(never)]
-    pub(crate) fn see_pairing_by_cells<L: Ledger>(
+    pub(crate) fn see_pairing_by_cells(
         &mut self,
         early: bool,
         beside: Beside<'_, 'd>,
         env: &Env<'_, 'd>,
-        steps: &mut Steps<L>,
+        steps: &mut Steps,
     ) -> Pairing
         ensures seen { PairingSeen early (beside_truth beside.entry) (operand_whole Opening.Unwrapped (operand_core self.old) (env_value env.now)) result.found result.doubt steps.old steps.new }
         ensures same { operand_core self.new ≡ operand_core self.old }
@@ -215,7 +211,7 @@ impl<'d> Operand<'d> {
 impl<'d> Both<'d> {
     // The right side is not asked where the left one is false.
     #[cycle(next)]
-    pub(crate) fn and<L: Ledger>(&mut self, env: &Env<'_, 'd>, steps: &mut Steps<L>) -> Truth
+    pub(crate) fn and(&mut self, env: &Env<'_, 'd>, steps: &mut Steps) -> Truth
         ensures decides { Decides (verdict (left_of.both_and self.old) (env_value env.now)) result steps.old steps.new }
         ensures same { left_of.both_and self.new ≡ left_of.both_and self.old }
     {
@@ -228,7 +224,7 @@ impl<'d> Both<'d> {
 
     // The right side is not asked where the left one is true.
     #[cycle(next)]
-    pub(crate) fn or<L: Ledger>(&mut self, env: &Env<'_, 'd>, steps: &mut Steps<L>) -> Truth
+    pub(crate) fn or(&mut self, env: &Env<'_, 'd>, steps: &mut Steps) -> Truth
         ensures decides { Decides (verdict (left_of.both_or self.old) (env_value env.now)) result steps.old steps.new }
         ensures same { left_of.both_or self.new ≡ left_of.both_or self.old }
     {
@@ -243,7 +239,7 @@ impl<'d> Both<'d> {
 impl<'d> Start<'d> {
     #[cycle(next)]
     #[inline(never)]
-    pub(crate) fn holds<L: Ledger>(&mut self, env: &Env<'_, 'd>, steps: &mut Steps<L>) -> Truth
+    pub(crate) fn holds(&mut self, env: &Env<'_, 'd>, steps: &mut Steps) -> Truth
         ensures decides { Decides (verdict (left_of.start_core self.old) (env_value env.now)) result steps.old steps.new }
         ensures same { left_of.start_core self.new ≡ left_of.start_core self.old }
     {
@@ -259,11 +255,11 @@ impl<'d> Start<'d> {
 impl<'d> Comparison<'d> {
     // All pairs; with `early`, up to the first true one.
     #[cycle(next)]
-    pub(crate) fn see_pairings<L: Ledger>(
+    pub(crate) fn see_pairings(
         &mut self,
         early: bool,
         env: &Env<'_, 'd>,
-        steps: &mut Steps<L>,
+        steps: &mut Steps,
     ) -> Pairings
         ensures seen { PairingsSeen early (items_compare self.old.op) (operand_whole Opening.Unwrapped (operand_core self.old.left) (env_value env.now)) (operand_whole Opening.Unwrapped (operand_core self.old.right) (env_value env.now)) result.found result.doubt result.some steps.old steps.new }
         ensures same { left_of.comparison_core self.new ≡ left_of.comparison_core self.old }
@@ -300,12 +296,7 @@ impl<'d> Comparison<'d> {
 
     // Whether the right operand ends in a fault, asked where the left one gave no item.
     #[cycle(next)]
-    pub(crate) fn asks_right<L: Ledger>(
-        &mut self,
-        some: bool,
-        env: &Env<'_, 'd>,
-        steps: &mut Steps<L>,
-    ) -> bool
+    pub(crate) fn asks_right(&mut self, some: bool, env: &Env<'_, 'd>, steps: &mut Steps) -> bool
         ensures asked { Asked some (operand_whole Opening.Unwrapped (operand_core self.old.right) (env_value env.now)) result steps.old steps.new }
         ensures same { left_of.comparison_core self.new ≡ left_of.comparison_core self.old }
     {
@@ -320,7 +311,7 @@ impl<'d> Comparison<'d> {
 
     #[cycle(next)]
     #[inline(never)]
-    pub(crate) fn holds<L: Ledger>(&mut self, env: &Env<'_, 'd>, steps: &mut Steps<L>) -> Truth
+    pub(crate) fn holds(&mut self, env: &Env<'_, 'd>, steps: &mut Steps) -> Truth
         ensures decides { Decides (verdict (left_of.comparison_core self.old) (env_value env.now)) result steps.old steps.new }
         ensures same { left_of.comparison_core self.new ≡ left_of.comparison_core self.old }
     {
@@ -339,11 +330,7 @@ impl<'d> Comparison<'d> {
     // The same, where the right operand is no literal.
     #[cycle(next)]
     #[inline(never)]
-    pub(crate) fn holds_beside_any<L: Ledger>(
-        &mut self,
-        env: &Env<'_, 'd>,
-        steps: &mut Steps<L>,
-    ) -> Truth
+    pub(crate) fn holds_beside_any(&mut self, env: &Env<'_, 'd>, steps: &mut Steps) -> Truth
         ensures decides { Decides (verdict (left_of.comparison_core self.old) (env_value env.now)) result steps.old steps.new }
         ensures same { left_of.comparison_core self.new ≡ left_of.comparison_core self.old }
     {
@@ -362,11 +349,7 @@ impl<'d> Comparison<'d> {
     // The same, where the right operand may be several items.
     #[cycle(next)]
     #[inline(never)]
-    pub(crate) fn holds_pairwise<L: Ledger>(
-        &mut self,
-        env: &Env<'_, 'd>,
-        steps: &mut Steps<L>,
-    ) -> Truth
+    pub(crate) fn holds_pairwise(&mut self, env: &Env<'_, 'd>, steps: &mut Steps) -> Truth
         ensures decides { Decides (verdict (left_of.comparison_core self.old) (env_value env.now)) result steps.old steps.new }
         ensures same { left_of.comparison_core self.new ≡ left_of.comparison_core self.old }
     {

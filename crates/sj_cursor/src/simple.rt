@@ -12,7 +12,7 @@ ghost use Rattle.sj_method.specs.Pairs.{key_values, pair_pull, pairs_left};
 ghost use Rattle.sj_cursor.specs.Cells.{results, results_left, simple_opening};
 
 use crate::cells::{Applied, Results, Simple};
-use sj_base::{Ledger, State, Steps};
+use sj_base::{State, Steps};
 use sj_item::{Item, Pair};
 use sj_method::{PairWalk, apply, pairs, sign};
 use sj_path_tree::{Method, Mode};
@@ -71,12 +71,7 @@ fn key_values<'d>(item: Item<'d>) -> Results<'d>
 impl<'d> Applied<'d> {
     /// Takes the item at the place in hand, and gives the first of what the operator gives of it.
     #[inline(always)]
-    pub(crate) fn begin<L: Ledger>(
-        &mut self,
-        mode: Mode,
-        steps: &mut Steps<L>,
-        place: &mut Item<'d>,
-    ) -> Answer
+    pub(crate) fn begin(&mut self, mode: Mode, steps: &mut Steps, place: &mut Item<'d>) -> Answer
         ensures answers { Takes (results self.old.simple mode (item_value place.old)) (answer_value result place.new) (results_left self.new.left) steps.old steps.new }
         ensures same { self.new.simple ≡ self.old.simple }
     {
@@ -135,7 +130,7 @@ impl<'d> Results<'d> {
     }
 
     #[inline(always)]
-    pub(crate) fn next<L: Ledger>(&mut self, steps: &mut Steps<L>, place: &mut Item<'d>) -> Answer
+    pub(crate) fn next(&mut self, steps: &mut Steps, place: &mut Item<'d>) -> Answer
         ensures { Takes (results_left self.old) (answer_value result place.new) (results_left self.new) steps.old steps.new }
     {
         match self {
@@ -146,11 +141,7 @@ impl<'d> Results<'d> {
 }
 
 #[inline(never)]
-fn next_pair<'d, L: Ledger>(
-    walk: &mut PairWalk<'d>,
-    steps: &mut Steps<L>,
-    place: &mut Item<'d>,
-) -> Answer
+fn next_pair<'d>(walk: &mut PairWalk<'d>, steps: &mut Steps, place: &mut Item<'d>) -> Answer
     ensures { Takes (pairs_left walk.old) (answer_value result place.new) (pairs_left walk.new) steps.old steps.new }
 {
     put_pair(walk.next(steps), place)

@@ -15,7 +15,7 @@ use crate::cells::{
     At, Bounds, Elements, MoreParts, Operand, Part, Parts, Range, Reached, Subscripted,
 };
 use crate::env::Env;
-use sj_base::{Ledger, State, Steps};
+use sj_base::{State, Steps};
 use sj_item::Item;
 use sj_path_tree::Mode;
 use sj_step::{Answer, Reach, last_index};
@@ -34,10 +34,10 @@ fn spot<'d>(mode: Mode, item: Item<'d>) -> At<'d>
 impl<'d> Elements<'d> {
     #[cycle(next)]
     #[inline(never)]
-    pub(crate) fn next<L: Ledger>(
+    pub(crate) fn next(
         &mut self,
         env: &Env<'_, 'd>,
-        steps: &mut Steps<L>,
+        steps: &mut Steps,
         place: &mut Item<'d>,
     ) -> Answer
         ensures answers { Draws (left_of.elements_left self.old (env_value env.now)) (answer_value result place.new) (left_of.elements_left self.new (env_value env.now)) steps.old steps.new }
@@ -55,10 +55,10 @@ impl<'d> Elements<'d> {
 
     #[cycle(next)]
     #[inline(never)]
-    pub(crate) fn begin<L: Ledger>(
+    pub(crate) fn begin(
         &mut self,
         env: &Env<'_, 'd>,
-        steps: &mut Steps<L>,
+        steps: &mut Steps,
         place: &mut Item<'d>,
     ) -> Answer
         ensures answers { Draws (done (left_of.Picks (left_of.elements_core self.old)) (env_value env.now) (item_value place.old)) (answer_value result place.new) (left_of.elements_left self.new (env_value env.now)) steps.old steps.new }
@@ -79,11 +79,11 @@ impl<'d> Elements<'d> {
 
 impl<'d> Parts<'d> {
     #[cycle(next)]
-    pub(crate) fn next<L: Ledger>(
+    pub(crate) fn next(
         &mut self,
         env: &Env<'_, 'd>,
         item: &Item<'d>,
-        steps: &mut Steps<L>,
+        steps: &mut Steps,
         place: &mut Item<'d>,
     ) -> Answer
         ensures answers { Draws (left_of.parts_left self.old (env_value env.now) (item_value item.now)) (answer_value result place.new) (left_of.parts_left self.new (env_value env.now) (item_value item.now)) steps.old steps.new }
@@ -113,11 +113,11 @@ impl<'d> Parts<'d> {
 
 impl<'d> MoreParts<'d> {
     #[cycle(next)]
-    pub(crate) fn next<L: Ledger>(
+    pub(crate) fn next(
         &mut self,
         env: &Env<'_, 'd>,
         item: &Item<'d>,
-        steps: &mut Steps<L>,
+        steps: &mut Steps,
         place: &mut Item<'d>,
     ) -> Answer
         ensures answers { Draws (left_of.more_left self.old (env_value env.now) (item_value item.now)) (answer_value result place.new) (left_of.more_left self.new (env_value env.now) (item_value item.now)) steps.old steps.new }
@@ -132,11 +132,11 @@ impl<'d> MoreParts<'d> {
 
 impl<'d> Part<'d> {
     #[cycle(next)]
-    pub(crate) fn next<L: Ledger>(
+    pub(crate) fn next(
         &mut self,
         env: &Env<'_, 'd>,
         item: &Item<'d>,
-        steps: &mut Steps<L>,
+        steps: &mut Steps,
         place: &mut Item<'d>,
     ) -> Answer
         ensures answers { Draws (left_of.part_left self.old (env_value env.now) (item_value item.now)) (answer_value result place.new) (left_of.part_left self.new (env_value env.now) (item_value item.now)) steps.old steps.new }
@@ -185,12 +185,7 @@ fn element_at<'d>(index: Result<i128, State>, mode: Mode, item: Item<'d>) -> Wal
 impl<'d> Bounds<'d> {
     // What the subscripts reach of an item.
     #[cycle(next)]
-    pub(crate) fn start<L: Ledger>(
-        &mut self,
-        env: &Env<'_, 'd>,
-        item: Item<'d>,
-        steps: &mut Steps<L>,
-    ) -> Walk<'d>
+    pub(crate) fn start(&mut self, env: &Env<'_, 'd>, item: Item<'d>, steps: &mut Steps) -> Walk<'d>
         ensures starts { Approaches (part (left_of.bounds_core self.old) (env_value env.now) (item_value item.entry)) steps.old (walk_left result) steps.new }
         ensures same { left_of.bounds_core self.new ≡ left_of.bounds_core self.old }
     {
@@ -204,11 +199,11 @@ impl<'d> Bounds<'d> {
 impl<'d> Operand<'d> {
     // The element of an item at this subscript.
     #[cycle(next)]
-    pub(crate) fn element<L: Ledger>(
+    pub(crate) fn element(
         &mut self,
         env: &Env<'_, 'd>,
         item: Item<'d>,
-        steps: &mut Steps<L>,
+        steps: &mut Steps,
     ) -> Walk<'d>
         ensures starts { Approaches (part (one_of (operand_core self.old)) (env_value env.now) (item_value item.entry)) steps.old (walk_left result) steps.new }
         ensures same { operand_core self.new ≡ operand_core self.old }
@@ -220,12 +215,7 @@ impl<'d> Operand<'d> {
 
 impl<'d> Range<'d> {
     #[cycle(next)]
-    pub(crate) fn start<L: Ledger>(
-        &mut self,
-        env: &Env<'_, 'd>,
-        item: Item<'d>,
-        steps: &mut Steps<L>,
-    ) -> Walk<'d>
+    pub(crate) fn start(&mut self, env: &Env<'_, 'd>, item: Item<'d>, steps: &mut Steps) -> Walk<'d>
         ensures starts { Approaches (part (left_of.range_core self.old) (env_value env.now) (item_value item.entry)) steps.old (walk_left result) steps.new }
         ensures same { left_of.range_core self.new ≡ left_of.range_core self.old }
     {

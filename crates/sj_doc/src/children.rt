@@ -8,7 +8,7 @@ ghost use Rattle.sj_doc.specs.FoundMembers.{left_behind, Finds};
 ghost use Rattle.sj_doc.specs.Listed.{member_of, node_id, node_tree, node_key};
 
 use crate::doc::{Doc, Member, NodeRef, text_at};
-use sj_base::{Ledger, Steps};
+use sj_base::Steps;
 use std::marker::Model;
 
 /// The children of a node, in order. Contracts see the list of those that are left, each as its key, its
@@ -77,13 +77,7 @@ fn is_named(name: Option<&str>, key: &str) -> bool
 
 // The first child under the key among those that are left from a node on. What it loops over stays in registers.
 #[inline(always)]
-fn find<L: Ledger>(
-    doc: &Doc,
-    from: u32,
-    left: u32,
-    key: &str,
-    steps: &mut Steps<L>,
-) -> Option<FoundMember>
+fn find(doc: &Doc, from: u32, left: u32, key: &str, steps: &mut Steps) -> Option<FoundMember>
     requires { IsChildren doc.now from left }
     ensures found { MatchOption result (from_key key.now (children_left doc.now from left) ≡ []) (Finds doc.now from left key.now) }
     ensures step { steps.new ≡ raised steps.old (left - left_behind result) }
@@ -109,7 +103,7 @@ fn find<L: Ledger>(
 impl<'d> Children<'d> {
     /// The next child. `None` comes exactly at the end. The counter rises by one where a child is given,
     /// and stays as it is at the end.
-    pub fn next<L: Ledger>(&mut self, steps: &mut Steps<L>) -> Option<Member<'d>>
+    pub fn next(&mut self, steps: &mut Steps) -> Option<Member<'d>>
         ensures child { MatchOption result ((self.old ≡ []) × (self.new ≡ [])) (λ m. self.old ≡ member_of m ∷ self.new) }
         ensures key { IfSome result (λ m. node_key m.node ≡ option_map (λ s. s.now) m.key) }
         ensures step { steps.new ≡ (if is_some result then raised steps.old 1 else steps.old) }
@@ -127,7 +121,7 @@ impl<'d> Children<'d> {
     /// is left is under the key, and then none is left. The counter rises by one for each child that is passed
     /// over or given.
     #[inline(always)]
-    pub fn next_under<L: Ledger>(&mut self, key: &str, steps: &mut Steps<L>) -> Option<NodeRef<'d>>
+    pub fn next_under(&mut self, key: &str, steps: &mut Steps) -> Option<NodeRef<'d>>
         ensures child { MatchOption result ((from_key key.now self.old ≡ []) × (self.new ≡ []))
             (λ n. from_key key.now self.old ≡ (Some key.now, node_id n, node_tree n) ∷ self.new) }
         ensures step { steps.new ≡ raised steps.old (length self.old - length self.new) }

@@ -7,7 +7,7 @@ ghost use Rattle.sj_doc.specs.Visits.{visited, hands_out_some};
 
 use crate::doc::{Doc, Member};
 use crate::node::Kind;
-use sj_base::{Ledger, Steps};
+use sj_base::Steps;
 use std::marker::Model;
 
 /// What a tour comes to next.
@@ -61,7 +61,7 @@ impl<'d> Tour<'d> {
     /// The next visit. `None` comes exactly at the end. The first visit is the node of the tour, without
     /// its key. The counter rises by one at each further node that is entered or is a leaf, and stays as
     /// it is where a container is left.
-    pub fn next<L: Ledger>(&mut self, steps: &mut Steps<L>) -> Option<Visit<'d>>
+    pub fn next(&mut self, steps: &mut Steps) -> Option<Visit<'d>>
         ensures visit { MatchOption result ((self.old.1 ≡ []) × (self.new ≡ self.old))
             (λ v. (self.old.1 ≡ visited v ∷ self.new.1) × (self.new.0 ≡ true)) }
         ensures step { steps.new ≡ (if self.old.0 && hands_out_some result then raised steps.old 1 else steps.old) }

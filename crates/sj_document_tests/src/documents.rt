@@ -1,6 +1,6 @@
 // A document is built, walked and built anew.
 use crate::cases::{expect, expect_count};
-use sj_base::{Memory, Steps, Tally};
+use sj_base::{Memory, Steps};
 use sj_decimal::Decimal;
 use sj_doc::{Doc, DocBuilder, Kind, Num, Want};
 use std::alloc::Global;
@@ -25,7 +25,7 @@ fn built(rt: &impl Abort, alloc: Global) -> Result<Doc, Memory> {
 }
 
 fn walks(rt: &impl Abort, doc: &Doc) -> Result<(), Fail> {
-    let mut steps = Steps::new(Tally::new());
+    let mut steps = Steps::new();
     let mut members = doc.root().children();
     let first = members.next(&mut steps).ok_or("no member")?;
     expect(rt, first.key.ok_or("no key")?, "a", "key");
@@ -36,20 +36,20 @@ fn walks(rt: &impl Abort, doc: &Doc) -> Result<(), Fail> {
     let element = second.node.children().next(&mut steps).ok_or("no element")?;
     assert!(rt; element.node.kind() == Kind::Truth);
     assert!(rt; doc.root().tour().next(&mut steps).is_some());
-    expect_count(rt, steps.ledger().count(), 3);
+    expect_count(rt, steps.count(), 3);
     Ok(())
 }
 
 // The search for the children under a key.
 fn searches(rt: &impl Abort, doc: &Doc) -> Result<(), Fail> {
-    let mut steps = Steps::new(Tally::new());
+    let mut steps = Steps::new();
     let mut under = doc.root().children();
     let found = under
         .next_under("a", &mut steps)
         .ok_or("no member under the key")?;
     expect_count(rt, found.id(), 1);
     assert!(rt; under.next_under("b", &mut steps).is_none());
-    expect_count(rt, steps.ledger().count(), 2);
+    expect_count(rt, steps.count(), 2);
     Ok(())
 }
 
@@ -74,7 +74,7 @@ fn numbers(alloc: Global) -> Result<Doc, Fail> {
 }
 
 fn expect_numbers(rt: &impl Abort, doc: &Doc) -> Result<(), Fail> {
-    let mut steps = Steps::new(Tally::new());
+    let mut steps = Steps::new();
     let mut elements = doc.root().children();
     for wanted in ["1.5", "-7"] {
         let element = elements.next(&mut steps).ok_or("no element")?;

@@ -1,7 +1,7 @@
 //! The examples that the documentation of `sj_decimal` and `sj_read` names.
 
 use crate::cases::expect;
-use sj_base::{Steps, Tally};
+use sj_base::Steps;
 use sj_decimal::{Decimal, NumFault, Parsed, is_number};
 use sj_doc::Doc;
 use sj_read::{LineRead, ReadRefusal, read, read_over};
@@ -61,14 +61,14 @@ fn numbers_are_rounded(rt: HostRuntime) -> Result<(), Fail> {
 
 /// How many children the root has.
 fn size(doc: &Doc) -> u64 {
-    let mut steps = Steps::new(Tally::new());
+    let mut steps = Steps::new();
     let mut children = doc.root().children();
     for _ in 0..100 {
         if children.next(&mut steps).is_none() {
             break;
         }
     }
-    steps.ledger().count()
+    steps.count()
 }
 
 fn expect_lines(rt: &impl Abort, alloc: Global) -> Result<(), Fail> {

@@ -1,7 +1,7 @@
 // Lines that are cut at each place, what a document then has, and the limits. Which texts are JSON and what they are read as
 // is in `checks/rows/json.txt`.
 use crate::cases::{expect, expect_count};
-use sj_base::{Steps, Tally};
+use sj_base::Steps;
 use sj_doc::{Doc, Kind, Visit};
 use sj_read::{LineRead, ReadRefusal, read, read_over};
 use std::alloc::Global;
@@ -57,7 +57,7 @@ const MEMBERS: &[u8] = b"{\"a\":null,\"b\":[true,\"x\"],\"a\":{}}";
 
 /// They have these keys, kinds, numbers and sizes.
 fn expect_members(rt: &impl Abort, doc: &Doc) -> Result<(), Fail> {
-    let mut steps = Steps::new(Tally::new());
+    let mut steps = Steps::new();
     let mut children = doc.root().children();
     let wanted = [
         ("a", Kind::Null, 1, 0),
@@ -72,7 +72,7 @@ fn expect_members(rt: &impl Abort, doc: &Doc) -> Result<(), Fail> {
         expect_count(rt, child.node.len(), len);
     }
     assert!(rt; children.next(&mut steps).is_none());
-    expect_count(rt, steps.ledger().count(), 3);
+    expect_count(rt, steps.count(), 3);
     Ok(())
 }
 
@@ -141,7 +141,7 @@ fn shape(visit: Visit<'_>) -> (char, u64) {
 }
 
 fn expect_tour(rt: &impl Abort, doc: &Doc) -> Result<(), Fail> {
-    let mut steps = Steps::new(Tally::new());
+    let mut steps = Steps::new();
     let mut tour = doc.root().tour();
     let wanted = [
         ('[', 0),
@@ -158,7 +158,7 @@ fn expect_tour(rt: &impl Abort, doc: &Doc) -> Result<(), Fail> {
         assert!(rt; shape(visit) == (sign, id));
     }
     assert!(rt; tour.next(&mut steps).is_none());
-    expect_count(rt, steps.ledger().count(), 4);
+    expect_count(rt, steps.count(), 4);
     Ok(())
 }
 

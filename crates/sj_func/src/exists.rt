@@ -4,7 +4,7 @@ ghost use Rattle.sj_base.specs.Count.{raised};
 ghost use Rattle.sj_func.specs.Functions.{context_value, trace_on, exists_outcome, exists_cost, exists_given};
 
 use crate::context::{Context, Outcome};
-use sj_base::{Ledger, State, Steps};
+use sj_base::{State, Steps};
 use sj_cursor::Cursor;
 use sj_value::{ExistsAction, SqlValue};
 
@@ -21,11 +21,11 @@ use sj_value::{ExistsAction, SqlValue};
 /// Example: on `{"a":[1,2],"b":"x"}` the path `$.a[*]` gives TRUE, and `$.c` gives FALSE
 /// (`sj_row_tests::examples::query_functions`).
 #[inline(always)]
-pub fn json_exists<'d, L: Ledger>(
+pub fn json_exists<'d>(
     cursor: &mut Cursor<'d>,
     context: Context<'d>,
     on_error: ExistsAction,
-    steps: &mut Steps<L>,
+    steps: &mut Steps,
 ) -> Outcome
     ensures outcome { result ≡ exists_outcome on_error cursor.old.path.mode (context_value context.entry) (trace_on cursor.old) }
     ensures costs { steps.new ≤ raised steps.old (exists_cost cursor.old.path.mode (context_value context.entry) (trace_on cursor.old)) }

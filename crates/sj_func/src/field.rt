@@ -7,7 +7,7 @@ ghost use Rattle.sj_func.specs.Functions.{context_value, trace_on, value_error, 
 
 use crate::context::{Context, Outcome};
 use crate::single::single_item;
-use sj_base::{Bytes, Ledger, Memory, State, Steps};
+use sj_base::{Bytes, Memory, State, Steps};
 use sj_cursor::Cursor;
 use sj_rows::{tabbed_cast, tabbed_text};
 use sj_value::{CastRefusal, SqlValue, ValueAction, ValueSpec};
@@ -39,13 +39,13 @@ pub fn outcome_field(out: &mut Bytes, outcome: &Outcome) -> Result<Option<State>
 /// # Errors
 /// [`Memory`] where memory runs out. What stood in `out` stays, and something may stand behind it.
 #[inline(always)]
-pub fn json_value_field<'d, L: Ledger>(
+pub fn json_value_field<'d>(
     alloc: Global,
     cursor: &mut Cursor<'d>,
     context: Context<'d>,
     spec: &ValueSpec,
     out: &mut Bytes,
-    steps: &mut Steps<L>,
+    steps: &mut Steps,
 ) -> Result<Option<State>, Memory>
     requires { IsValueSpec spec.now }
     ensures appends { AppendsOutcome (value_outcome spec.now cursor.old.path.mode (context_value context.entry) (trace_on cursor.old)) result out.old out.new }

@@ -8,7 +8,7 @@ ghost use Rattle.sj_func.specs.Functions.{context_value, trace_on, single_on, qu
 use crate::context::{Context, Outcome};
 use crate::single::single_item;
 use crate::texts::{closed, empty_text, rest_text, single_value, stays};
-use sj_base::{Bytes, Ledger, Memory, State, Steps};
+use sj_base::{Bytes, Memory, State, Steps};
 use sj_cursor::Cursor;
 use sj_item::{Item, Pull, kind};
 use sj_text::item_text;
@@ -35,12 +35,12 @@ use std::alloc::Global;
 /// # Errors
 /// [`Memory`] where memory runs out. What is said of the cursor and of the counter holds then too.
 #[tactic(auto, unfolding(crate::specs::Functions::query_outcome, crate::specs::Functions::query_cost))]
-pub fn json_query<'d, L: Ledger>(
+pub fn json_query<'d>(
     alloc: Global,
     cursor: &mut Cursor<'d>,
     context: Context<'d>,
     spec: &QuerySpec,
-    steps: &mut Steps<L>,
+    steps: &mut Steps,
 ) -> Result<Outcome, Memory>
     ensures outcome { IfOk result (λ o. o ≡ query_outcome spec.now cursor.old.path.mode (context_value context.entry) (trace_on cursor.old)) }
     ensures printable { IfOk result IsPrinted }
@@ -57,12 +57,12 @@ pub fn json_query<'d, L: Ledger>(
 }
 
 // Without a wrapper.
-fn query_one<'d, L: Ledger>(
+fn query_one<'d>(
     alloc: Global,
     cursor: &mut Cursor<'d>,
     context: Context<'d>,
     spec: &QuerySpec,
-    steps: &mut Steps<L>,
+    steps: &mut Steps,
 ) -> Result<Outcome, Memory>
     ensures outcome { IfOk result (λ o. o ≡ query_given spec.now (single_on cursor.old.path.mode (context_value context.entry) (trace_on cursor.old))) }
     ensures printable { IfOk result IsPrinted }
@@ -78,12 +78,12 @@ fn query_one<'d, L: Ledger>(
 }
 
 // With a wrapper.
-fn query_all<'d, L: Ledger>(
+fn query_all<'d>(
     alloc: Global,
     cursor: &mut Cursor<'d>,
     context: Context<'d>,
     spec: &QuerySpec,
-    steps: &mut Steps<L>,
+    steps: &mut Steps,
 ) -> Result<Outcome, Memory>
     ensures outcome { IfOk result (λ o. o ≡ query_all_of spec.now (context_value context.entry) (trace_on cursor.old)) }
     ensures printable { IfOk result IsPrinted }
@@ -101,11 +101,11 @@ fn query_all<'d, L: Ledger>(
 }
 
 // All items that the cursor has left.
-fn query_items<'d, L: Ledger>(
+fn query_items<'d>(
     alloc: Global,
     cursor: &mut Cursor<'d>,
     spec: &QuerySpec,
-    steps: &mut Steps<L>,
+    steps: &mut Steps,
 ) -> Result<Outcome, Memory>
     ensures outcome { IfOk result (λ o. o ≡ items_of spec.now (fault_of cursor.old.left) (items cursor.old.left)) }
     ensures printable { IfOk result IsPrinted }
@@ -121,12 +121,12 @@ fn query_items<'d, L: Ledger>(
 }
 
 // The first item, and all that the cursor has left.
-fn query_some<'d, L: Ledger>(
+fn query_some<'d>(
     alloc: Global,
     first: Item<'d>,
     cursor: &mut Cursor<'d>,
     spec: &QuerySpec,
-    steps: &mut Steps<L>,
+    steps: &mut Steps,
 ) -> Result<Outcome, Memory>
     ensures outcome { IfOk result (λ o. o ≡ items_of spec.now (fault_of cursor.old.left) (item_value first.entry ∷ items cursor.old.left)) }
     ensures printable { IfOk result IsPrinted }

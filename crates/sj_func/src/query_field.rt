@@ -10,7 +10,7 @@ use crate::context::Context;
 use crate::field::outcome_field;
 use crate::query::{given, json_query};
 use crate::texts::rest_text;
-use sj_base::{Bytes, Ledger, Memory, State, Steps};
+use sj_base::{Bytes, Memory, State, Steps};
 use sj_cursor::Cursor;
 use sj_item::{Item, Pull};
 use sj_rows::escape_from;
@@ -27,13 +27,13 @@ use std::alloc::Global;
 /// [`Memory`] where memory runs out. What stood in `out` stays, and something may stand behind it.
 #[inline(always)]
 #[tactic(auto, unfolding(crate::specs::Functions::query_outcome, crate::specs::Functions::query_cost))]
-pub fn json_query_field<'d, L: Ledger>(
+pub fn json_query_field<'d>(
     alloc: Global,
     cursor: &mut Cursor<'d>,
     context: Context<'d>,
     spec: &QuerySpec,
     out: &mut Bytes,
-    steps: &mut Steps<L>,
+    steps: &mut Steps,
 ) -> Result<Option<State>, Memory>
     ensures appends { AppendsOutcome (query_outcome spec.now cursor.old.path.mode (context_value context.entry) (trace_on cursor.old)) result out.old out.new }
     ensures costs { steps.new ≤ raised steps.old (query_cost spec.now.wrapper cursor.old.path.mode (context_value context.entry) (trace_on cursor.old)) }
@@ -50,13 +50,13 @@ pub fn json_query_field<'d, L: Ledger>(
 
 // The field of the value, which is made first.
 #[inline(always)]
-fn any_field<'d, L: Ledger>(
+fn any_field<'d>(
     alloc: Global,
     cursor: &mut Cursor<'d>,
     context: Context<'d>,
     spec: &QuerySpec,
     out: &mut Bytes,
-    steps: &mut Steps<L>,
+    steps: &mut Steps,
 ) -> Result<Option<State>, Memory>
     ensures appends { AppendsOutcome (query_outcome spec.now cursor.old.path.mode (context_value context.entry) (trace_on cursor.old)) result out.old out.new }
     ensures costs { steps.new ≤ raised steps.old (query_cost spec.now.wrapper cursor.old.path.mode (context_value context.entry) (trace_on cursor.old)) }
@@ -69,13 +69,13 @@ fn any_field<'d, L: Ledger>(
 
 // With an unconditional wrapper.
 #[inline(always)]
-fn all_field<'d, L: Ledger>(
+fn all_field<'d>(
     alloc: Global,
     cursor: &mut Cursor<'d>,
     context: Context<'d>,
     spec: &QuerySpec,
     out: &mut Bytes,
-    steps: &mut Steps<L>,
+    steps: &mut Steps,
 ) -> Result<Option<State>, Memory>
     requires { spec.now.wrapper ≡ Wrapper.Unconditional }
     ensures appends { AppendsOutcome (query_all_of spec.now (context_value context.entry) (trace_on cursor.old)) result out.old out.new }
@@ -94,12 +94,12 @@ fn all_field<'d, L: Ledger>(
 
 // The array of all items that the cursor has left.
 #[inline(always)]
-fn items_field<'d, L: Ledger>(
+fn items_field<'d>(
     alloc: Global,
     cursor: &mut Cursor<'d>,
     spec: &QuerySpec,
     out: &mut Bytes,
-    steps: &mut Steps<L>,
+    steps: &mut Steps,
 ) -> Result<Option<State>, Memory>
     requires { spec.now.wrapper ≡ Wrapper.Unconditional }
     ensures appends { AppendsOutcome (items_of spec.now (fault_of cursor.old.left) (items cursor.old.left)) result out.old out.new }
@@ -116,13 +116,13 @@ fn items_field<'d, L: Ledger>(
 
 // The array of the first item and all that the cursor has left. It is printed where the field stands.
 #[inline(always)]
-fn some_field<'d, L: Ledger>(
+fn some_field<'d>(
     alloc: Global,
     first: Item<'d>,
     cursor: &mut Cursor<'d>,
     spec: &QuerySpec,
     out: &mut Bytes,
-    steps: &mut Steps<L>,
+    steps: &mut Steps,
 ) -> Result<Option<State>, Memory>
     requires { spec.now.wrapper ≡ Wrapper.Unconditional }
     ensures appends { AppendsOutcome (items_of spec.now (fault_of cursor.old.left) (item_value first.entry ∷ items cursor.old.left)) result out.old out.new }

@@ -5,16 +5,16 @@ ghost use Rattle.sj_cursor.specs.Answers.{single_value};
 ghost use Rattle.sj_func.specs.Functions.{context_value, trace_on, single_on, value_cost};
 
 use crate::context::Context;
-use sj_base::{Ledger, State, Steps};
+use sj_base::{State, Steps};
 use sj_cursor::Cursor;
 use sj_item::Item;
 
 // The only item, and `None` where there is none. Several items are 22034, and an error is its state.
 #[inline(always)]
-pub(crate) fn single_item<'d, L: Ledger>(
+pub(crate) fn single_item<'d>(
     cursor: &mut Cursor<'d>,
     context: Context<'d>,
-    steps: &mut Steps<L>,
+    steps: &mut Steps,
 ) -> Result<Option<Item<'d>>, State>
     ensures answers { single_value result ≡ single_on cursor.old.path.mode (context_value context.entry) (trace_on cursor.old) }
     ensures costs { steps.new ≤ raised steps.old (value_cost cursor.old.path.mode (context_value context.entry) (trace_on cursor.old)) }

@@ -8,7 +8,7 @@ ghost use Rattle.sj_rows.specs.RowText.{Extends};
 ghost use Rattle.sj_func.specs.Functions.{string_of, query_value, elements, all_below};
 ghost use Rattle.sj_func.specs.Gathering.{has_some, stays as stays_of};
 
-use sj_base::{Bytes, Ledger, Memory, State, Steps, Text};
+use sj_base::{Bytes, Memory, State, Steps, Text};
 use sj_cursor::Cursor;
 use sj_doc::Kind;
 use sj_item::{Item, Pull};
@@ -27,11 +27,11 @@ pub(crate) fn empty_text(alloc: Global) -> Result<Bytes, Memory>
 }
 
 // A single item as a JSON value; with OMIT QUOTES a string as its text.
-pub(crate) fn single_value<'d, L: Ledger>(
+pub(crate) fn single_value<'d>(
     alloc: Global,
     item: Item<'d>,
     omit_quotes: bool,
-    steps: &mut Steps<L>,
+    steps: &mut Steps,
 ) -> Result<SqlValue, Memory>
     ensures value { IfOk result (λ v. v ≡ query_value omit_quotes (item_tree (item_value item.entry))) }
     ensures costs { steps.new ≤ raised steps.old (nodes_below (item_value item.entry)) }
@@ -77,10 +77,10 @@ pub(crate) struct Rest {
 }
 
 // Appends the texts of all items that the cursor has left, each behind a comma.
-pub(crate) fn rest_text<'d, L: Ledger>(
+pub(crate) fn rest_text<'d>(
     cursor: &mut Cursor<'d>,
     text: &mut Bytes,
-    steps: &mut Steps<L>,
+    steps: &mut Steps,
 ) -> Result<Rest, Memory>
     ensures text { OnOk result (text.new ≡ text.old ++ printed_more_items (elements (items cursor.old.left))) }
     ensures extends { OnErr result (Extends text.old text.new) }

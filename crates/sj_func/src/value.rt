@@ -8,7 +8,7 @@ ghost use Rattle.sj_func.specs.Functions.{context_value, trace_on, value_error, 
 
 use crate::context::{Context, Outcome};
 use crate::single::single_item;
-use sj_base::{Ledger, Memory, State, Steps};
+use sj_base::{Memory, State, Steps};
 use sj_cursor::Cursor;
 use sj_item::Item;
 use sj_value::{CastRefusal, SqlValue, ValueAction, ValueSpec, cast, copy};
@@ -32,12 +32,12 @@ use std::alloc::Global;
 /// # Errors
 /// [`Memory`] where memory runs out. What is said of the cursor and of the counter holds then too.
 #[inline(always)]
-pub fn json_value<'d, L: Ledger>(
+pub fn json_value<'d>(
     alloc: Global,
     cursor: &mut Cursor<'d>,
     context: Context<'d>,
     spec: &ValueSpec,
-    steps: &mut Steps<L>,
+    steps: &mut Steps,
 ) -> Result<Outcome, Memory>
     requires { IsValueSpec spec.now }
     ensures outcome { IfOk result (λ o. o ≡ value_outcome spec.now cursor.old.path.mode (context_value context.entry) (trace_on cursor.old)) }

@@ -7,7 +7,7 @@ ghost use Rattle.sj_step.specs.Takes.{Takes};
 ghost use Rattle.sj_step.specs.Trace.{first, rest};
 ghost use Rattle.sj_method.specs.Pairs.{pairs_of, pairs_left, pair_pull, pair_of, started, members_left, made_left};
 
-use sj_base::{Ledger, State, Steps};
+use sj_base::{State, Steps};
 use sj_doc::{Children, Kind, NodeRef};
 use sj_item::{Item, Pair};
 use sj_step::PairPart;
@@ -58,7 +58,7 @@ pub fn pairs<'d>(item: Item<'d>) -> Result<PairWalk<'d>, State>
 impl<'d> PairWalk<'d> {
     /// The next pair. `None` comes exactly where all were given, and then again without a step. The counter rises by
     /// one for each member of a node, and stays as it is for those of a made pair.
-    pub fn next<L: Ledger>(&mut self, steps: &mut Steps<L>) -> Option<Pair<'d>>
+    pub fn next(&mut self, steps: &mut Steps) -> Option<Pair<'d>>
         ensures { Takes (pairs_left self.old) (pair_pull result) (pairs_left self.new) steps.old steps.new }
     {
         match &mut self.left {
@@ -91,7 +91,7 @@ impl<'d> PairWalk<'d> {
 }
 
 impl<'d> Members<'d> {
-    fn next<L: Ledger>(&mut self, steps: &mut Steps<L>) -> Option<Pair<'d>>
+    fn next(&mut self, steps: &mut Steps) -> Option<Pair<'d>>
         ensures { Takes (members_left self.old) (pair_pull result) (members_left self.new) steps.old steps.new }
     {
         match self.left.next(steps) {

@@ -3,7 +3,7 @@ mod paths;
 
 use super::cases::{expect, expect_count};
 use paths::PATHS;
-use sj_base::{Bytes, Steps, Tally, Text};
+use sj_base::{Bytes, Steps, Text};
 use sj_cursor::Cursor;
 use sj_decimal::Decimal;
 use sj_doc::{Doc, NodeRef};
@@ -43,7 +43,7 @@ fn word(answer: Pull<'_>) -> &'static str {
 // The text of an answer, and a space.
 fn push_answer(answer: Pull<'_>, out: &mut Bytes) -> Result<(), Fail> {
     match answer {
-        Pull::Item(item) => item_text(item, out, &mut Steps::new(Tally::new()))?,
+        Pull::Item(item) => item_text(item, out, &mut Steps::new())?,
         end => out.push(word(end).as_bytes())?,
     }
     out.push(b" ")?;
@@ -59,25 +59,25 @@ fn trail(
     may_hold: u64,
     most: usize,
 ) -> Result<String, Fail> {
-    let mut steps = Steps::new(Tally::new());
+    let mut steps = Steps::new();
     let mut out = Bytes::new(alloc);
     for _ in 0..most {
         let answer = cursor.next(&mut steps);
         push_answer(answer, &mut out)?;
         assert!(rt; cursor.held() <= may_hold);
         if !matches!(answer, Pull::Item(_)) {
-            let count = steps.ledger().count();
+            let count = steps.count();
             expect(
                 rt,
                 word(cursor.next(&mut steps)),
                 word(answer),
                 "the end again",
             );
-            expect_count(rt, steps.ledger().count(), count);
+            expect_count(rt, steps.count(), count);
             break;
         }
     }
-    out.push(format!(in alloc; "{}", steps.ledger().count())?.as_bytes())?;
+    out.push(format!(in alloc; "{}", steps.count())?.as_bytes())?;
     Ok(String::from_utf8(out.into_vec())?)
 }
 
@@ -258,7 +258,7 @@ fn expect_other_trail(
     pulls: usize,
     want: &str,
 ) -> Result<(), Fail> {
-    let mut steps = Steps::new(Tally::new());
+    let mut steps = Steps::new();
     let mut elements = doc.root().children();
     let first = elements.next(&mut steps).ok_or("no first element")?;
     let second = elements.next(&mut steps).ok_or("no second element")?;

@@ -17,7 +17,7 @@ use crate::look::{FoundNodes, Limit, Look};
 use crate::opening::Opening;
 use crate::pairing::{Beside, Pairing};
 use crate::take::{Aim, Gathered, Search};
-use sj_base::{Ledger, Memory, Steps};
+use sj_base::{Memory, Steps};
 use sj_decimal::Decimal;
 use sj_doc::{Kind, NodeRef};
 use sj_path_tree::{Expr, Literal, Mode, Path, Step, Sub, Subs};
@@ -64,7 +64,7 @@ impl<'d> Chain<'d> {
     /// The items of the path on a node, from the first one on until enough was found. The counter rises by no more than the children
     /// of nodes that are handed out before.
     #[inline(always)]
-    pub fn look<L: Ledger>(&self, root: NodeRef<'d>, limit: Limit, steps: &mut Steps<L>) -> Look<'d>
+    pub fn look(&self, root: NodeRef<'d>, limit: Limit, steps: &mut Steps) -> Look<'d>
         ensures { Finds limit (below Opening.AsItIs self.now.links.items (node_value root.entry)) (look_value result) steps.old steps.new }
     {
         look_below(Opening::AsItIs, &self.links, root, limit, steps)
@@ -72,12 +72,7 @@ impl<'d> Chain<'d> {
 
     /// The same, as the nodes that the items are.
     #[inline(always)]
-    pub fn nodes<L: Ledger>(
-        &self,
-        root: NodeRef<'d>,
-        limit: Limit,
-        steps: &mut Steps<L>,
-    ) -> FoundNodes<'d>
+    pub fn nodes(&self, root: NodeRef<'d>, limit: Limit, steps: &mut Steps) -> FoundNodes<'d>
         ensures { Finds limit (below Opening.AsItIs self.now.links.items (node_value root.entry)) (nodes_look result) steps.old steps.new }
     {
         nodes_below(Opening::AsItIs, &self.links, root, limit, steps)
@@ -87,12 +82,12 @@ impl<'d> Chain<'d> {
 /// What accessors give of a node, from the first item on until enough was found. The counter rises by no more than the children of
 /// nodes that are handed out before.
 #[inline(always)]
-pub fn look_below<'d, L: Ledger>(
+pub fn look_below<'d>(
     how: Opening,
     links: &[Link<'d>],
     node: NodeRef<'d>,
     limit: Limit,
-    steps: &mut Steps<L>,
+    steps: &mut Steps,
 ) -> Look<'d>
     ensures { Finds limit (below how links.now (node_value node.entry)) (look_value result) steps.old steps.new }
 {
@@ -104,12 +99,12 @@ pub fn look_below<'d, L: Ledger>(
 
 // The same, as the nodes that the items are.
 #[inline(always)]
-fn nodes_below<'d, L: Ledger>(
+fn nodes_below<'d>(
     how: Opening,
     links: &[Link<'d>],
     node: NodeRef<'d>,
     limit: Limit,
-    steps: &mut Steps<L>,
+    steps: &mut Steps,
 ) -> FoundNodes<'d>
     ensures { Finds limit (below how links.now (node_value node.entry)) (nodes_look result) steps.old steps.new }
 {
@@ -121,13 +116,13 @@ fn nodes_below<'d, L: Ledger>(
 /// The pairs of what accessors give of a node with what stands beside them; with `early`, up to the first true one. The counter rises
 /// by no more than the children of nodes that are handed out before.
 #[inline(always)]
-pub fn see_below<'d, L: Ledger>(
+pub fn see_below<'d>(
     how: Opening,
     links: &[Link<'d>],
     node: NodeRef<'d>,
     early: bool,
     beside: Beside<'_, 'd>,
-    steps: &mut Steps<L>,
+    steps: &mut Steps,
 ) -> Pairing
     ensures { PairingSeen early (beside_truth beside.entry) (below how links.now (node_value node.entry)) result.found result.doubt steps.old steps.new }
 {
@@ -143,11 +138,11 @@ pub fn see_below<'d, L: Ledger>(
 // Goes through what accessors give of a node, as `seek` does. Most operands and columns are one member of an object: its members are
 // gone through in place, and nothing that recurs is called.
 #[inline(always)]
-fn seek_short<'d, L: Ledger>(
+fn seek_short<'d>(
     search: &Search<'_, 'd>,
     links: &[Link<'d>],
     node: NodeRef<'d>,
-    steps: &mut Steps<L>,
+    steps: &mut Steps,
     gathered: &mut Gathered<'d>,
 ) -> bool
     ensures { Sought (taken_value search.now.aim gathered.old) (below search.now.how links.now (node_value node.entry)) (taken_value search.now.aim gathered.new) result steps.old steps.new }
@@ -164,11 +159,11 @@ fn seek_short<'d, L: Ledger>(
 // The same as `seek`, with a copy of the search. What is passed by its place has to lie in memory, and the search would lie there in
 // the callers too.
 #[inline(always)]
-fn seek_apart<'d, L: Ledger>(
+fn seek_apart<'d>(
     search: Search<'_, 'd>,
     links: &[Link<'d>],
     node: NodeRef<'d>,
-    steps: &mut Steps<L>,
+    steps: &mut Steps,
     gathered: &mut Gathered<'d>,
 ) -> bool
     ensures { Sought (taken_value search.entry.aim gathered.old) (below search.entry.how links.now (node_value node.entry)) (taken_value search.entry.aim gathered.new) result steps.old steps.new }
@@ -178,11 +173,11 @@ fn seek_apart<'d, L: Ledger>(
 
 // The members under a key of a node that is not unwrapped, each at the end of the accessors.
 #[inline(always)]
-fn take_members<'d, L: Ledger>(
+fn take_members<'d>(
     search: &Search<'_, 'd>,
     key: &str,
     node: NodeRef<'d>,
-    steps: &mut Steps<L>,
+    steps: &mut Steps,
     gathered: &mut Gathered<'d>,
 ) -> bool
     ensures { Sought (taken_value search.now.aim gathered.old) (under search.now.how key.now [] (node_value node.entry)) (taken_value search.now.aim gathered.new) result steps.old steps.new }
@@ -202,12 +197,12 @@ fn take_members<'d, L: Ledger>(
 
 // Goes through what accessors give of a node, as `seek` does, where items are just looked for.
 #[inline(always)]
-fn look_short<'d, L: Ledger>(
+fn look_short<'d>(
     how: Opening,
     limit: Limit,
     links: &[Link<'d>],
     node: NodeRef<'d>,
-    steps: &mut Steps<L>,
+    steps: &mut Steps,
     gathered: &mut Gathered<'d>,
 ) -> bool
     ensures { Sought (taken_value (Aim.Look limit) gathered.old) (below how links.now (node_value node.entry)) (taken_value (Aim.Look limit) gathered.new) result steps.old steps.new }
@@ -229,12 +224,12 @@ fn look_short<'d, L: Ledger>(
 // The same for the members under a key of the members under another one. Both are gone through in place, and mostly nothing that
 // recurs is called.
 #[inline(never)]
-fn look_members<'d, L: Ledger>(
+fn look_members<'d>(
     limit: Limit,
     outer: &'d str,
     inner: &'d str,
     node: NodeRef<'d>,
-    steps: &mut Steps<L>,
+    steps: &mut Steps,
     gathered: &mut Gathered<'d>,
 ) -> bool
     ensures { Sought (taken_value (Aim.Look limit) gathered.old) (below Opening.AsItIs (member_under outer.now ∷ member_under inner.now ∷ []) (node_value node.entry)) (taken_value (Aim.Look limit) gathered.new) result steps.old steps.new }
@@ -254,12 +249,12 @@ fn look_members<'d, L: Ledger>(
 
 // The members under a key of the members under another one of a node that is not unwrapped, each at the end of the accessors.
 #[inline(always)]
-fn seek_inner<'d, L: Ledger>(
+fn seek_inner<'d>(
     search: &Search<'_, 'd>,
     outer: &str,
     inner: &'d str,
     node: NodeRef<'d>,
-    steps: &mut Steps<L>,
+    steps: &mut Steps,
     gathered: &mut Gathered<'d>,
 ) -> bool
     ensures { Sought (taken_value search.now.aim gathered.old) (under search.now.how outer.now (member_under inner.now ∷ []) (node_value node.entry)) (taken_value search.now.aim gathered.new) result steps.old steps.new }
@@ -332,11 +327,11 @@ fn index_of(number: Decimal) -> Option<u32>
 // last member under a key or to an element. All other ways are functions of their own, so that a turn has few values to keep. What was
 // gathered comes last, since it may lie on the stack: no turn but the last one asks for it.
 #[cycle(seek)]
-fn seek<'d, L: Ledger>(
+fn seek<'d>(
     search: &Search<'_, 'd>,
     links: &[Link<'d>],
     node: NodeRef<'d>,
-    steps: &mut Steps<L>,
+    steps: &mut Steps,
     gathered: &mut Gathered<'d>,
 ) -> bool
     ensures { Sought (taken_value search.now.aim gathered.old) (below search.now.how links.now (node_value node.entry)) (taken_value search.now.aim gathered.new) result steps.old steps.new }
@@ -362,10 +357,10 @@ fn seek<'d, L: Ledger>(
 
 // A node at the end of the accessors.
 #[inline(always)]
-fn take_opened<'d, L: Ledger>(
+fn take_opened<'d>(
     search: &Search<'_, 'd>,
     node: NodeRef<'d>,
-    steps: &mut Steps<L>,
+    steps: &mut Steps,
     gathered: &mut Gathered<'d>,
 ) -> bool
     ensures { Sought (taken_value search.now.aim gathered.old) (opened search.now.how Lax (node_value node.entry)) (taken_value search.now.aim gathered.new) result steps.old steps.new }
@@ -381,10 +376,10 @@ fn take_opened<'d, L: Ledger>(
 
 // The same as `take_elements`, with a copy of the aim.
 #[inline(always)]
-fn take_elements_apart<'d, L: Ledger>(
+fn take_elements_apart<'d>(
     aim: Aim<'_, 'd>,
     array: NodeRef<'d>,
-    steps: &mut Steps<L>,
+    steps: &mut Steps,
     gathered: &mut Gathered<'d>,
 ) -> bool
     ensures { Sought (taken_value aim.entry gathered.old) (elements_of (numbered (node_id array.entry + 1) (children (node_tree array.entry)))) (taken_value aim.entry gathered.new) result steps.old steps.new }
@@ -394,10 +389,10 @@ fn take_elements_apart<'d, L: Ledger>(
 
 // The elements of an array.
 #[inline(never)]
-fn take_elements<'d, L: Ledger>(
+fn take_elements<'d>(
     aim: &Aim<'_, 'd>,
     array: NodeRef<'d>,
-    steps: &mut Steps<L>,
+    steps: &mut Steps,
     gathered: &mut Gathered<'d>,
 ) -> bool
     ensures { Sought (taken_value aim.now gathered.old) (elements_of (numbered (node_id array.entry + 1) (children (node_tree array.entry)))) (taken_value aim.now gathered.new) result steps.old steps.new }
@@ -413,11 +408,7 @@ fn take_elements<'d, L: Ledger>(
 
 // The element of an array at an index. The elements before it are handed out too, but none is where the array is shorter.
 #[inline(always)]
-fn element_at<'d, L: Ledger>(
-    array: NodeRef<'d>,
-    index: u32,
-    steps: &mut Steps<L>,
-) -> Option<NodeRef<'d>>
+fn element_at<'d>(array: NodeRef<'d>, index: u32, steps: &mut Steps) -> Option<NodeRef<'d>>
     ensures { Reaches (element index (numbered (node_id array.entry + 1) (children (node_tree array.entry)))) result (index + 1) steps.old steps.new }
 {
     if array.len() <= u64::from(index) {
@@ -437,11 +428,11 @@ fn element_at<'d, L: Ledger>(
 // What accessors give of all elements of an array. An item that is no array has itself.
 #[cycle(seek)]
 #[inline(never)]
-fn seek_elements<'d, L: Ledger>(
+fn seek_elements<'d>(
     search: &Search<'_, 'd>,
     rest: &[Link<'d>],
     node: NodeRef<'d>,
-    steps: &mut Steps<L>,
+    steps: &mut Steps,
     gathered: &mut Gathered<'d>,
 ) -> bool
     ensures { Sought (taken_value search.now.aim gathered.old) (below search.now.how (Link.AllElements ∷ rest.now) (node_value node.entry)) (taken_value search.now.aim gathered.new) result steps.old steps.new }
@@ -462,12 +453,12 @@ fn seek_elements<'d, L: Ledger>(
 // What accessors give of the element at an index of an item that is no array. It has itself at the index 0.
 #[cycle(seek)]
 #[inline(never)]
-fn seek_itself<'d, L: Ledger>(
+fn seek_itself<'d>(
     search: &Search<'_, 'd>,
     index: u32,
     rest: &[Link<'d>],
     node: NodeRef<'d>,
-    steps: &mut Steps<L>,
+    steps: &mut Steps,
     gathered: &mut Gathered<'d>,
 ) -> bool
     requires { kind_of (node_tree node) ≢ Kind.Array }
@@ -479,12 +470,12 @@ fn seek_itself<'d, L: Ledger>(
 // What a member under a key and the accessors behind it give of the elements of an array, which is unwrapped.
 #[cycle(seek)]
 #[inline(never)]
-fn seek_under<'d, L: Ledger>(
+fn seek_under<'d>(
     search: &Search<'_, 'd>,
     key: &str,
     rest: &[Link<'d>],
     array: NodeRef<'d>,
-    steps: &mut Steps<L>,
+    steps: &mut Steps,
     gathered: &mut Gathered<'d>,
 ) -> bool
     ensures { Sought (taken_value search.now.aim gathered.old) (over search.now.how key.now rest.now (numbered (node_id array.entry + 1) (children (node_tree array.entry)))) (taken_value search.now.aim gathered.new) result steps.old steps.new }
@@ -501,12 +492,12 @@ fn seek_under<'d, L: Ledger>(
 // The same of a node that is not unwrapped.
 #[cycle(seek)]
 #[inline(always)]
-fn seek_members<'d, L: Ledger>(
+fn seek_members<'d>(
     search: &Search<'_, 'd>,
     key: &str,
     rest: &[Link<'d>],
     node: NodeRef<'d>,
-    steps: &mut Steps<L>,
+    steps: &mut Steps,
     gathered: &mut Gathered<'d>,
 ) -> bool
     ensures { Sought (taken_value search.now.aim gathered.old) (under search.now.how key.now rest.now (node_value node.entry)) (taken_value search.now.aim gathered.new) result steps.old steps.new }

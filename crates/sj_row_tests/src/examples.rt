@@ -1,7 +1,7 @@
 //! The examples that the documentation of `sj_path` and `sj_func` names: query functions on `{"a":[1,2],"b":"x"}`.
 
 use super::cases::expect;
-use sj_base::{Steps, Tally};
+use sj_base::Steps;
 use sj_cursor::Cursor;
 use sj_doc::Doc;
 use sj_func::{Context, Outcome, is_json, json_exists, json_query, json_value};
@@ -33,7 +33,7 @@ fn shown(outcome: &Outcome) -> &str {
 
 /// JSON_EXISTS, JSON_VALUE with ERROR ON ERROR and JSON_QUERY with a wrapper, with a space between them.
 fn outcomes(alloc: Global, path: &Path, doc: &Doc) -> Result<String, Fail> {
-    let (vars, mut steps) = (Vars::new(alloc), Steps::new(Tally::new()));
+    let (vars, mut steps) = (Vars::new(alloc), Steps::new());
     let root = Item::Node(doc.root());
     let mut cursor = Cursor::new(alloc, path, &vars, root)?;
     let context = Context::Item(root);

@@ -1,7 +1,7 @@
 // Each call with ample memory, its answer compared; the objects in memory by tables of failing calls and cuts; the
 // adapters over fakes and a file.
 use super::cases::{expect, expect_count};
-use sj_base::{Bytes, Ledger, Memory, Steps, Tally, Text};
+use sj_base::{Bytes, Memory, Steps, Text};
 use sj_outside::{
     CountSink, Failed, FileShelf, MemShelf, MemSink, MemSource, QuietShelf, QuietSource, Shelf,
     Sink, Source, StderrSink, StdinSource, StdoutSink,
@@ -35,12 +35,10 @@ fn texts_and_bytes_are_what_was_put_in(rt: HostRuntime) -> Result<(), Fail> {
 
 #[test]
 fn steps_are_counted(rt: HostRuntime) {
-    let mut tally = Tally::new();
-    tally.raise();
-    let mut steps = Steps::new(tally);
+    let mut steps = Steps::new();
     steps.tick();
     steps.tick();
-    expect_count(&rt, steps.ledger().count(), 3);
+    expect_count(&rt, steps.count(), 2);
 }
 
 /// Reads into four places once for each wanted answer, and compares the bytes.

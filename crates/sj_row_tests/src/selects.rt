@@ -5,7 +5,7 @@ ghost use Rattle.sj_bound.specs.Sound.{IsSound};
 ghost use Rattle.sj_bound.specs.View.{bound_of};
 
 use super::cases::expect;
-use sj_base::{Bytes, Steps, Tally};
+use sj_base::{Bytes, Steps};
 use sj_bind::{BindRefusal, Bound, bind};
 use sj_doc::Doc;
 use sj_read::read;
@@ -34,14 +34,14 @@ fn bound(alloc: Global, text: &str) -> Result<Bound, Fail>
 
 /// How many rows are left and the end behind them. The end comes again, with no text and without a step.
 fn shown(rt: &impl Abort, alloc: Global, rows: &mut RowsOf<'_>) -> Result<String, Fail> {
-    let mut steps = Steps::new(Tally::new());
+    let mut steps = Steps::new();
     for count in 0..100 {
         let mut out = Bytes::new(alloc);
         let turn = rows.print(&mut out, 3, 2, &mut steps)?;
         if turn != Turn::Row {
-            let spent = steps.ledger().count();
+            let spent = steps.count();
             assert!(rt; rows.print(&mut out, 3, 2, &mut steps)? == turn);
-            assert!(rt; out.as_slice().is_empty() && steps.ledger().count() == spent);
+            assert!(rt; out.as_slice().is_empty() && steps.count() == spent);
             let end = if let Turn::Raised(state) = turn {
                 state.code()
             } else {
@@ -81,7 +81,7 @@ fn expect_lines<'d>(
     for _ in 0..2 {
         for (line, want) in lines.iter().zip(wants.split(" ; ")) {
             rows.rewind(LineDoc::Json(first));
-            rows.print(&mut Bytes::new(alloc), 3, 2, &mut Steps::new(Tally::new()))?;
+            rows.print(&mut Bytes::new(alloc), 3, 2, &mut Steps::new())?;
             rows.rewind(*line);
             expect(rt, shown(rt, alloc, &mut rows)?.as_str(), want, wants);
         }

@@ -24,21 +24,21 @@ use crate::check::check_file;
 use crate::generate::run_generated;
 use crate::notes::tell;
 use crate::stream::stream;
-use sj_base::{Ledger, Steps};
+use sj_base::Steps;
 use sj_file::{Form, Job, Keys, Status, accept, form_of};
 use sj_outside::{Shelf, Sink, Source};
 use sj_page::Page;
 use std::alloc::Global;
 
 /// Runs the statements of a file over an input.
-fn run_file<H: Shelf, I: Source, O: Sink, L: Ledger>(
+fn run_file<H: Shelf, I: Source, O: Sink>(
     alloc: Global,
     keys: Keys,
     name: &str,
     shelf: &mut H,
     input: &mut I,
     out: &mut O,
-    steps: &mut Steps<L>,
+    steps: &mut Steps,
 ) -> Status
     ensures ran { Ran (Some (running keys name.now))
         (moment_at H.Shelf I.Source O.Sink shelf.old input.old steps.old out.old)
@@ -63,14 +63,14 @@ fn run_file<H: Shelf, I: Source, O: Sink, L: Ledger>(
 ///
 /// Example: the words `run f`, a file `f` with `SELECT JSON_EXISTS(doc, 'lax $.a.b');` and the line `{"a":{"b":null}}`
 /// write `1`, `1`, `R` and `TRUE`, with TABs between them (`sj_run_tests::faults::lines_in_any_cut`).
-pub fn run<H: Shelf, I: Source, O: Sink, N: Sink, L: Ledger>(
+pub fn run<H: Shelf, I: Source, O: Sink, N: Sink>(
     alloc: Global,
     words: &[String],
     shelf: &mut H,
     input: &mut I,
     out: &mut O,
     notes: &mut N,
-    steps: &mut Steps<L>,
+    steps: &mut Steps,
 ) -> Status
     // Why it ended so, and what it had written. All clauses below follow from this one, but for `notes` and those that
     // say that an object is as it was.
@@ -224,13 +224,13 @@ pub fn run<H: Shelf, I: Source, O: Sink, N: Sink, L: Ledger>(
 }
 
 /// Does what the words ask for, and tells nothing. It is not given the notes, so the status does not depend on them.
-fn answer<H: Shelf, I: Source, O: Sink, L: Ledger>(
+fn answer<H: Shelf, I: Source, O: Sink>(
     alloc: Global,
     words: &[String],
     shelf: &mut H,
     input: &mut I,
     out: &mut O,
-    steps: &mut Steps<L>,
+    steps: &mut Steps,
 ) -> Status
     ensures ran { Ran (command words.now)
         (moment_at H.Shelf I.Source O.Sink shelf.old input.old steps.old out.old)

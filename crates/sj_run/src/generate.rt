@@ -8,7 +8,7 @@ ghost use Rattle.sj_run.specs.Ran.{IsBefore, Ran, moment, out_at};
 
 use crate::stream::stream;
 use itoa::Buffer;
-use sj_base::{Ledger, Steps};
+use sj_base::Steps;
 use sj_file::{Job, Keys, Status, accept};
 use sj_generated::GeneratedSource;
 use sj_outside::{CountSink, Failed, Shelf, Sink};
@@ -42,13 +42,13 @@ fn write_summary<O: Sink>(out: &mut O, lines: u32, counts: Counts, bytes: u64) -
 
 /// Runs the statements of a file over so many generated lines, keeps nothing of their output, and tells how much it is.
 /// It reads no input.
-pub(crate) fn run_generated<H: Shelf, O: Sink, L: Ledger>(
+pub(crate) fn run_generated<H: Shelf, O: Sink>(
     alloc: Global,
     number: u32,
     name: &str,
     shelf: &mut H,
     out: &mut O,
-    steps: &mut Steps<L>,
+    steps: &mut Steps,
 ) -> Status
     requires { number ≤ most_lines }
     ensures ran { (left : Option (List ℕ)) (faults : ℕ) → Ran (Some (generating number name.now))

@@ -10,7 +10,7 @@ ghost use Rattle.sj_run.specs.Output.{rows_given, rows_print, prints, cost_given
 ghost use Rattle.sj_run.specs.Batch.{line_read, batch_asked, bounds_in};
 
 use crate::batch::{Batch, Behind, ReadLine, Reading};
-use sj_base::{Ledger, Memory, Steps, push};
+use sj_base::{Memory, Steps, push};
 use sj_bound::Bound;
 use sj_file::Job;
 use sj_outside::Sink;
@@ -45,14 +45,14 @@ fn rows_of<'a>(alloc: Global, statements: &'a [Bound]) -> Result<Vec<RowsOf<'a>>
 }
 
 /// Prints what a statement gives for a line. Each row is made on the page.
-fn print_statement<'a, O: Sink, L: Ledger>(
+fn print_statement<'a, O: Sink>(
     out: &mut O,
     page: &mut Page,
     number: u64,
     statement: u32,
     rows: &mut RowsOf<'a>,
     line: LineDoc<'a>,
-    steps: &mut Steps<L>,
+    steps: &mut Steps,
 ) -> Result<(), Stop>
     ensures prints { Prints (rows_print number statement (rows_given (bound_of rows.old.bound) (line_of line.entry)))
         (print_state O.taken O.size O.faults out.old page.old) (print_state O.taken O.size O.faults out.new page.new) result }
@@ -82,12 +82,12 @@ fn print_statement<'a, O: Sink, L: Ledger>(
 }
 
 /// Prints the rows of the statements for a line.
-fn print_rows<'a, O: Sink, L: Ledger>(
+fn print_rows<'a, O: Sink>(
     out: &mut O,
     page: &mut Page,
     rows: &mut [RowsOf<'a>],
     line: &'a ReadLine,
-    steps: &mut Steps<L>,
+    steps: &mut Steps,
 ) -> Result<(), Stop>
     requires { length rows.old < statement_limit }
     ensures prints { Prints (prints (asked_from 1 (bounds_in rows.old) line.now.number (line_read line.now.reading)))
@@ -116,13 +116,13 @@ fn print_rows<'a, O: Sink, L: Ledger>(
 }
 
 /// Prints the rows of lines that were read. The cursors of the statements are made for all of them together.
-fn print_batch<O: Sink, L: Ledger>(
+fn print_batch<O: Sink>(
     alloc: Global,
     out: &mut O,
     page: &mut Page,
     job: &Job,
     lines: &[ReadLine],
-    steps: &mut Steps<L>,
+    steps: &mut Steps,
 ) -> Result<(), Stop>
     requires { IsReady job.now }
     ensures prints { Prints (prints (batch_asked (job_of job.now).statements lines.now))
@@ -147,14 +147,14 @@ fn print_batch<O: Sink, L: Ledger>(
 }
 
 /// Prints the rows of the lines that wait. The page is written where it is long, in the middle of a line too.
-pub(crate) fn print_lines<O: Sink, L: Ledger>(
+pub(crate) fn print_lines<O: Sink>(
     alloc: Global,
     out: &mut O,
     page: &mut Page,
     job: &Job,
     lines: &mut Lines,
     batch: &mut Batch,
-    steps: &mut Steps<L>,
+    steps: &mut Steps,
 ) -> Result<(), Stop>
     requires { IsReady job.now }
     ensures prints { Prints (prints (lines_asked (job_of job.now) (lines.old.given + 1) lines.old.waiting))

@@ -15,7 +15,7 @@ ghost use Rattle.sj_run.specs.Stream.{GoesOn, Streamed, Turned};
 
 use crate::batch::Batch;
 use crate::rows::print_lines;
-use sj_base::{Ledger, Steps};
+use sj_base::Steps;
 use sj_file::{Job, MAX_PIECE, Status, front, piece_len};
 use sj_outside::{Sink, Source};
 use sj_page::{Page, Stop};
@@ -32,14 +32,14 @@ enum Progress {
 }
 
 /// Prints the rows of the lines that wait, and writes them.
-fn flush<O: Sink, L: Ledger>(
+fn flush<O: Sink>(
     alloc: Global,
     job: &Job,
     lines: &mut Lines,
     batch: &mut Batch,
     out: &mut O,
     page: &mut Page,
-    steps: &mut Steps<L>,
+    steps: &mut Steps,
 ) -> Result<(), Stop>
     requires { IsReady job.now }
     ensures prints { Prints (prints (lines_asked (job_of job.now) (lines.old.given + 1) lines.old.waiting))
@@ -65,7 +65,7 @@ fn status_of(stop: Stop) -> Status
 }
 
 /// Reads a piece, and writes the rows of the lines that are whole with it.
-fn turn<I: Source, O: Sink, L: Ledger>(
+fn turn<I: Source, O: Sink>(
     alloc: Global,
     job: &Job,
     input: &mut I,
@@ -75,7 +75,7 @@ fn turn<I: Source, O: Sink, L: Ledger>(
     batch: &mut Batch,
     out: &mut O,
     page: &mut Page,
-    steps: &mut Steps<L>,
+    steps: &mut Steps,
 ) -> Progress
     requires ready { IsReady job.now }
     requires some_room { 0 < room }
@@ -110,13 +110,13 @@ fn turn<I: Source, O: Sink, L: Ledger>(
 }
 
 /// Writes the output of the lines of an input. The page begins empty, and has counted the rows when the run is done.
-pub(crate) fn stream<I: Source, O: Sink, L: Ledger>(
+pub(crate) fn stream<I: Source, O: Sink>(
     alloc: Global,
     job: &Job,
     input: &mut I,
     out: &mut O,
     page: &mut Page,
-    steps: &mut Steps<L>,
+    steps: &mut Steps,
 ) -> Status
     requires ready { IsReady job.now }
     requires empty { page.old ≡ empty_page }
@@ -130,14 +130,14 @@ pub(crate) fn stream<I: Source, O: Sink, L: Ledger>(
 }
 
 /// The same, in pieces of the buffer's length.
-fn stream_by<I: Source, O: Sink, L: Ledger>(
+fn stream_by<I: Source, O: Sink>(
     alloc: Global,
     job: &Job,
     input: &mut I,
     buffer: &mut [u8],
     out: &mut O,
     page: &mut Page,
-    steps: &mut Steps<L>,
+    steps: &mut Steps,
 ) -> Status
     requires ready { IsReady job.now }
     requires empty { page.old ≡ empty_page }

@@ -1,5 +1,5 @@
 //! Runs over the objects in memory, and what they gave.
-use sj_base::{Steps, Tally, Text};
+use sj_base::{Steps, Text};
 use sj_file::Status;
 use sj_outside::{MemShelf, MemSink, MemSource};
 use sj_run::run;
@@ -71,7 +71,7 @@ fn ended(
     shelf: &mut MemShelf,
     input: &mut MemSource,
     (out, notes): (&mut MemSink, &mut MemSink),
-    steps: &mut Steps<Tally>,
+    steps: &mut Steps,
 ) -> Status {
     run(alloc, words, shelf, input, out, notes, steps)
 }
@@ -85,7 +85,7 @@ fn run_between(
 ) -> Result<Outcome, Fail> {
     let mut out = MemSink::new(alloc, setup.room, Vec::new(alloc))?;
     let mut notes = MemSink::new(alloc, setup.note_room, Vec::new(alloc))?;
-    let mut steps = Steps::new(Tally::new());
+    let mut steps = Steps::new();
     let status = ended(
         alloc,
         words,
@@ -99,7 +99,7 @@ fn run_between(
         out: out.bytes().to_vec(alloc)?,
         notes: notes.bytes().to_vec(alloc)?,
         reads: input.calls(),
-        steps: steps.ledger().count(),
+        steps: steps.count(),
     })
 }
 

@@ -9,7 +9,7 @@ ghost use Rattle.sj_select_list.specs.Gathers.{Gathers};
 ghost use Rattle.sj_select.specs.Columns.{column_outcome, column_cost, columns_given, columns_cost, ordinality_of, with_variables};
 ghost use Rattle.sj_select.specs.Filling.{column_of, regular_column, formatted_column, exists_column, CanFill};
 
-use sj_base::{Ledger, Memory, State, Steps, push};
+use sj_base::{Memory, State, Steps, push};
 use sj_bound::{BoundColumn, BoundTable};
 use sj_func::{Context, Outcome};
 use sj_item::Item;
@@ -63,11 +63,11 @@ pub(crate) struct ExistsColumn<'d> {
 
 impl<'d> Column<'d> {
     // The value in the row at hand: NULL where its path has no item there.
-    fn outcome<L: Ledger>(
+    fn outcome(
         &mut self,
         alloc: Global,
         row: &TableCursor<'d>,
-        steps: &mut Steps<L>,
+        steps: &mut Steps,
     ) -> Result<Outcome, Memory>
         requires { CanFill (column_of self.old) }
         ensures outcome { IfOk result (λ o. o ≡ column_outcome row.now.given (column_of self.old)) }
@@ -85,11 +85,11 @@ impl<'d> Column<'d> {
 }
 
 impl<'d> RegularColumn<'d> {
-    fn outcome<L: Ledger>(
+    fn outcome(
         &mut self,
         alloc: Global,
         row: &TableCursor<'d>,
-        steps: &mut Steps<L>,
+        steps: &mut Steps,
     ) -> Result<Outcome, Memory>
         requires { CanFill (regular_column self.old) }
         ensures outcome { IfOk result (λ o. o ≡ column_outcome row.now.given (regular_column self.old)) }
@@ -105,11 +105,11 @@ impl<'d> RegularColumn<'d> {
 }
 
 impl<'d> FormattedColumn<'d> {
-    fn outcome<L: Ledger>(
+    fn outcome(
         &mut self,
         alloc: Global,
         row: &TableCursor<'d>,
-        steps: &mut Steps<L>,
+        steps: &mut Steps,
     ) -> Result<Outcome, Memory>
         ensures outcome { IfOk result (λ o. o ≡ column_outcome row.now.given (formatted_column self.old)) }
         ensures printed { IfOk result IsPrinted }
@@ -124,7 +124,7 @@ impl<'d> FormattedColumn<'d> {
 }
 
 impl<'d> ExistsColumn<'d> {
-    fn outcome<L: Ledger>(&mut self, row: &TableCursor<'d>, steps: &mut Steps<L>) -> Outcome
+    fn outcome(&mut self, row: &TableCursor<'d>, steps: &mut Steps) -> Outcome
         ensures outcome { result ≡ column_outcome row.now.given (exists_column self.old) }
         ensures printed { IsPrinted result }
         ensures costs { steps.new ≤ raised steps.old (column_cost row.now.given (exists_column self.old)) }
@@ -204,12 +204,12 @@ fn push_column<'d>(
 ///
 /// # Errors
 /// [`Memory`] where memory runs out. What is said of the counter holds then too.
-pub(crate) fn fill<'d, L: Ledger>(
+pub(crate) fn fill<'d>(
     alloc: Global,
     columns: &mut [Column<'d>],
     row: &TableCursor<'d>,
     values: &mut Vec<SqlValue>,
-    steps: &mut Steps<L>,
+    steps: &mut Steps,
 ) -> Result<Option<State>, Memory>
     requires { All CanFill (map column_of columns.old) }
     ensures fills { IfOk result (λ raised. Gathers (columns_given (map column_of columns.old) row.now.given) raised values.new.items) }

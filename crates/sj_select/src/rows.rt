@@ -13,7 +13,7 @@ ghost use Rattle.sj_select.specs.Sources.{IsFor, IsReadySource, Prints, source_l
 ghost use Rattle.sj_select.specs.Stages.{left_at, due_at, turn_for, stage_behind, EndsText};
 
 use crate::source::{Found, RowSource};
-use sj_base::{Bytes, Ledger, Memory, State, Steps};
+use sj_base::{Bytes, Memory, State, Steps};
 use sj_bound::Bound;
 use sj_rows::{RowHead, end_row};
 use sj_select_list::LineDoc;
@@ -72,13 +72,13 @@ impl Stage {
 
     // Appends the fields of what comes next of the rows that have come so far. An end comes again, without a step.
     #[inline(always)]
-    fn print<'d, L: Ledger>(
+    fn print<'d>(
         self,
         alloc: Global,
         source: &mut RowSource<'d>,
         line: LineDoc<'d>,
         out: &mut Bytes,
-        steps: &mut Steps<L>,
+        steps: &mut Steps,
     ) -> Result<Found, Memory>
         requires { IsReadySource source.old }
         ensures prints { (s : b.Bound) → IsFor s source.old → IfOk result (λ found. Prints (left_at self (source_left s (line_of line.entry) source.old)) found out.old out.new (source_left s (line_of line.entry) source.new)) }
@@ -216,12 +216,12 @@ impl<'d> RowsOf<'d> {
     /// [`Memory`] where memory runs out. `out` stays as it was, and what is said of the counter holds. The rows then stand anywhere, and are
     /// rewound before they are used again.
     #[inline(always)]
-    pub fn print<L: Ledger>(
+    pub fn print(
         &mut self,
         out: &mut Bytes,
         number: u64,
         statement: u32,
-        steps: &mut Steps<L>,
+        steps: &mut Steps,
     ) -> Result<Turn, Memory>
         ensures gives { IfOk result (Gives self.old self.new) }
         ensures text { OnOk result (out.new ≡ out.old ++ next_text number statement self.old.left) }
@@ -242,13 +242,13 @@ impl<'d> RowsOf<'d> {
 
     // The same, behind the place. Where memory runs out, something may stand there.
     #[inline(always)]
-    fn print_behind<L: Ledger>(
+    fn print_behind(
         &mut self,
         start: usize,
         out: &mut Bytes,
         number: u64,
         statement: u32,
-        steps: &mut Steps<L>,
+        steps: &mut Steps,
     ) -> Result<Turn, Memory>
         requires { start ≡ length out.old }
         ensures gives { IfOk result (Gives self.old self.new) }

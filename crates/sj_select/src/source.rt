@@ -18,7 +18,7 @@ ghost use Rattle.sj_select.specs.Sources.{IsFor, IsTableOf, IsPlacedIfAny, IsRea
 ghost use Rattle.sj_select.specs.Tables.{IsPlaced, plan_left, plan_due};
 
 use crate::table::TableRows;
-use sj_base::{Bytes, Ledger, Memory, State, Steps};
+use sj_base::{Bytes, Memory, State, Steps};
 use sj_bound::Bound;
 use sj_rows::fields_text;
 use sj_select_list::{
@@ -95,12 +95,12 @@ impl<'d> RowSource<'d> {
     /// # Errors
     /// [`Memory`] where memory runs out. The rows then stand anywhere.
     #[inline(always)]
-    pub(crate) fn print<L: Ledger>(
+    pub(crate) fn print(
         &mut self,
         alloc: Global,
         line: LineDoc<'d>,
         out: &mut Bytes,
-        steps: &mut Steps<L>,
+        steps: &mut Steps,
     ) -> Result<Found, Memory>
         requires { IsReadySource self.old }
         ensures prints { (s : b.Bound) → IsFor s self.old → IfOk result (λ found. Prints (source_left s (line_of line.entry) self.old) found out.old out.new (source_left s (line_of line.entry) self.new)) }
@@ -136,13 +136,13 @@ fn table_rows<'d>(alloc: Global, bound: &'d Bound) -> Result<Option<Box<TableRow
 
 // The row of a statement without a table.
 #[inline(always)]
-fn print_alone<'d, L: Ledger>(
+fn print_alone<'d>(
     alloc: Global,
     operations: &mut [Operation<'d>],
     line: LineDoc<'d>,
     out: &mut Bytes,
     stack: &mut Stack,
-    steps: &mut Steps<L>,
+    steps: &mut Steps,
 ) -> Result<Found, Memory>
     requires given { All CanBeGiven (steps_of operations.old) }
     requires printable { All IsPrintable stack.old.values.items }
@@ -162,14 +162,14 @@ fn print_alone<'d, L: Ledger>(
 
 // The next row of a table, beside which the SELECT list is found.
 #[inline(never)]
-fn print_listed<'d, L: Ledger>(
+fn print_listed<'d>(
     alloc: Global,
     table: &mut TableRows<'d>,
     operations: &mut [Operation<'d>],
     line: LineDoc<'d>,
     out: &mut Bytes,
     stack: &mut Stack,
-    steps: &mut Steps<L>,
+    steps: &mut Steps,
 ) -> Result<Found, Memory>
     requires placed { IsPlaced table.old }
     requires given { All CanBeGiven (steps_of operations.old) }
@@ -201,14 +201,14 @@ fn print_listed<'d, L: Ledger>(
 
 // The one row of the aggregates over all rows of a table that are left.
 #[inline(never)]
-fn print_aggregated<'d, L: Ledger>(
+fn print_aggregated<'d>(
     alloc: Global,
     table: &mut TableRows<'d>,
     aggregates: &mut [Aggregate<'d>],
     line: LineDoc<'d>,
     out: &mut Bytes,
     stack: &mut Stack,
-    steps: &mut Steps<L>,
+    steps: &mut Steps,
 ) -> Result<Found, Memory>
     requires placed { IsPlaced table.old }
     requires ready { All IsReady aggregates.old }
@@ -231,13 +231,13 @@ fn print_aggregated<'d, L: Ledger>(
 }
 
 // Has the aggregates take all rows of a table that are left, up to the first state that is raised, which is given.
-fn take_rows<'d, L: Ledger>(
+fn take_rows<'d>(
     alloc: Global,
     table: &mut TableRows<'d>,
     aggregates: &mut [Aggregate<'d>],
     line: LineDoc<'d>,
     stack: &mut Stack,
-    steps: &mut Steps<L>,
+    steps: &mut Steps,
 ) -> Result<Option<State>, Memory>
     requires placed { IsPlaced table.old }
     requires ready { All IsReady aggregates.old }
@@ -264,13 +264,13 @@ fn take_rows<'d, L: Ledger>(
 }
 
 // Has the aggregates take the row of a table that is at hand.
-fn take_row<'d, L: Ledger>(
+fn take_row<'d>(
     alloc: Global,
     table: &mut TableRows<'d>,
     aggregates: &mut [Aggregate<'d>],
     line: LineDoc<'d>,
     stack: &mut Stack,
-    steps: &mut Steps<L>,
+    steps: &mut Steps,
 ) -> Result<Option<State>, Memory>
     requires placed { IsPlaced table.old }
     requires ready { All IsReady aggregates.old }

@@ -13,7 +13,7 @@ ghost use Rattle.sj_select.specs.Rows.{rows_on, rows_cost_on};
 ghost use Rattle.sj_select.specs.Tables.{IsPlaced, plan_left, plan_due};
 
 use crate::columns::{Column, columns_of, fill};
-use sj_base::{Ledger, Memory, State, Steps, boxed};
+use sj_base::{Memory, State, Steps, boxed};
 use sj_bound::BoundTable;
 use sj_func::Context;
 use sj_item::Item;
@@ -86,7 +86,7 @@ impl<'d> TableRows<'d> {
     }
 
     /// The next row of the plan, or the end.
-    pub(crate) fn next_row<L: Ledger>(&mut self, steps: &mut Steps<L>) -> RowPull
+    pub(crate) fn next_row(&mut self, steps: &mut Steps) -> RowPull
         requires { IsPlaced self.old }
         ensures takes { Takes (plan_left self.old) (plan_due self.old) result self.new.cursor.given (plan_left self.new) (plan_due self.new) steps.old steps.new }
         ensures table { self.new.table ≡ self.old.table }
@@ -105,11 +105,7 @@ impl<'d> TableRows<'d> {
     ///
     /// # Errors
     /// [`Memory`] where memory runs out. What is said of the counter holds then too.
-    pub(crate) fn fill<L: Ledger>(
-        &mut self,
-        alloc: Global,
-        steps: &mut Steps<L>,
-    ) -> Result<Option<State>, Memory>
+    pub(crate) fn fill(&mut self, alloc: Global, steps: &mut Steps) -> Result<Option<State>, Memory>
         requires { IsPlaced self.old }
         ensures fills { IfOk result (λ raised. Gathers (columns_given (meaning.columns_of (table_of self.old.table.now)) self.old.cursor.given) raised self.new.values.items) }
         ensures costs { steps.new ≤ raised steps.old (columns_cost (meaning.columns_of (table_of self.old.table.now)) self.old.cursor.given) }

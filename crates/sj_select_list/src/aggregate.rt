@@ -15,7 +15,7 @@ ghost use Rattle.sj_select_list.specs.Taking.{CanTake, array_call, object_call, 
 use crate::finder::Finder;
 use crate::line::LineDoc;
 use crate::stack::Stack;
-use sj_base::{Ledger, Memory, State, Steps, push};
+use sj_base::{Memory, State, Steps, push};
 use sj_bound::{BoundItem, BoundValue};
 use sj_build::{ArrayAgg, BuildRefusal, ObjectAgg};
 use sj_value::{Nulls, SqlValue};
@@ -92,13 +92,13 @@ impl<'d> ArrayCall<'d> {
     }
 
     /// Takes the value of a row with these columns.
-    fn take<L: Ledger>(
+    fn take(
         &mut self,
         alloc: Global,
         line: LineDoc<'d>,
         columns: &[SqlValue],
         stack: &mut Stack,
-        steps: &mut Steps<L>,
+        steps: &mut Steps,
     ) -> Result<(), BuildRefusal>
         requires ready { IsArrayReady self.old }
         requires columns { All IsPrintable columns.now }
@@ -138,13 +138,13 @@ impl<'d> ObjectCall<'d> {
     }
 
     /// Takes the member of a row with these columns: first its key is found, then its value.
-    fn take<L: Ledger>(
+    fn take(
         &mut self,
         alloc: Global,
         line: LineDoc<'d>,
         columns: &[SqlValue],
         stack: &mut Stack,
-        steps: &mut Steps<L>,
+        steps: &mut Steps,
     ) -> Result<(), BuildRefusal>
         requires ready { IsObjectReady self.old }
         requires columns { All IsPrintable columns.now }
@@ -189,13 +189,13 @@ impl<'d> Aggregate<'d> {
         }
     }
 
-    fn take<L: Ledger>(
+    fn take(
         &mut self,
         alloc: Global,
         line: LineDoc<'d>,
         columns: &[SqlValue],
         stack: &mut Stack,
-        steps: &mut Steps<L>,
+        steps: &mut Steps,
     ) -> Result<(), BuildRefusal>
         requires ready { IsReady self.old }
         requires columns { All IsPrintable columns.now }
@@ -314,13 +314,13 @@ pub fn begin_all<'d>(alloc: Global, all: &mut [Aggregate<'d>])
 ///
 /// # Errors
 /// [`Memory`] where memory runs out. What is said of the counter holds then too.
-pub fn take_all<'d, L: Ledger>(
+pub fn take_all<'d>(
     alloc: Global,
     all: &mut [Aggregate<'d>],
     line: LineDoc<'d>,
     columns: &[SqlValue],
     stack: &mut Stack,
-    steps: &mut Steps<L>,
+    steps: &mut Steps,
 ) -> Result<Option<State>, Memory>
     requires ready { All IsReady all.old }
     requires columns { All IsPrintable columns.now }

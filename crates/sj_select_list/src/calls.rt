@@ -13,7 +13,7 @@ ghost use Rattle.sj_select_list.specs.Values.{trace_of};
 use crate::line::LineDoc;
 use crate::operation::{ExistsCall, QueryCall, ValueCall};
 use crate::stack::Stack;
-use sj_base::{Bytes, Ledger, Memory, State, Steps};
+use sj_base::{Bytes, Memory, State, Steps};
 use sj_func::{
     Context, Outcome, json_exists, json_query, json_query_field, json_value, json_value_field,
     outcome_field,
@@ -23,7 +23,7 @@ use std::alloc::Global;
 impl<'d> ExistsCall<'d> {
     /// The outcome on a context item, or on the error in its place. The counter rises by no more than what it may take. It takes no memory.
     #[inline(always)]
-    pub fn outcome<L: Ledger>(&mut self, context: Context<'d>, steps: &mut Steps<L>) -> Outcome
+    pub fn outcome(&mut self, context: Context<'d>, steps: &mut Steps) -> Outcome
         ensures outcome { let x = path_with self.old.cursor.value in result ≡ exists_outcome self.old.on_error x.path.mode (context_value context.entry) (trace_of x) }
         ensures printed { IsPrinted result }
         ensures costs { let x = path_with self.old.cursor.value in steps.new ≤ raised steps.old (exists_cost x.path.mode (context_value context.entry) (trace_of x)) }
@@ -34,11 +34,11 @@ impl<'d> ExistsCall<'d> {
 
     /// Puts the value on a stack, or gives the state that it raises.
     #[inline(never)]
-    pub(crate) fn put<L: Ledger>(
+    pub(crate) fn put(
         &mut self,
         line: LineDoc<'d>,
         stack: &mut Stack,
-        steps: &mut Steps<L>,
+        steps: &mut Steps,
     ) -> Result<Option<State>, Memory>
         requires printable { All IsPrintable stack.old.values.items }
         ensures does { let x = path_with self.old.cursor.value in IfOk result (λ raised. EndsIn (put_on (exists_outcome self.old.on_error x.path.mode (context (line_of line.entry)) (trace_of x)) (held stack.old)) raised (held stack.new)) }
@@ -52,11 +52,11 @@ impl<'d> ExistsCall<'d> {
 
     /// Appends a TAB and the field of the value, or gives the state that it raises.
     #[inline(never)]
-    pub(crate) fn print<L: Ledger>(
+    pub(crate) fn print(
         &mut self,
         line: LineDoc<'d>,
         out: &mut Bytes,
-        steps: &mut Steps<L>,
+        steps: &mut Steps,
     ) -> Result<Option<State>, Memory>
         ensures appends { let x = path_with self.old.cursor.value in AppendsOutcome (exists_outcome self.old.on_error x.path.mode (context (line_of line.entry)) (trace_of x)) result out.old out.new }
         ensures costs { let x = path_with self.old.cursor.value in steps.new ≤ raised steps.old (exists_cost x.path.mode (context (line_of line.entry)) (trace_of x)) }
@@ -73,11 +73,11 @@ impl<'d> ValueCall<'d> {
     /// # Errors
     /// [`Memory`] where memory runs out. What is said of the counter holds then too.
     #[inline(always)]
-    pub fn outcome<L: Ledger>(
+    pub fn outcome(
         &mut self,
         alloc: Global,
         context: Context<'d>,
-        steps: &mut Steps<L>,
+        steps: &mut Steps,
     ) -> Result<Outcome, Memory>
         requires { IsValueSpec self.old.clauses.now }
         ensures outcome { let x = path_with self.old.cursor.value in IfOk result (λ o. o ≡ value_outcome self.old.clauses.now x.path.mode (context_value context.entry) (trace_of x)) }
@@ -90,12 +90,12 @@ impl<'d> ValueCall<'d> {
 
     /// Puts the value on a stack, or gives the state that it raises.
     #[inline(never)]
-    pub(crate) fn put<L: Ledger>(
+    pub(crate) fn put(
         &mut self,
         alloc: Global,
         line: LineDoc<'d>,
         stack: &mut Stack,
-        steps: &mut Steps<L>,
+        steps: &mut Steps,
     ) -> Result<Option<State>, Memory>
         requires clauses { IsValueSpec self.old.clauses.now }
         requires printable { All IsPrintable stack.old.values.items }
@@ -110,12 +110,12 @@ impl<'d> ValueCall<'d> {
 
     /// Appends a TAB and the field of the value, or gives the state that it raises.
     #[inline(never)]
-    pub(crate) fn print<L: Ledger>(
+    pub(crate) fn print(
         &mut self,
         alloc: Global,
         line: LineDoc<'d>,
         out: &mut Bytes,
-        steps: &mut Steps<L>,
+        steps: &mut Steps,
     ) -> Result<Option<State>, Memory>
         requires { IsValueSpec self.old.clauses.now }
         ensures appends { let x = path_with self.old.cursor.value in AppendsOutcome (value_outcome self.old.clauses.now x.path.mode (context (line_of line.entry)) (trace_of x)) result out.old out.new }
@@ -138,11 +138,11 @@ impl<'d> QueryCall<'d> {
     ///
     /// # Errors
     /// [`Memory`] where memory runs out. What is said of the counter holds then too.
-    pub fn outcome<L: Ledger>(
+    pub fn outcome(
         &mut self,
         alloc: Global,
         context: Context<'d>,
-        steps: &mut Steps<L>,
+        steps: &mut Steps,
     ) -> Result<Outcome, Memory>
         ensures outcome { let x = path_with self.old.cursor.value in IfOk result (λ o. o ≡ query_outcome self.old.clauses x.path.mode (context_value context.entry) (trace_of x)) }
         ensures printed { IfOk result IsPrinted }
@@ -154,12 +154,12 @@ impl<'d> QueryCall<'d> {
 
     /// Puts the value on a stack, or gives the state that it raises.
     #[inline(never)]
-    pub(crate) fn put<L: Ledger>(
+    pub(crate) fn put(
         &mut self,
         alloc: Global,
         line: LineDoc<'d>,
         stack: &mut Stack,
-        steps: &mut Steps<L>,
+        steps: &mut Steps,
     ) -> Result<Option<State>, Memory>
         requires printable { All IsPrintable stack.old.values.items }
         ensures does { let x = path_with self.old.cursor.value in IfOk result (λ raised. EndsIn (put_on (query_outcome self.old.clauses x.path.mode (context (line_of line.entry)) (trace_of x)) (held stack.old)) raised (held stack.new)) }
@@ -173,12 +173,12 @@ impl<'d> QueryCall<'d> {
 
     /// Appends a TAB and the field of the value, or gives the state that it raises.
     #[inline(never)]
-    pub(crate) fn print<L: Ledger>(
+    pub(crate) fn print(
         &mut self,
         alloc: Global,
         line: LineDoc<'d>,
         out: &mut Bytes,
-        steps: &mut Steps<L>,
+        steps: &mut Steps,
     ) -> Result<Option<State>, Memory>
         ensures appends { let x = path_with self.old.cursor.value in AppendsOutcome (query_outcome self.old.clauses x.path.mode (context (line_of line.entry)) (trace_of x)) result out.old out.new }
         ensures costs { let x = path_with self.old.cursor.value in steps.new ≤ raised steps.old (query_cost self.old.clauses.wrapper x.path.mode (context (line_of line.entry)) (trace_of x)) }

@@ -14,7 +14,7 @@ ghost use Rattle.sj_select_list.specs.Values.{given_list, list_cost};
 use crate::line::LineDoc;
 use crate::operation::Operation;
 use crate::stack::Stack;
-use sj_base::{Ledger, Memory, State, Steps, Text};
+use sj_base::{Memory, State, Steps, Text};
 use sj_doc::Doc;
 use sj_func::{Outcome, is_json};
 use sj_path_tree::Literal;
@@ -28,13 +28,13 @@ use std::alloc::Global;
 /// # Errors
 /// [`Memory`] where memory runs out. What is said of the counter holds then too.
 #[inline(always)]
-pub(crate) fn find_list<'d, L: Ledger>(
+pub(crate) fn find_list<'d>(
     alloc: Global,
     operations: &mut [Operation<'d>],
     line: LineDoc<'d>,
     columns: &[SqlValue],
     stack: &mut Stack,
-    steps: &mut Steps<L>,
+    steps: &mut Steps,
 ) -> Result<Option<State>, Memory>
     requires columns { All IsPrintable columns.now }
     requires given { All CanBeGiven (steps_of operations.old) }
@@ -55,13 +55,13 @@ pub(crate) fn find_list<'d, L: Ledger>(
 /// # Errors
 /// [`Memory`] where memory runs out. What is said of the counter holds then too.
 #[inline(always)]
-pub(crate) fn find<'d, L: Ledger>(
+pub(crate) fn find<'d>(
     alloc: Global,
     operations: &mut [Operation<'d>],
     line: LineDoc<'d>,
     columns: &[SqlValue],
     stack: &mut Stack,
-    steps: &mut Steps<L>,
+    steps: &mut Steps,
 ) -> Result<Option<State>, Memory>
     requires columns { All IsPrintable columns.now }
     requires given { All CanBeGiven (steps_of operations.old) }
@@ -83,13 +83,13 @@ impl<'d> Operation<'d> {
     // Performs the operation on a stack, and gives the state that it raises, if it does. What an operation does is in a function of its
     // own, out of line, so that none has to make room for the locals of the others.
     #[inline(always)]
-    fn perform<L: Ledger>(
+    fn perform(
         &mut self,
         alloc: Global,
         line: LineDoc<'d>,
         columns: &[SqlValue],
         stack: &mut Stack,
-        steps: &mut Steps<L>,
+        steps: &mut Steps,
     ) -> Result<Option<State>, Memory>
         requires columns { All IsPrintable columns.now }
         requires given { CanBeGiven (step_of self.old) }

@@ -15,7 +15,7 @@ use crate::find::find;
 use crate::line::LineDoc;
 use crate::operation::Operation;
 use crate::stack::Stack;
-use sj_base::{Ledger, Memory, Steps};
+use sj_base::{Memory, Steps};
 use sj_bound::BoundValue;
 use sj_build::BuildRefusal;
 use sj_value::SqlValue;
@@ -75,13 +75,13 @@ impl<'d> Finder<'d> {
     ///
     /// # Errors
     /// `State` with the state that it raises, `Memory` where memory runs out. What is said of the counter holds then too.
-    pub(crate) fn lend<'c, L: Ledger>(
+    pub(crate) fn lend<'c>(
         &mut self,
         alloc: Global,
         line: LineDoc<'d>,
         columns: &'c [SqlValue],
         stack: &mut Stack,
-        steps: &mut Steps<L>,
+        steps: &mut Steps,
     ) -> Result<Lent<'c>, BuildRefusal>
         requires ready { IsFinder self.old }
         requires columns { All IsPrintable columns.now }
@@ -111,13 +111,13 @@ impl<'d> Finder<'d> {
     }
 
     // The same as `lend`, by the operations.
-    fn find<L: Ledger>(
+    fn find(
         &mut self,
         alloc: Global,
         line: LineDoc<'d>,
         columns: &[SqlValue],
         stack: &mut Stack,
-        steps: &mut Steps<L>,
+        steps: &mut Steps,
     ) -> Result<SqlValue, BuildRefusal>
         requires ready { IsFinder self.old }
         requires columns { All IsPrintable columns.now }

@@ -17,7 +17,7 @@ use crate::find::{find_list, is_json_outcome, literal_outcome};
 use crate::line::LineDoc;
 use crate::operation::Operation;
 use crate::stack::Stack;
-use sj_base::{Bytes, Ledger, Memory, State, Steps};
+use sj_base::{Bytes, Memory, State, Steps};
 use sj_func::{Outcome, outcome_field};
 use sj_path_tree::Literal;
 use sj_rows::{fields_text, tabbed_text};
@@ -32,14 +32,14 @@ use std::alloc::Global;
 /// [`Memory`] where memory runs out. What is said of the counter holds then too. There, and where a state is given, what stood in `out`
 /// stays, and something may stand behind it.
 #[inline(always)]
-pub fn print_list<'d, L: Ledger>(
+pub fn print_list<'d>(
     alloc: Global,
     operations: &mut [Operation<'d>],
     line: LineDoc<'d>,
     columns: &[SqlValue],
     out: &mut Bytes,
     stack: &mut Stack,
-    steps: &mut Steps<L>,
+    steps: &mut Steps,
 ) -> Result<Option<State>, Memory>
     requires columns { All IsPrintable columns.now }
     requires given { All CanBeGiven (steps_of operations.old) }
@@ -72,13 +72,13 @@ fn each_finds_a_value(operations: &[Operation<'_>]) -> bool
 
 // The same as `print_list`, where each operation finds a value of the list.
 #[inline(always)]
-fn print_each<'d, L: Ledger>(
+fn print_each<'d>(
     alloc: Global,
     operations: &mut [Operation<'d>],
     line: LineDoc<'d>,
     columns: &[SqlValue],
     out: &mut Bytes,
-    steps: &mut Steps<L>,
+    steps: &mut Steps,
 ) -> Result<Option<State>, Memory>
     requires columns { All IsPrintable columns.now }
     requires given { All CanBeGiven (steps_of operations.old) }
@@ -97,14 +97,14 @@ fn print_each<'d, L: Ledger>(
 
 // The same, where values are made of others: they are found on the stack first.
 #[inline(never)]
-fn print_found<'d, L: Ledger>(
+fn print_found<'d>(
     alloc: Global,
     operations: &mut [Operation<'d>],
     line: LineDoc<'d>,
     columns: &[SqlValue],
     out: &mut Bytes,
     stack: &mut Stack,
-    steps: &mut Steps<L>,
+    steps: &mut Steps,
 ) -> Result<Option<State>, Memory>
     requires columns { All IsPrintable columns.now }
     requires given { All CanBeGiven (steps_of operations.old) }
@@ -139,13 +139,13 @@ impl<'d> Operation<'d> {
 
     // Appends a TAB and the field of the value that it finds, or gives the state that it raises.
     #[inline(always)]
-    fn print<L: Ledger>(
+    fn print(
         &mut self,
         alloc: Global,
         line: LineDoc<'d>,
         columns: &[SqlValue],
         out: &mut Bytes,
-        steps: &mut Steps<L>,
+        steps: &mut Steps,
     ) -> Result<Option<State>, Memory>
         requires columns { All IsPrintable columns.now }
         requires given { CanBeGiven (step_of self.old) }

@@ -10,18 +10,18 @@ ghost use Rattle.sj_table.specs.Takes.{Takes, Answers, due_behind};
 use crate::cells::{At, Cell, Cross, Hand, Nested, Side, Union};
 use crate::join::Join;
 use crate::pull::RowPull;
-use sj_base::{Ledger, Steps};
+use sj_base::Steps;
 use sj_item::Item;
 use sj_value::TableAction;
 
 impl<'d> Cell<'d> {
     /// The next row under a parent item, or the end.
     #[cycle(next)]
-    pub(crate) fn next<L: Ledger>(
+    pub(crate) fn next(
         &mut self,
         on_error: TableAction,
         parent: &Item<'d>,
-        steps: &mut Steps<L>,
+        steps: &mut Steps,
     ) -> RowPull
         ensures takes { Takes (cells_of.rows_left on_error self.old (item_value parent.now)) (cells_of.rows_due on_error self.old (item_value parent.now)) result (cells_of.row_of self.new) (cells_of.rows_left on_error self.new (item_value parent.now)) (cells_of.rows_due on_error self.new (item_value parent.now)) steps.old steps.new }
         ensures same { cells_of.core self.new ≡ cells_of.core self.old }
@@ -37,12 +37,7 @@ impl<'d> Cell<'d> {
 
 impl<'d> Nested<'d> {
     #[cycle(next)]
-    fn next<L: Ledger>(
-        &mut self,
-        on_error: TableAction,
-        parent: &Item<'d>,
-        steps: &mut Steps<L>,
-    ) -> RowPull
+    fn next(&mut self, on_error: TableAction, parent: &Item<'d>, steps: &mut Steps) -> RowPull
         ensures takes { Takes (cells_of.nested_left on_error self.old (item_value parent.now)) (cells_of.nested_due on_error self.old (item_value parent.now)) result (cells_of.nested_row self.new) (cells_of.nested_left on_error self.new (item_value parent.now)) (cells_of.nested_due on_error self.new (item_value parent.now)) steps.old steps.new }
         ensures same { cells_of.nested_core self.new ≡ cells_of.nested_core self.old }
     {
@@ -60,7 +55,7 @@ impl<'d> Nested<'d> {
 
     // The next row of the entry at hand.
     #[cycle(next)]
-    fn next_below<L: Ledger>(&mut self, on_error: TableAction, steps: &mut Steps<L>) -> RowPull
+    fn next_below(&mut self, on_error: TableAction, steps: &mut Steps) -> RowPull
         ensures takes { Takes (cells_of.nested_at_left on_error self.old) (cells_of.nested_at_due on_error self.old) result (cells_of.nested_row self.new) (cells_of.nested_at_left on_error self.new) (cells_of.nested_at_due on_error self.new) steps.old steps.new }
         ensures join { self.new.join ≡ self.old.join }
         ensures parent { self.new.parent ≡ self.old.parent }
@@ -112,12 +107,7 @@ impl<'d> Nested<'d> {
 
 impl<'d> Union<'d> {
     #[cycle(next)]
-    fn next<L: Ledger>(
-        &mut self,
-        on_error: TableAction,
-        parent: &Item<'d>,
-        steps: &mut Steps<L>,
-    ) -> RowPull
+    fn next(&mut self, on_error: TableAction, parent: &Item<'d>, steps: &mut Steps) -> RowPull
         ensures takes { Takes (cells_of.union_left on_error self.old (item_value parent.now)) (cells_of.union_due on_error self.old (item_value parent.now)) result (cells_of.union_row self.new) (cells_of.union_left on_error self.new (item_value parent.now)) (cells_of.union_due on_error self.new (item_value parent.now)) steps.old steps.new }
         ensures same { cells_of.union_core self.new ≡ cells_of.union_core self.old }
     {
@@ -137,12 +127,7 @@ impl<'d> Union<'d> {
 
 impl<'d> Cross<'d> {
     #[cycle(next)]
-    fn next<L: Ledger>(
-        &mut self,
-        on_error: TableAction,
-        parent: &Item<'d>,
-        steps: &mut Steps<L>,
-    ) -> RowPull
+    fn next(&mut self, on_error: TableAction, parent: &Item<'d>, steps: &mut Steps) -> RowPull
         ensures takes { Takes (cells_of.cross_left on_error self.old (item_value parent.now)) (cells_of.cross_due on_error self.old (item_value parent.now)) result (cells_of.cross_row self.new) (cells_of.cross_left on_error self.new (item_value parent.now)) (cells_of.cross_due on_error self.new (item_value parent.now)) steps.old steps.new }
         ensures same { cells_of.cross_core self.new ≡ cells_of.cross_core self.old }
     {
@@ -160,12 +145,7 @@ impl<'d> Cross<'d> {
 
     // The next row beside the left row at hand.
     #[cycle(next)]
-    fn next_right<L: Ledger>(
-        &mut self,
-        on_error: TableAction,
-        parent: &Item<'d>,
-        steps: &mut Steps<L>,
-    ) -> RowPull
+    fn next_right(&mut self, on_error: TableAction, parent: &Item<'d>, steps: &mut Steps) -> RowPull
         ensures takes { Takes (cells_of.cross_hand_left on_error self.old (item_value parent.now)) (cells_of.cross_hand_due on_error self.old (item_value parent.now)) result (cells_of.cross_row self.new) (cells_of.cross_hand_left on_error self.new (item_value parent.now)) (cells_of.cross_hand_due on_error self.new (item_value parent.now)) steps.old steps.new }
         ensures left { self.new.left ≡ self.old.left }
         ensures right { cells_of.core self.new.right.value ≡ cells_of.core self.old.right.value }

@@ -10,18 +10,18 @@ ghost use Rattle.sj_table.specs.Takes.{Takes, Answers};
 
 use crate::cells::{PathCell, Stage};
 use crate::pull::RowPull;
-use sj_base::{Ledger, State, Steps};
+use sj_base::{State, Steps};
 use sj_item::{Item, Pull};
 use sj_value::TableAction;
 
 impl<'d> PathCell<'d> {
     /// The next entry under a parent item, or the end. Before the first one a path that may have a fault is run to its end, which tells
     /// whether it has.
-    pub(crate) fn next<L: Ledger>(
+    pub(crate) fn next(
         &mut self,
         on_error: TableAction,
         parent: &Item<'d>,
-        steps: &mut Steps<L>,
+        steps: &mut Steps,
     ) -> RowPull
         ensures takes { Takes (entries_left on_error self.old (item_value parent.now)) (entries_due self.old (item_value parent.now)) result (entry_at self.new) (entries_left on_error self.new (item_value parent.now)) (entries_due self.new (item_value parent.now)) steps.old steps.new }
         ensures same { path_source self.new ≡ path_source self.old }
@@ -36,7 +36,7 @@ impl<'d> PathCell<'d> {
     }
 
     // Tells the fault that the path ends in under an item, if any. The cell then stands before its first entry.
-    fn enter<L: Ledger>(&mut self, parent: &Item<'d>, steps: &mut Steps<L>) -> Option<State>
+    fn enter(&mut self, parent: &Item<'d>, steps: &mut Steps) -> Option<State>
         ensures fault { result ≡ fault_of ((path_source self.old).trace (item_value parent.now)) }
         ensures costs { steps.new ≤ raised steps.old (visits ((path_source self.old).trace (item_value parent.now))) }
         ensures left { self.new.run.cursor.value.left ≡ (path_source self.old).trace (item_value parent.now) }
@@ -52,7 +52,7 @@ impl<'d> PathCell<'d> {
     }
 
     // The next of the items that the cursor has left.
-    fn advance<L: Ledger>(&mut self, steps: &mut Steps<L>) -> RowPull
+    fn advance(&mut self, steps: &mut Steps) -> RowPull
         ensures takes { Takes (entries_to_end self.old.number (self.old.ordinal + 1) self.old.run.cursor.value.left) (visits self.old.run.cursor.value.left) result (entry_at self.new) (entries_to_end self.new.number (self.new.ordinal + 1) self.new.run.cursor.value.left) (visits self.new.run.cursor.value.left) steps.old steps.new }
         ensures stage { self.new.stage ≡ self.old.stage }
         ensures same { path_source self.new ≡ path_source self.old }

@@ -9,7 +9,7 @@ ghost use Rattle.sj_fault_free.specs.FaultFree.{fault_free};
 ghost use Rattle.sj_cursor.specs.Meaning.{path_trace};
 ghost use Rattle.sj_table.specs.declared.run.Faults.TheVariants.{Never};
 
-use sj_base::{Ledger, Memory, State, Steps, boxed};
+use sj_base::{Memory, State, Steps, boxed};
 use sj_cursor::Cursor;
 use sj_fault_free::is_fault_free;
 use sj_item::{Item, Pull};
@@ -47,11 +47,7 @@ impl<'d> Run<'d> {
     }
 
     /// The fault that the path ends in under an item, if any. A path that may have one is run to its end for that.
-    pub(crate) fn fault_under<L: Ledger>(
-        &mut self,
-        parent: &Item<'d>,
-        steps: &mut Steps<L>,
-    ) -> Option<State>
+    pub(crate) fn fault_under(&mut self, parent: &Item<'d>, steps: &mut Steps) -> Option<State>
         ensures fault { result ≡ fault_of (path_trace (path_of self.old.cursor.value.path) self.old.cursor.value.vars (item_value parent.now)) }
         ensures costs { steps.new ≤ raised steps.old (visits (path_trace (path_of self.old.cursor.value.path) self.old.cursor.value.vars (item_value parent.now))) }
         ensures path { self.new.cursor.value.path ≡ self.old.cursor.value.path }
@@ -76,7 +72,7 @@ impl<'d> Run<'d> {
     }
 
     /// The next item, or the end.
-    pub(crate) fn next<L: Ledger>(&mut self, steps: &mut Steps<L>) -> Pull<'d>
+    pub(crate) fn next(&mut self, steps: &mut Steps) -> Pull<'d>
         ensures answers { Draws self.old.cursor.value.left (pull_value result) self.new.cursor.value.left steps.old steps.new }
         ensures path { self.new.cursor.value.path ≡ self.old.cursor.value.path }
         ensures vars { self.new.cursor.value.vars ≡ self.old.cursor.value.vars }
@@ -96,7 +92,7 @@ fn faults_of(path: &Path) -> Faults
 }
 
 // The fault that a cursor's sequence ends in, if any. The cursor then stands at its end.
-fn fault_at_end<'d, L: Ledger>(cursor: &mut Cursor<'d>, steps: &mut Steps<L>) -> Option<State>
+fn fault_at_end<'d>(cursor: &mut Cursor<'d>, steps: &mut Steps) -> Option<State>
     ensures fault { result ≡ fault_of cursor.old.left }
     ensures costs { steps.new ≤ raised steps.old (visits cursor.old.left) }
     ensures path { cursor.new.path ≡ cursor.old.path }

@@ -4,7 +4,7 @@ ghost use Rattle.std.specs.Prelude.{◌≡◌, length, option_map, IfOk};
 use crate::build::plan_cell;
 use crate::cells::Cell;
 use crate::pull::RowPull;
-use sj_base::{Ledger, Memory, Steps};
+use sj_base::{Memory, Steps};
 use sj_item::Item;
 use sj_path_tree::{Path, Vars};
 use sj_value::{Plan, TableAction};
@@ -108,7 +108,7 @@ impl<'d> TableCursor<'d> {
     /// Goes to the next row, or tells the end. It takes no memory. The counter rises by no more than the number of children that may
     /// yet be handed out falls: under each parent a path is run at most twice, the first time to its end, since a fault anywhere leaves
     /// it no row. After an end the same end comes again, without a step.
-    pub fn next_row<L: Ledger>(&mut self, steps: &mut Steps<L>) -> RowPull
+    pub fn next_row(&mut self, steps: &mut Steps) -> RowPull
         ensures advances { Advances self.old.left self.old.due result self.new.given self.new.left self.new.due steps.old steps.new }
         ensures plan { self.new.plan ≡ self.old.plan }
         ensures paths { self.new.paths ≡ self.old.paths }

@@ -9,7 +9,7 @@ ghost use Rattle.sj_text.specs.Prefixes.{AppendsPrefix};
 use crate::node::node_text;
 use crate::scalar::{decimal_text, truth_text, whole_text};
 use crate::string::string_text;
-use sj_base::{Bytes, Ledger, Memory, Steps};
+use sj_base::{Bytes, Memory, Steps};
 use sj_item::{Item, Pair, PairValue};
 
 /// Appends the printed text of an item: the JSON text of the tree that it stands for, without white space.
@@ -17,11 +17,7 @@ use sj_item::{Item, Pair, PairValue};
 /// The counter rises by one for each node of the document below the item's node, or below that of a pair's value.
 /// Where memory runs out, `out` has grown by a first part of the text, and the counter by some of these steps.
 #[inline(always)]
-pub fn item_text<'d, L: Ledger>(
-    item: Item<'d>,
-    out: &mut Bytes,
-    steps: &mut Steps<L>,
-) -> Result<(), Memory>
+pub fn item_text<'d>(item: Item<'d>, out: &mut Bytes, steps: &mut Steps) -> Result<(), Memory>
     ensures ok { OnOk result (out.new ≡ out.old ++ printed (item_tree (item_value item.entry))) }
     ensures err { OnErr result (AppendsPrefix out.old (printed (item_tree (item_value item.entry))) out.new) }
     ensures steps { OnOk result (steps.new ≡ raised steps.old (nodes_below (item_value item.entry))) }
@@ -39,7 +35,7 @@ pub fn item_text<'d, L: Ledger>(
 }
 
 // Appends the object that a pair stands for.
-fn pair_text<L: Ledger>(pair: Pair<'_>, out: &mut Bytes, steps: &mut Steps<L>) -> Result<(), Memory>
+fn pair_text(pair: Pair<'_>, out: &mut Bytes, steps: &mut Steps) -> Result<(), Memory>
     ensures ok { OnOk result (out.new ≡ out.old ++ printed (item_tree (item_value (Item.Pair pair.entry)))) }
     ensures err { OnErr result (AppendsPrefix out.old (printed (item_tree (item_value (Item.Pair pair.entry)))) out.new) }
     ensures steps { OnOk result (steps.new ≡ raised steps.old (nodes_below (item_value (Item.Pair pair.entry)))) }
@@ -60,11 +56,7 @@ fn name_text(pair: Pair<'_>, out: &mut Bytes) -> Result<(), Memory>
 }
 
 // Appends the second member.
-fn value_text<L: Ledger>(
-    pair: Pair<'_>,
-    out: &mut Bytes,
-    steps: &mut Steps<L>,
-) -> Result<(), Memory>
+fn value_text(pair: Pair<'_>, out: &mut Bytes, steps: &mut Steps) -> Result<(), Memory>
     ensures ok { OnOk result (out.new ≡ out.old ++ (codes ",\"value\":" ++ printed (item_tree (pair_held pair.entry)))) }
     ensures err { OnErr result (AppendsPrefix out.old (codes ",\"value\":" ++ printed (item_tree (pair_held pair.entry))) out.new) }
     ensures steps { OnOk result (steps.new ≡ raised steps.old (nodes_below (pair_held pair.entry))) }

@@ -12,7 +12,7 @@ use crate::place::Place;
 use crate::scalar::{number_text, truth_text};
 use crate::string::{any_text, string_text};
 use crate::window::{MOST_QUOTED, ROOM, push_front, quote};
-use sj_base::{Bytes, Ledger, Memory, Steps};
+use sj_base::{Bytes, Memory, Steps};
 use sj_doc::{Kind, NodeRef, Visit};
 
 impl Place {
@@ -28,11 +28,7 @@ impl Place {
 }
 
 // Appends the text of a node. It visits the nodes one by one, without recursion and without memory of its own.
-pub(crate) fn node_text<L: Ledger>(
-    node: NodeRef<'_>,
-    out: &mut Bytes,
-    steps: &mut Steps<L>,
-) -> Result<(), Memory>
+pub(crate) fn node_text(node: NodeRef<'_>, out: &mut Bytes, steps: &mut Steps) -> Result<(), Memory>
     ensures ok { OnOk result (out.new ≡ out.old ++ printed (node_tree node.entry)) }
     ensures err { OnErr result (AppendsPrefix out.old (printed (node_tree node.entry)) out.new) }
     ensures steps { OnOk result (steps.new ≡ raised steps.old (below (node_tree node.entry))) }

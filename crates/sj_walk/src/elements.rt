@@ -4,7 +4,7 @@ ghost use Rattle.sj_step.specs.Answers.{answer_value};
 ghost use Rattle.sj_step.specs.Takes.{Takes};
 ghost use Rattle.sj_walk.specs.Walk.{elements_left};
 
-use sj_base::{Ledger, Steps};
+use sj_base::Steps;
 use sj_doc::Children;
 use sj_item::Item;
 use sj_step::Answer;
@@ -18,7 +18,7 @@ pub(crate) struct Elements<'d> {
 }
 
 impl<'d> Elements<'d> {
-    pub(crate) fn next<L: Ledger>(&mut self, steps: &mut Steps<L>, place: &mut Item<'d>) -> Answer
+    pub(crate) fn next(&mut self, steps: &mut Steps, place: &mut Item<'d>) -> Answer
         ensures { Takes (elements_left self.old) (answer_value result place.new) (elements_left self.new) steps.old steps.new }
     {
         'skipping: while self.skip > 0 {

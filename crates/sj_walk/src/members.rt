@@ -5,7 +5,7 @@ ghost use Rattle.sj_step.specs.Answers.{answer_value};
 ghost use Rattle.sj_step.specs.Takes.{Takes};
 ghost use Rattle.sj_walk.specs.Walk.{members_left};
 
-use sj_base::{Ledger, State, Steps};
+use sj_base::{State, Steps};
 use sj_doc::Children;
 use sj_item::Item;
 use sj_path_tree::Mode;
@@ -22,7 +22,7 @@ pub(crate) struct Members<'d> {
 }
 
 impl<'d> Members<'d> {
-    pub(crate) fn next<L: Ledger>(&mut self, steps: &mut Steps<L>, place: &mut Item<'d>) -> Answer
+    pub(crate) fn next(&mut self, steps: &mut Steps, place: &mut Item<'d>) -> Answer
         ensures { Takes (members_left self.old) (answer_value result place.new) (members_left self.new) steps.old steps.new }
     {
         if let Some(member) = self.left.next_under(self.key, steps) {

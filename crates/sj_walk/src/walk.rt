@@ -11,7 +11,7 @@ ghost use Rattle.sj_walk.specs.Walk.{walk_left, left_of};
 use crate::elements::Elements;
 use crate::members::Members;
 use crate::parts::Parts;
-use sj_base::{Ledger, State, Steps};
+use sj_base::{State, Steps};
 use sj_doc::Children;
 use sj_item::{Item, Pull};
 use sj_step::Answer;
@@ -42,7 +42,7 @@ impl<'d> Walk<'d> {
     /// out on the way. An end and a fault come again, without a step.
     ///
     /// The program puts the item in its place by [`Walk::put_next`]; this is for tests and for hosts.
-    pub fn next<L: Ledger>(&mut self, steps: &mut Steps<L>) -> Pull<'d>
+    pub fn next(&mut self, steps: &mut Steps) -> Pull<'d>
         ensures { Takes (walk_left self.old) (pull_value result) (walk_left self.new) steps.old steps.new }
     {
         let mut place = Item::Null;
@@ -53,7 +53,7 @@ impl<'d> Walk<'d> {
     /// The same, with the item put into a place, which holds anything after an end or a fault.
     #[tactic(auto, unfolding(crate::specs::Walk::walk_left))]
     #[inline(always)]
-    pub fn put_next<L: Ledger>(&mut self, steps: &mut Steps<L>, place: &mut Item<'d>) -> Answer
+    pub fn put_next(&mut self, steps: &mut Steps, place: &mut Item<'d>) -> Answer
         ensures { Takes (walk_left self.old) (answer_value result place.new) (walk_left self.new) steps.old steps.new }
     {
         // Most walks that are asked are at their end or give children: these are told first, before room is made for what the
@@ -80,7 +80,7 @@ impl<'d> Walk<'d> {
 
     #[tactic(auto, unfolding(crate::specs::Walk::walk_left))]
     #[inline(never)]
-    fn advance<L: Ledger>(&mut self, steps: &mut Steps<L>, place: &mut Item<'d>) -> Answer
+    fn advance(&mut self, steps: &mut Steps, place: &mut Item<'d>) -> Answer
         ensures { Takes (walk_left self.old) (answer_value result place.new) (walk_left self.new) steps.old steps.new }
     {
         match &mut self.left {
@@ -108,11 +108,7 @@ impl<'d> Walk<'d> {
 
 // The next one of the children, which all are given.
 #[inline(always)]
-fn next_child<'d, L: Ledger>(
-    children: &mut Children<'d>,
-    steps: &mut Steps<L>,
-    place: &mut Item<'d>,
-) -> Answer
+fn next_child<'d>(children: &mut Children<'d>, steps: &mut Steps, place: &mut Item<'d>) -> Answer
     ensures { Takes (every 1 (map child_item children.old)) (answer_value result place.new) (every 1 (map child_item children.new)) steps.old steps.new }
 {
     match children.next(steps) {

@@ -7,13 +7,13 @@ use Rattle.sj_doc.proofs.Searching.{turned, hit, miss, step_more}
 use Rattle.sj_doc.proofs.children.find.Goals as goal
 
 pub end_of-next-requires : goal.end_of-next-requires
-end_of-next-requires g c = (turned c.args.doc.now c.children.next c.children.rest c.children.invariant.lie c.children-test.true).within
+end_of-next-requires c = (turned c.args.doc.now c.children.next c.children.rest c.children.invariant.lie c.children-test.true).within
 
 pub key_at-requires : goal.key_at-requires
-key_at-requires g c = (turned c.args.doc.now c.children.next c.children.rest c.children.invariant.lie c.children-test.true).within
+key_at-requires c = (turned c.args.doc.now c.children.next c.children.rest c.children.invariant.lie c.children-test.true).within
 
 pub returns-then-is_named-clause-found : goal.returns-then-is_named-clause-found
-returns-then-is_named-clause-found g c =
+returns-then-is_named-clause-found c =
     let t = c.args.doc.now in
     let k = c.args.key.now in
     let i = c.children.next in
@@ -28,7 +28,7 @@ returns-then-is_named-clause-found g c =
     }
 
 pub children-preserved : goal.children-preserved
-children-preserved g c =
+children-preserved c =
     let t = c.args.doc.now in
     let k = c.args.key.now in
     let i = c.children.next in

@@ -5,7 +5,7 @@ use Rattle.sj_doc.specs.Keyed.{from_key}
 use Rattle.sj_doc.proofs.children.find.Given as goal
 
 abbrev pub invariant-children : goal.invariant-children
-invariant-children g l = record {
+invariant-children l = record {
   lie : IsChildren l.doc l.next l.rest;
   same : from_key l.key (children_left l.doc l.from l.left) ≡ from_key l.key (children_left l.doc l.next l.rest);
   fewer : l.rest ≤ l.left;
@@ -13,4 +13,4 @@ invariant-children g l = record {
 }
 
 abbrev pub decreases-children : goal.decreases-children
-decreases-children g l = l.rest
+decreases-children l = l.rest

@@ -9,7 +9,7 @@ use Rattle.sj_func.proofs.QueryFields.{appends_err, array_field, cut_extends, fi
 use Rattle.sj_func.proofs.query_field.some_field.Goals as goal
 
 pub returns-in_err-escape_from-clause-appends : goal.returns-in_err-escape_from-clause-appends
-returns-in_err-escape_from-clause-appends g c =
+returns-in_err-escape_from-clause-appends c =
     let old = c.args.out.now in
     let x = item_value c.args.first in
     let xs = items c.args.cursor.now.left in
@@ -19,7 +19,7 @@ returns-in_err-escape_from-clause-appends g c =
     (cut_extends old c.push-2.new.self (printed (array (elements (x ∷ xs)))) c.escape_from.new.out (c.len-field.result - 1) place text c.in_err-escape_from.ensures.err)
 
 pub returns-clause-appends : goal.returns-clause-appends
-returns-clause-appends g c =
+returns-clause-appends c =
     let old = c.args.out.now in
     let x = item_value c.args.first in
     let xs = items c.args.cursor.now.left in

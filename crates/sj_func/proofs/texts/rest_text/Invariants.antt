@@ -5,7 +5,7 @@ use Rattle.sj_func.proofs.Wrapping.{Passing}
 use Rattle.sj_func.proofs.texts.rest_text.Given as goal
 
 abbrev pub invariant-texts : goal.invariant-texts
-invariant-texts g l = record {
+invariant-texts l = record {
   path : l.cursor.path ≡ l.fn.cursor.path;
   vars : l.cursor.vars ≡ l.fn.cursor.vars;
   extends : Extends l.fn.text l.text;
@@ -13,4 +13,4 @@ invariant-texts g l = record {
 }
 
 abbrev pub decreases-texts : goal.decreases-texts
-decreases-texts g l = count l.cursor.left
+decreases-texts l = count l.cursor.left

@@ -1,4 +1,4 @@
 use Rattle.sj_plain_path.proofs.chain.look_below.Goals as goal
 
 pub returns : goal.returns
-returns g c = rw c.found.ensures c.nodes_below.ensures
+returns c = rw c.found.ensures c.nodes_below.ensures

@@ -2,4 +2,4 @@ use Rattle.sj_plain_path.proofs.Takers.{look_sought}
 use Rattle.sj_plain_path.proofs.chain.nodes_below.Goals as goal
 
 pub returns : goal.returns
-returns g c = look_sought _ _ _ _ _ _ _ c.nothing-gathered.ensures.nodes c.look_short.ensures
+returns c = look_sought _ _ _ _ _ _ _ c.nothing-gathered.ensures.nodes c.look_short.ensures

@@ -5,23 +5,23 @@ use Rattle.sj_plain_path.proofs.Chains.{keyed, under_none, under_object, seeking
 use Rattle.sj_plain_path.proofs.chain.take_members.Goals as goal
 
 pub returns-in_default : goal.returns-in_default
-returns-in_default g c = sought_none _ _ _ (under_none c.args.search.now.how c.args.key.now [] _ _ (rw c.kind.ensures at c.in_default.not-Object))
+returns-in_default c = sought_none _ _ _ (under_none c.args.search.now.how c.args.key.now [] _ _ (rw c.kind.ensures at c.in_default.not-Object))
 
 pub returns-then-take_opened : goal.returns-then-take_opened
-returns-then-take_opened g c =
+returns-then-take_opened c =
     sought_same _ _ _ _ _ _ _
     (seeking_enough _ _ _ _ _ _ _ _ _ (member_next c.args.search.now.how _ _ _ c.args.key.now [] _ _ _ _ _ _ c.members.invariant c.in-Some.ensures.child c.in-Some.ensures.step) (rw c.if-take_opened.true at c.take_opened.ensures))
     (under_object c.args.search.now.how c.args.key.now [] _ _ (sym c.kind.ensures ∙ c.in-Object.is) ∙ ap (keyed c.args.search.now.how c.args.key.now []) (sym c.children-members.ensures))
 
 pub members-smaller : goal.members-smaller
-members-smaller g c = fewer Lax _ false _ _ _ c.in-Some.ensures.child
+members-smaller c = fewer Lax _ false _ _ _ c.in-Some.ensures.child
 
 pub members-preserved : goal.members-preserved
-members-preserved g c =
+members-preserved c =
     seeking_over _ _ _ _ _ _ _ _ _ (member_next c.args.search.now.how _ _ _ c.args.key.now [] _ _ _ _ _ _ c.members.invariant c.in-Some.ensures.child c.in-Some.ensures.step) (rw c.if-take_opened.false at c.take_opened.ensures)
 
 pub returns : goal.returns
-returns g c =
+returns c =
     sought_same _ _ _ _ _ _ _
     (members_over c.args.search.now.how _ _ _ c.args.key.now [] _ _ _ _ _ c.members.invariant c.in_default-next_under.ensures.child.0 c.in_default-next_under.ensures.child.1 c.in_default-next_under.ensures.step)
     (under_object c.args.search.now.how c.args.key.now [] _ _ (sym c.kind.ensures ∙ c.in-Object.is) ∙ ap (keyed c.args.search.now.how c.args.key.now []) (sym c.children-members.ensures))

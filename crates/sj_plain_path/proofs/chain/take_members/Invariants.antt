@@ -5,8 +5,8 @@ use Rattle.sj_plain_path.proofs.Chains.{keyed}
 use Rattle.sj_plain_path.proofs.chain.take_members.Given as goal
 
 abbrev pub invariant-members : goal.invariant-members
-invariant-members g l =
+invariant-members l =
     Seeking (taken_value l.search.aim l.fn.gathered) (keyed l.search.how l.key [] l.initial.members) (taken_value l.search.aim l.gathered) (keyed l.search.how l.key [] l.members) l.fn.steps l.steps
 
 abbrev pub decreases-members : goal.decreases-members
-decreases-members g l = length l.members
+decreases-members l = length l.members

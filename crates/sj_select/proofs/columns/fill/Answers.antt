@@ -7,48 +7,48 @@ use Rattle.sj_select.specs.Filling.{column_of, CanFill}
 use Rattle.sj_select.proofs.columns.fill.Goals as goal
 
 pub outcome-requires : goal.outcome-requires
-outcome-requires g c =
+outcome-requires c =
     let within : c.loop-column.column-index < length c.loop-column.columns = omega arith in
     held_at column_of CanFill c.loop-column.columns (map column_of c.args.columns.now) c.loop-column.column-index c.column-item.result within c.loop-column.invariant.columns c.requires
 
 pub returns-in_err-value-clause-costs : goal.returns-in_err-value-clause-costs
-returns-in_err-value-clause-costs g c =
+returns-in_err-value-clause-costs c =
     let within : c.loop-column.column-index < length c.loop-column.columns = omega arith in
     let first = place column_of c.loop-column.columns (map column_of c.args.columns.now) c.loop-column.column-index c.column-item.result within c.loop-column.invariant.columns in
     cost_stop (column_outcome c.args.row.now.given) (column_cost c.args.row.now.given) (map column_of c.args.columns.now) c.loop-column.column-index (column_of (get_or c.loop-column.columns c.loop-column.column-index c.column-item.result)) c.loop-column.steps c.outcome.new.steps _ first c.outcome.ensures.costs c.loop-column.invariant.costs
 
 pub returns-in_err-value-clause-columns : goal.returns-in_err-value-clause-columns
-returns-in_err-value-clause-columns g c =
+returns-in_err-value-clause-columns c =
     map-set_same column_of c.loop-column.columns c.loop-column.column-index c.outcome.new.self c.column-item.result c.outcome.ensures.column ∙ c.loop-column.invariant.columns
 
 pub returns-in_err-push-in-Value-clause-costs : goal.returns-in_err-push-in-Value-clause-costs
-returns-in_err-push-in-Value-clause-costs g c =
+returns-in_err-push-in-Value-clause-costs c =
     let within : c.loop-column.column-index < length c.loop-column.columns = omega arith in
     let first = place column_of c.loop-column.columns (map column_of c.args.columns.now) c.loop-column.column-index c.column-item.result within c.loop-column.invariant.columns in
     cost_stop (column_outcome c.args.row.now.given) (column_cost c.args.row.now.given) (map column_of c.args.columns.now) c.loop-column.column-index (column_of (get_or c.loop-column.columns c.loop-column.column-index c.column-item.result)) c.loop-column.steps c.outcome.new.steps _ first c.outcome.ensures.costs c.loop-column.invariant.costs
 
 pub returns-in_err-push-in-Value-clause-columns : goal.returns-in_err-push-in-Value-clause-columns
-returns-in_err-push-in-Value-clause-columns g c =
+returns-in_err-push-in-Value-clause-columns c =
     map-set_same column_of c.loop-column.columns c.loop-column.column-index c.outcome.new.self c.column-item.result c.outcome.ensures.column ∙ c.loop-column.invariant.columns
 
 pub returns-in-Raised-clause-fills : goal.returns-in-Raised-clause-fills
-returns-in-Raised-clause-fills g c =
+returns-in-Raised-clause-fills c =
     let within : c.loop-column.column-index < length c.loop-column.columns = omega arith in
     let first = place column_of c.loop-column.columns (map column_of c.args.columns.now) c.loop-column.column-index c.column-item.result within c.loop-column.invariant.columns in
     gather_stop (column_outcome c.args.row.now.given) (map column_of c.args.columns.now) c.loop-column.column-index (column_of (get_or c.loop-column.columns c.loop-column.column-index c.column-item.result)) c.loop-column.values.items c.in-Raised.state _ first (sym c.in_ok-value.ensures.outcome ∙ c.in-Raised.is) c.loop-column.invariant.ends
 
 pub returns-in-Raised-clause-costs : goal.returns-in-Raised-clause-costs
-returns-in-Raised-clause-costs g c =
+returns-in-Raised-clause-costs c =
     let within : c.loop-column.column-index < length c.loop-column.columns = omega arith in
     let first = place column_of c.loop-column.columns (map column_of c.args.columns.now) c.loop-column.column-index c.column-item.result within c.loop-column.invariant.columns in
     cost_stop (column_outcome c.args.row.now.given) (column_cost c.args.row.now.given) (map column_of c.args.columns.now) c.loop-column.column-index (column_of (get_or c.loop-column.columns c.loop-column.column-index c.column-item.result)) c.loop-column.steps c.outcome.new.steps _ first c.outcome.ensures.costs c.loop-column.invariant.costs
 
 pub returns-in-Raised-clause-columns : goal.returns-in-Raised-clause-columns
-returns-in-Raised-clause-columns g c =
+returns-in-Raised-clause-columns c =
     map-set_same column_of c.loop-column.columns c.loop-column.column-index c.outcome.new.self c.column-item.result c.outcome.ensures.column ∙ c.loop-column.invariant.columns
 
 pub loop-column-preserved : goal.loop-column-preserved
-loop-column-preserved g c =
+loop-column-preserved c =
     let within : c.loop-column.column-index < length c.loop-column.columns = omega arith in
     let inv = c.loop-column.invariant in
     let all = map column_of c.args.columns.now in

@@ -9,7 +9,7 @@ use Rattle.sj_select.proofs.columns.fill.Given as goal
 
 -- the values so far and those of the columns that are left are all, and so with the steps
 abbrev pub invariant-loop-column : goal.invariant-loop-column
-invariant-loop-column g l = record {
+invariant-loop-column l = record {
   columns : map column_of l.columns ≡ map column_of l.fn.columns;
   printable : All IsPrintable l.values.items;
   ends : behind l.values.items (columns_given (drop l.column-index (map column_of l.fn.columns)) l.row.given) ≡ columns_given (map column_of l.fn.columns) l.row.given;

@@ -11,7 +11,7 @@ use Rattle.sj_select.specs.Tables.{plan_left}
 use Rattle.sj_select.proofs.source.print_aggregated.Goals as goal
 
 pub returns-clause-prints : goal.returns-clause-prints
-returns-clause-prints g c _ =
+returns-clause-prints c _ =
     let line = line_of c.args.line in
     let table = table_of c.args.table.now.table.now in
     let left = plan_left c.args.table.now in

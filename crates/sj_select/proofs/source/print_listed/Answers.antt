@@ -17,19 +17,19 @@ use Rattle.sj_select.proofs.Listing.{out_of_memory, end_spends, listed_row, list
 use Rattle.sj_select.proofs.source.print_listed.Goals as goal
 
 pub returns-in-End-clause-prints : goal.returns-in-End-clause-prints
-returns-in-End-clause-prints g c list finds = (ap (listed (line_of c.args.line) (table_of c.args.table.now.table.now) list) c.in-End.ensures.takes.answers, extends_none _)
+returns-in-End-clause-prints c list finds = (ap (listed (line_of c.args.line) (table_of c.args.table.now.table.now) list) c.in-End.ensures.takes.answers, extends_none _)
 
 pub returns-in-End-clause-costs : goal.returns-in-End-clause-costs
-returns-in-End-clause-costs g c list finds = end_spends _ _ _ _ c.in-End.ensures.takes.spends
+returns-in-End-clause-costs c list finds = end_spends _ _ _ _ c.in-End.ensures.takes.spends
 
 pub returns-in-Raised-clause-prints : goal.returns-in-Raised-clause-prints
-returns-in-Raised-clause-prints g c list finds = (ap (listed (line_of c.args.line) (table_of c.args.table.now.table.now) list) c.in-Raised.ensures.takes.answers, extends_none _)
+returns-in-Raised-clause-prints c list finds = (ap (listed (line_of c.args.line) (table_of c.args.table.now.table.now) list) c.in-Raised.ensures.takes.answers, extends_none _)
 
 pub returns-in-Raised-clause-costs : goal.returns-in-Raised-clause-costs
-returns-in-Raised-clause-costs g c list finds = end_spends _ _ _ _ c.in-Raised.ensures.takes.spends
+returns-in-Raised-clause-costs c list finds = end_spends _ _ _ _ c.in-Raised.ensures.takes.spends
 
 pub returns-in_err-state-clause-costs : goal.returns-in_err-state-clause-costs
-returns-in_err-state-clause-costs g c list finds =
+returns-in_err-state-clause-costs c list finds =
     let line = line_of c.args.line in
     let table = table_of c.args.table.now.table.now in
     let left = plan_left c.args.table.now in
@@ -43,7 +43,7 @@ returns-in_err-state-clause-costs g c list finds =
     (column_spends line table list left row (plan_left c.next_row.new.self) (plan_due c.args.table.now) (plan_due c.next_row.new.self) c.args.steps.now c.next_row.new.steps c.fill.new.steps is_more spends spent)
 
 pub returns-in-Some-clause-prints : goal.returns-in-Some-clause-prints
-returns-in-Some-clause-prints g c list finds =
+returns-in-Some-clause-prints c list finds =
     let line = line_of c.args.line in
     let table = table_of c.args.table.now.table.now in
     let left = plan_left c.args.table.now in
@@ -55,7 +55,7 @@ returns-in-Some-clause-prints g c list finds =
     )
 
 pub returns-in-Some-clause-costs : goal.returns-in-Some-clause-costs
-returns-in-Some-clause-costs g c list finds =
+returns-in-Some-clause-costs c list finds =
     let line = line_of c.args.line in
     let table = table_of c.args.table.now.table.now in
     let left = plan_left c.args.table.now in
@@ -67,7 +67,7 @@ returns-in-Some-clause-costs g c list finds =
     column_spends line table list left row (plan_left c.next_row.new.self) (plan_due c.args.table.now) (plan_due c.next_row.new.self) c.args.steps.now c.next_row.new.steps c.fill.new.steps is_more spends spent
 
 pub returns-in_err-print_list-clause-costs : goal.returns-in_err-print_list-clause-costs
-returns-in_err-print_list-clause-costs g c list finds =
+returns-in_err-print_list-clause-costs c list finds =
     let line = line_of c.args.line in
     let table = table_of c.args.table.now.table.now in
     let left = plan_left c.args.table.now in
@@ -85,7 +85,7 @@ returns-in_err-print_list-clause-costs g c list finds =
     is_more is spends spent (c.print_list.ensures.costs list finds))
 
 pub returns-in-None-clause-prints : goal.returns-in-None-clause-prints
-returns-in-None-clause-prints g c list finds =
+returns-in-None-clause-prints c list finds =
     let line = line_of c.args.line in
     let table = table_of c.args.table.now.table.now in
     let left = plan_left c.args.table.now in
@@ -102,7 +102,7 @@ returns-in-None-clause-prints g c list finds =
     }
 
 pub returns-in-None-clause-costs : goal.returns-in-None-clause-costs
-returns-in-None-clause-costs g c list finds =
+returns-in-None-clause-costs c list finds =
     let line = line_of c.args.line in
     let table = table_of c.args.table.now.table.now in
     let left = plan_left c.args.table.now in
@@ -124,7 +124,7 @@ returns-in-None-clause-costs g c list finds =
     (is_more ∙ ap (more row) (sym c.fill.ensures.left)) is appended.is spends spent (c.print_list.ensures.costs list finds))
 
 pub returns-in-Some-2-clause-prints : goal.returns-in-Some-2-clause-prints
-returns-in-Some-2-clause-prints g c list finds =
+returns-in-Some-2-clause-prints c list finds =
     let line = line_of c.args.line in
     let table = table_of c.args.table.now.table.now in
     let left = plan_left c.args.table.now in
@@ -137,7 +137,7 @@ returns-in-Some-2-clause-prints g c list finds =
     (listed_raised line table list left row (plan_left c.next_row.new.self) cs c.in-Some-2.state is_more is state.0, state.1)
 
 pub returns-in-Some-2-clause-costs : goal.returns-in-Some-2-clause-costs
-returns-in-Some-2-clause-costs g c list finds =
+returns-in-Some-2-clause-costs c list finds =
     let line = line_of c.args.line in
     let table = table_of c.args.table.now.table.now in
     let left = plan_left c.args.table.now in

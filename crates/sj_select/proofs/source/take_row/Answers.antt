@@ -10,7 +10,7 @@ use Rattle.sj_select.proofs.TakingRows.{takes_row, taken_cost_is}
 use Rattle.sj_select.proofs.source.take_row.Goals as goal
 
 pub returns-clause-takes : goal.returns-clause-takes
-returns-clause-takes g c before h =
+returns-clause-takes c before h =
     let table = table_of c.args.table.now.table.now in
     let row = c.args.table.now.cursor.given in
     let cs = c.values.result.now in
@@ -18,7 +18,7 @@ returns-clause-takes g c before h =
     takes_row (line_of c.args.line) table row before c.args.aggregates.now _ cs c.take_all.result is (c.take_all.ensures.takes before h)
 
 pub returns-clause-costs : goal.returns-clause-costs
-returns-clause-costs g c before h =
+returns-clause-costs c before h =
     let line = line_of c.args.line in
     let table = table_of c.args.table.now.table.now in
     let row = c.args.table.now.cursor.given in

@@ -10,7 +10,7 @@ use Rattle.sj_select.proofs.TakingRows.{come_end, come_raised, come_within, come
 use Rattle.sj_select.proofs.source.take_rows.Goals as goal
 
 pub rows-init : goal.rows-init
-rows-init g c = record {
+rows-init c = record {
   calls = refl;
   ready = c.requires.ready;
   printable = subst (All IsPrintable) (sym c.clear.ensures.values) (All-nil IsPrintable);
@@ -20,82 +20,82 @@ rows-init g c = record {
 }
 
 pub next_row-requires : goal.next_row-requires
-next_row-requires g c = c.rows.invariant.placed
+next_row-requires c = c.rows.invariant.placed
 
 pub returns-in-End-clause-takes : goal.returns-in-End-clause-takes
-returns-in-End-clause-takes g c = come_end _ _ _ _ _ _ _ _ _ c.rows.invariant.come c.rows.invariant.calls c.in-End.ensures.takes.answers
+returns-in-End-clause-takes c = come_end _ _ _ _ _ _ _ _ _ c.rows.invariant.come c.rows.invariant.calls c.in-End.ensures.takes.answers
 
 pub returns-in-End-clause-costs : goal.returns-in-End-clause-costs
-returns-in-End-clause-costs g c = come_within _ _ _ _ _ _ _ _ _ c.rows.invariant.come 0 _ c.in-End.ensures.takes.spends
+returns-in-End-clause-costs c = come_within _ _ _ _ _ _ _ _ _ c.rows.invariant.come 0 _ c.in-End.ensures.takes.spends
 
 pub returns-in-End-clause-calls : goal.returns-in-End-clause-calls
-returns-in-End-clause-calls g c = c.rows.invariant.calls
+returns-in-End-clause-calls c = c.rows.invariant.calls
 
 pub returns-in-End-clause-ready : goal.returns-in-End-clause-ready
-returns-in-End-clause-ready g c = c.rows.invariant.ready
+returns-in-End-clause-ready c = c.rows.invariant.ready
 
 pub returns-in-End-clause-printable : goal.returns-in-End-clause-printable
-returns-in-End-clause-printable g c = c.rows.invariant.printable
+returns-in-End-clause-printable c = c.rows.invariant.printable
 
 pub returns-in-End-clause-table : goal.returns-in-End-clause-table
-returns-in-End-clause-table g c = c.next_row.ensures.table ∙ c.rows.invariant.table
+returns-in-End-clause-table c = c.next_row.ensures.table ∙ c.rows.invariant.table
 
 pub returns-in-Raised-clause-takes : goal.returns-in-Raised-clause-takes
-returns-in-Raised-clause-takes g c = come_raised _ _ _ _ _ _ _ _ _ c.rows.invariant.come _ c.in-Raised.ensures.takes.answers
+returns-in-Raised-clause-takes c = come_raised _ _ _ _ _ _ _ _ _ c.rows.invariant.come _ c.in-Raised.ensures.takes.answers
 
 pub returns-in-Raised-clause-costs : goal.returns-in-Raised-clause-costs
-returns-in-Raised-clause-costs g c = come_within _ _ _ _ _ _ _ _ _ c.rows.invariant.come 0 _ c.in-Raised.ensures.takes.spends
+returns-in-Raised-clause-costs c = come_within _ _ _ _ _ _ _ _ _ c.rows.invariant.come 0 _ c.in-Raised.ensures.takes.spends
 
 pub returns-in-Raised-clause-calls : goal.returns-in-Raised-clause-calls
-returns-in-Raised-clause-calls g c = c.rows.invariant.calls
+returns-in-Raised-clause-calls c = c.rows.invariant.calls
 
 pub returns-in-Raised-clause-ready : goal.returns-in-Raised-clause-ready
-returns-in-Raised-clause-ready g c = c.rows.invariant.ready
+returns-in-Raised-clause-ready c = c.rows.invariant.ready
 
 pub returns-in-Raised-clause-printable : goal.returns-in-Raised-clause-printable
-returns-in-Raised-clause-printable g c = c.rows.invariant.printable
+returns-in-Raised-clause-printable c = c.rows.invariant.printable
 
 pub returns-in-Raised-clause-table : goal.returns-in-Raised-clause-table
-returns-in-Raised-clause-table g c = c.next_row.ensures.table ∙ c.rows.invariant.table
+returns-in-Raised-clause-table c = c.next_row.ensures.table ∙ c.rows.invariant.table
 
 pub take_row-requires-clause-ready : goal.take_row-requires-clause-ready
-take_row-requires-clause-ready g c = c.rows.invariant.ready
+take_row-requires-clause-ready c = c.rows.invariant.ready
 
 pub take_row-requires-clause-printable : goal.take_row-requires-clause-printable
-take_row-requires-clause-printable g c = c.rows.invariant.printable
+take_row-requires-clause-printable c = c.rows.invariant.printable
 
 pub returns-in_err-state-clause-costs : goal.returns-in_err-state-clause-costs
-returns-in_err-state-clause-costs g c =
+returns-in_err-state-clause-costs c =
     come_row_within _ _ _ _ _ _ _ _ _ c.rows.invariant.come _ _ c.in-Row.ensures.takes.answers _ (ap (λ (t : Bor BoundTable). table_of t.now) (c.next_row.ensures.table ∙ c.rows.invariant.table)) _ _ _ c.rows.invariant.calls c.in-Row.ensures.takes.spends (c.take_row.ensures.costs _ c.rows.invariant.come.taken)
 
 pub returns-in_err-state-clause-calls : goal.returns-in_err-state-clause-calls
-returns-in_err-state-clause-calls g c = c.take_row.ensures.calls ∙ c.rows.invariant.calls
+returns-in_err-state-clause-calls c = c.take_row.ensures.calls ∙ c.rows.invariant.calls
 
 pub returns-in_err-state-clause-table : goal.returns-in_err-state-clause-table
-returns-in_err-state-clause-table g c = c.take_row.ensures.table ∙ c.next_row.ensures.table ∙ c.rows.invariant.table
+returns-in_err-state-clause-table c = c.take_row.ensures.table ∙ c.next_row.ensures.table ∙ c.rows.invariant.table
 
 pub returns-in-Some-clause-costs : goal.returns-in-Some-clause-costs
-returns-in-Some-clause-costs g c =
+returns-in-Some-clause-costs c =
     come_row_within _ _ _ _ _ _ _ _ _ c.rows.invariant.come _ _ c.in-Row.ensures.takes.answers _ (ap (λ (t : Bor BoundTable). table_of t.now) (c.next_row.ensures.table ∙ c.rows.invariant.table)) _ _ _ c.rows.invariant.calls c.in-Row.ensures.takes.spends (c.take_row.ensures.costs _ c.rows.invariant.come.taken)
 
 pub returns-in-Some-clause-takes : goal.returns-in-Some-clause-takes
-returns-in-Some-clause-takes g c =
+returns-in-Some-clause-takes c =
     come_stop _ _ _ _ _ _ _ _ _ c.rows.invariant.come _ _ c.in-Row.ensures.takes.answers _ (ap (λ (t : Bor BoundTable). table_of t.now) (c.next_row.ensures.table ∙ c.rows.invariant.table)) _ c.rows.invariant.calls (rw c.in-Some.is at (c.in_ok-state.ensures.takes _ c.rows.invariant.come.taken))
 
 pub returns-in-Some-clause-calls : goal.returns-in-Some-clause-calls
-returns-in-Some-clause-calls g c = c.take_row.ensures.calls ∙ c.rows.invariant.calls
+returns-in-Some-clause-calls c = c.take_row.ensures.calls ∙ c.rows.invariant.calls
 
 pub returns-in-Some-clause-table : goal.returns-in-Some-clause-table
-returns-in-Some-clause-table g c = c.take_row.ensures.table ∙ c.next_row.ensures.table ∙ c.rows.invariant.table
+returns-in-Some-clause-table c = c.take_row.ensures.table ∙ c.next_row.ensures.table ∙ c.rows.invariant.table
 
 pub rows-smaller : goal.rows-smaller
-rows-smaller g c =
+rows-smaller c =
     let left : size (plan_left c.take_row.new.table) ≡ size (plan_left c.next_row.new.self) = ap size c.take_row.ensures.left in
     let less : size (plan_left c.rows.table) ≡ size (plan_left c.next_row.new.self) + 1 = ap size c.in-Row.ensures.takes.answers in
     omega (arith, left, less)
 
 pub rows-preserved : goal.rows-preserved
-rows-preserved g c =
+rows-preserved c =
     record {
       calls = c.take_row.ensures.calls ∙ c.rows.invariant.calls;
       ready = c.take_row.ensures.ready;

@@ -13,7 +13,7 @@ use Rattle.sj_select.proofs.source.take_rows.Given as goal
 
 -- the aggregates over the rows so far and those that are left are all
 abbrev pub invariant-rows : goal.invariant-rows
-invariant-rows g l = record {
+invariant-rows l = record {
   calls : map aggregate_of l.aggregates ≡ map aggregate_of l.fn.aggregates;
   ready : All IsReady l.aggregates;
   printable : All IsPrintable l.stack.values.items;
@@ -25,4 +25,4 @@ invariant-rows g l = record {
 }
 
 abbrev pub decreases-rows : goal.decreases-rows
-decreases-rows g l = size (plan_left l.table)
+decreases-rows l = size (plan_left l.table)

@@ -10,10 +10,10 @@ use Rattle.sj_select_list.proofs.GatheredOutcomes.{place, state_step, state_here
 use Rattle.sj_select_list.proofs.aggregate.take_all.Goals as goal
 
 pub take-requires-clause-ready : goal.take-requires-clause-ready
-take-requires-clause-ready g c = c.loop-aggregate.invariant.ready _ _ (omega arith)
+take-requires-clause-ready c = c.loop-aggregate.invariant.ready _ _ (omega arith)
 
 pub returns-in-Err-Memory-clause-costs : goal.returns-in-Err-Memory-clause-costs
-returns-in-Err-Memory-clause-costs g c rows h =
+returns-in-Err-Memory-clause-costs c rows h =
     let inv = c.loop-aggregate.invariant in
     let i = c.loop-aggregate.aggregate-index in
     let d = c.aggregate-item.result in
@@ -25,11 +25,11 @@ returns-in-Err-Memory-clause-costs g c rows h =
     (place aggregate_of c.loop-aggregate.all all i d within inv.calls) c.take.ensures.costs (inv.costs rows h)
 
 pub returns-in-Err-Memory-clause-calls : goal.returns-in-Err-Memory-clause-calls
-returns-in-Err-Memory-clause-calls g c =
+returns-in-Err-Memory-clause-calls c =
     map-set_same aggregate_of c.loop-aggregate.all c.loop-aggregate.aggregate-index c.take.new.self c.aggregate-item.result c.take.ensures.call ∙ c.loop-aggregate.invariant.calls
 
 pub returns-in-Err-State-clause-takes : goal.returns-in-Err-State-clause-takes
-returns-in-Err-State-clause-takes g c rows h =
+returns-in-Err-State-clause-takes c rows h =
     let inv = c.loop-aggregate.invariant in
     let i = c.loop-aggregate.aggregate-index in
     let d = c.aggregate-item.result in
@@ -43,7 +43,7 @@ returns-in-Err-State-clause-takes g c rows h =
     (place aggregate_of c.loop-aggregate.all all i d within inv.calls) (rw c.in-Err-State.field-0-is at (c.in-Err-State.ensures.takes rows was))))
 
 pub returns-in-Err-State-clause-costs : goal.returns-in-Err-State-clause-costs
-returns-in-Err-State-clause-costs g c rows h =
+returns-in-Err-State-clause-costs c rows h =
     let inv = c.loop-aggregate.invariant in
     let i = c.loop-aggregate.aggregate-index in
     let d = c.aggregate-item.result in
@@ -55,11 +55,11 @@ returns-in-Err-State-clause-costs g c rows h =
     (place aggregate_of c.loop-aggregate.all all i d within inv.calls) c.take.ensures.costs (inv.costs rows h)
 
 pub returns-in-Err-State-clause-calls : goal.returns-in-Err-State-clause-calls
-returns-in-Err-State-clause-calls g c =
+returns-in-Err-State-clause-calls c =
     map-set_same aggregate_of c.loop-aggregate.all c.loop-aggregate.aggregate-index c.take.new.self c.aggregate-item.result c.take.ensures.call ∙ c.loop-aggregate.invariant.calls
 
 pub loop-aggregate-preserved : goal.loop-aggregate-preserved
-loop-aggregate-preserved g c =
+loop-aggregate-preserved c =
     let inv = c.loop-aggregate.invariant in
     let held = c.loop-aggregate.all in
     let i = c.loop-aggregate.aggregate-index in
@@ -90,9 +90,9 @@ loop-aggregate-preserved g c =
     }
 
 pub returns-clause-takes : goal.returns-clause-takes
-returns-clause-takes g c rows h =
+returns-clause-takes c rows h =
     All-from_all_within (HasTaken (line_of c.args.line) (rows ++ c.args.columns.now ∷ [])) c.loop-aggregate.all
     (AllWithin-upto (HasTaken (line_of c.args.line) (rows ++ c.args.columns.now ∷ [])) c.loop-aggregate.all 0 c.loop-aggregate.aggregate-index (length c.loop-aggregate.all) (omega arith) (c.loop-aggregate.invariant.taken rows h))
 
 pub returns-clause-costs : goal.returns-clause-costs
-returns-clause-costs g c rows h = omega (arith, c.loop-aggregate.invariant.costs rows h)
+returns-clause-costs c rows h = omega (arith, c.loop-aggregate.invariant.costs rows h)

@@ -12,7 +12,7 @@ use Rattle.sj_select_list.proofs.aggregate.take_all.Given as goal
 
 -- those that were gone over have taken the row, and the state and the steps of all are those of the ones that are left
 abbrev pub invariant-loop-aggregate : goal.invariant-loop-aggregate
-invariant-loop-aggregate g l = record {
+invariant-loop-aggregate l = record {
   calls : map aggregate_of l.all ≡ map aggregate_of l.fn.all;
   ready : All IsReady l.all;
   left : drop l.aggregate-index l.all ≡ drop l.aggregate-index l.fn.all;

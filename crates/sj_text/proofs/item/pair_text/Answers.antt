@@ -6,7 +6,7 @@ use Rattle.sj_text.proofs.PairTexts.{name_part, value_part, id_part, printed_pai
 use Rattle.sj_text.proofs.item.pair_text.Goals as goal
 
 pub returns-in_err-name_text-clause-err : goal.returns-in_err-name_text-clause-err
-returns-in_err-name_text-clause-err g c =
+returns-in_err-name_text-clause-err c =
     let name = pair_name c.args.pair in
     let value = item_tree (pair_held c.args.pair) in
     let id = pair_id c.args.pair in
@@ -14,7 +14,7 @@ returns-in_err-name_text-clause-err g c =
     (first_stopped c.from_residual.result c.args.out.now (name_part name) (value_part value ++ id_part id) c.name_text.new.out c.in_err-name_text.ensures.err)
 
 pub returns-in_err-value_text-clause-err : goal.returns-in_err-value_text-clause-err
-returns-in_err-value_text-clause-err g c =
+returns-in_err-value_text-clause-err c =
     let name = pair_name c.args.pair in
     let value = item_tree (pair_held c.args.pair) in
     let id = pair_id c.args.pair in
@@ -24,7 +24,7 @@ returns-in_err-value_text-clause-err g c =
     (first_stopped r c.name_text.new.out (value_part value) (id_part id) c.value_text.new.out c.in_err-value_text.ensures.err))
 
 pub returns-clause-err : goal.returns-clause-err
-returns-clause-err g c =
+returns-clause-err c =
     let name = pair_name c.args.pair in
     let value = item_tree (pair_held c.args.pair) in
     let id = pair_id c.args.pair in

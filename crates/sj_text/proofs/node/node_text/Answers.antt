@@ -7,13 +7,13 @@ use Rattle.sj_text.proofs.Printings.{IsUnderWay, sets_out, arrives, brings, is_c
 use Rattle.sj_text.proofs.node.node_text.Goals as goal
 
 pub loop-visit-init : goal.loop-visit-init
-loop-visit-init g c =
+loop-visit-init c =
     let t = node_tree c.args.node in
     subst (λ (left : Touring). IsUnderWay c.args.out.now t c.args.steps.now c.args.out.now First left c.args.steps.now) (sym c.tour-tour.ensures)
     (sets_out c.args.out.now t c.args.steps.now (node_id c.args.node))
 
 pub returns-in_err-visit_text-clause-err : goal.returns-in_err-visit_text-clause-err
-returns-in_err-visit_text-clause-err g c =
+returns-in_err-visit_text-clause-err c =
     let t = node_tree c.args.node in
     let v = visited c.in-Some.visit in
     is_cut c.from_residual.result c.args.out.now t c.args.steps.now c.loop-visit.out c.loop-visit.place v c.next.new.self c.next.new.steps c.visit_text.new.out
@@ -22,7 +22,7 @@ returns-in_err-visit_text-clause-err g c =
     c.in_err-visit_text.ensures.err
 
 pub loop-visit-preserved : goal.loop-visit-preserved
-loop-visit-preserved g c =
+loop-visit-preserved c =
     let t = node_tree c.args.node in
     let v = visited c.in-Some.visit in
     brings c.args.out.now t c.args.steps.now c.loop-visit.out c.loop-visit.place v c.next.new.self c.next.new.steps c.visit_text.new.out c.after-place.result

@@ -5,7 +5,7 @@ use Rattle.sj_cursor.proofs.Looks.{Looking}
 use Rattle.sj_cursor.proofs.cursor.Cursor.look_on.Given as goal
 
 abbrev pub invariant-looking : goal.invariant-looking
-invariant-looking g l = record {
+invariant-looking l = record {
   path : l.self.path ≡ l.fn.self.path;
   vars : l.self.vars ≡ l.fn.self.vars;
   root : l.self.root ≡ l.fn.self.root;
@@ -13,4 +13,4 @@ invariant-looking g l = record {
 }
 
 abbrev pub decreases-looking : goal.decreases-looking
-decreases-looking g l = count l.self.left
+decreases-looking l = count l.self.left

@@ -1,4 +1,4 @@
 use Rattle.sj_plain_path.proofs.chain.Chain.nodes.Goals as goal
 
 pub returns : goal.returns
-returns g c = rw c.deref.ensures.value at c.nodes_below.ensures
+returns c = rw c.deref.ensures.value at c.nodes_below.ensures

@@ -14,10 +14,10 @@ use Rattle.sj_select.proofs.CountedSteps.{spends_rest}
 use Rattle.sj_select.proofs.rows.RowsOf.print_behind.Goals as goal
 
 pub invariant_of-self-in_err-found : goal.invariant_of-self-in_err-found
-invariant_of-self-in_err-found g c = (c.print.ensures.ready, c.print.ensures.is_for (bound_of c.self.inside.bound.now) c.self.invariant.1)
+invariant_of-self-in_err-found c = (c.print.ensures.ready, c.print.ensures.is_for (bound_of c.self.inside.bound.now) c.self.invariant.1)
 
 pub returns-in_err-found-clause-err : goal.returns-in_err-found-clause-err
-returns-in_err-found-clause-err g c =
+returns-in_err-found-clause-err c =
     let s = bound_of c.self.inside.bound.now in
     let left = left_at c.replace-stage.result (source_left s (line_of c.self.inside.line) c.self.inside.source) in
     let later = source_left s (line_of c.self.inside.line) c.print.new.source in
@@ -25,7 +25,7 @@ returns-in_err-found-clause-err g c =
     (front_stays_by left later c.begin.new.out c.print.new.out c.args.number c.args.statement c.args.out.now c.print.new.out c.in_ok-begin.ensures.ok (c.in_err-found.ensures.err s c.self.invariant.1))
 
 pub returns-in_err-found-clause-spends : goal.returns-in_err-found-clause-spends
-returns-in_err-found-clause-spends g c =
+returns-in_err-found-clause-spends c =
     let s = bound_of c.self.inside.bound.now in
     let line = line_of c.self.inside.line in
     let due = source_due s line c.self.inside.source in
@@ -35,7 +35,7 @@ returns-in_err-found-clause-spends g c =
     (subst (λ (n : ℕ). Spends n 0 c.args.steps.now c.print.new.steps) was (c.in_err-found.ensures.costs s c.self.invariant.1))
 
 pub end_text-requires : goal.end_text-requires
-end_text-requires g c =
+end_text-requires c =
     let s = bound_of c.self.inside.bound.now in
     let left = left_at c.replace-stage.result (source_left s (line_of c.self.inside.line) c.self.inside.source) in
     let later = source_left s (line_of c.self.inside.line) c.print.new.source in
@@ -43,10 +43,10 @@ end_text-requires g c =
     (front_stays left later c.begin.new.out c.print.new.out c.args.number c.args.statement c.args.out.now c.print.new.out c.in_ok-begin.ensures.ok c.in_ok-found.found (c.in_ok-found.ensures.prints s c.self.invariant.1))
 
 pub invariant_of-self-in_err-end_text : goal.invariant_of-self-in_err-end_text
-invariant_of-self-in_err-end_text g c = (c.print.ensures.ready, c.print.ensures.is_for (bound_of c.self.inside.bound.now) c.self.invariant.1)
+invariant_of-self-in_err-end_text c = (c.print.ensures.ready, c.print.ensures.is_for (bound_of c.self.inside.bound.now) c.self.invariant.1)
 
 pub returns-in_err-end_text-clause-err : goal.returns-in_err-end_text-clause-err
-returns-in_err-end_text-clause-err g c =
+returns-in_err-end_text-clause-err c =
     let s = bound_of c.self.inside.bound.now in
     let left = left_at c.replace-stage.result (source_left s (line_of c.self.inside.line) c.self.inside.source) in
     let later = source_left s (line_of c.self.inside.line) c.print.new.source in
@@ -55,7 +55,7 @@ returns-in_err-end_text-clause-err g c =
     (front_stays left later c.begin.new.out c.print.new.out c.args.number c.args.statement c.args.out.now c.print.new.out c.in_ok-begin.ensures.ok c.in_ok-found.found (c.in_ok-found.ensures.prints s c.self.invariant.1)))
 
 pub returns-in_err-end_text-clause-spends : goal.returns-in_err-end_text-clause-spends
-returns-in_err-end_text-clause-spends g c =
+returns-in_err-end_text-clause-spends c =
     let s = bound_of c.self.inside.bound.now in
     let line = line_of c.self.inside.line in
     let due = source_due s line c.self.inside.source in
@@ -65,10 +65,10 @@ returns-in_err-end_text-clause-spends g c =
     (subst (λ (n : ℕ). Spends n 0 c.args.steps.now c.print.new.steps) was (spends_rest _ _ _ _ (c.in_ok-found.ensures.costs s c.self.invariant.1)))
 
 pub invariant_of-self-2 : goal.invariant_of-self-2
-invariant_of-self-2 g c = (c.print.ensures.ready, c.print.ensures.is_for (bound_of c.self.inside.bound.now) c.self.invariant.1)
+invariant_of-self-2 c = (c.print.ensures.ready, c.print.ensures.is_for (bound_of c.self.inside.bound.now) c.self.invariant.1)
 
 pub returns-clause-gives : goal.returns-clause-gives
-returns-clause-gives g c =
+returns-clause-gives c =
     let s = bound_of c.self.inside.bound.now in
     let line = line_of c.self.inside.line in
     let f = c.in_ok-found.found in
@@ -85,7 +85,7 @@ returns-clause-gives g c =
     }
 
 pub returns-clause-text : goal.returns-clause-text
-returns-clause-text g c =
+returns-clause-text c =
     let s = bound_of c.self.inside.bound.now in
     let line = line_of c.self.inside.line in
     let left = left_at c.replace-stage.result (source_left s line c.self.inside.source) in
@@ -96,7 +96,7 @@ returns-clause-text g c =
     ∙ ap (λ (l : StatementRows). c.args.out.now ++ next_text c.args.number c.args.statement l) was
 
 pub returns-clause-spends : goal.returns-clause-spends
-returns-clause-spends g c =
+returns-clause-spends c =
     let s = bound_of c.self.inside.bound.now in
     let line = line_of c.self.inside.line in
     let due = source_due s line c.self.inside.source in

@@ -14,7 +14,7 @@ use Rattle.sj_select.proofs.Sourced.{over_aggregates, over_aggregates_cost}
 use Rattle.sj_select.proofs.source.RowSource.print.Goals as goal
 
 pub returns-in_default-clause-prints : goal.returns-in_default-clause-prints
-returns-in_default-clause-prints g c s is =
+returns-in_default-clause-prints c s is =
     let line = line_of c.args.line in
     let left = left_beside c.args.self.now.table s.items line in
     let finds = ap steps_of c.as_mut_slice-operations.ensures.value ∙ is.finds in
@@ -22,7 +22,7 @@ returns-in_default-clause-prints g c s is =
     (c.print_alone.ensures.prints (values_in s.items) left finds)
 
 pub returns-in_default-clause-costs : goal.returns-in_default-clause-costs
-returns-in_default-clause-costs g c s is =
+returns-in_default-clause-costs c s is =
     let line = line_of c.args.line in
     let due = due_beside c.args.self.now.table s.items line in
     let finds = ap steps_of c.as_mut_slice-operations.ensures.value ∙ is.finds in
@@ -30,7 +30,7 @@ returns-in_default-clause-costs g c s is =
     (c.print_alone.ensures.costs (values_in s.items) due finds)
 
 pub returns-else-is_empty-clause-prints : goal.returns-else-is_empty-clause-prints
-returns-else-is_empty-clause-prints g c s is =
+returns-else-is_empty-clause-prints c s is =
     let line = line_of c.args.line in
     let rows = c.deref_mut-else-is_empty.result.now in
     let table = table_of rows.table.now in
@@ -45,7 +45,7 @@ returns-else-is_empty-clause-prints g c s is =
     subst (λ (l : StatementRows). IfOk c.print_aggregated.result (λ found. Prints l found c.args.out.now c.print_aggregated.new.out later)) whole (c.print_aggregated.ensures.prints later)
 
 pub returns-else-is_empty-clause-costs : goal.returns-else-is_empty-clause-costs
-returns-else-is_empty-clause-costs g c s is =
+returns-else-is_empty-clause-costs c s is =
     let line = line_of c.args.line in
     let rows = c.deref_mut-else-is_empty.result.now in
     let table = table_of rows.table.now in
@@ -61,7 +61,7 @@ returns-else-is_empty-clause-costs g c s is =
     subst (λ (n : ℕ). Spends n (due_behind c.print_aggregated.result later) c.args.steps.now c.print_aggregated.new.steps) whole (c.print_aggregated.ensures.costs later)
 
 pub returns-in_default-clause-err : goal.returns-in_default-clause-err
-returns-in_default-clause-err g c s is = c.print_alone.ensures.err (values_in s.items) (ap steps_of c.as_mut_slice-operations.ensures.value ∙ is.finds)
+returns-in_default-clause-err c s is = c.print_alone.ensures.err (values_in s.items) (ap steps_of c.as_mut_slice-operations.ensures.value ∙ is.finds)
 
 pub returns-then-is_empty-clause-err : goal.returns-then-is_empty-clause-err
-returns-then-is_empty-clause-err g c s is = c.print_listed.ensures.err (values_in s.items) (ap steps_of c.as_mut_slice-operations.ensures.value ∙ is.finds)
+returns-then-is_empty-clause-err c s is = c.print_listed.ensures.err (values_in s.items) (ap steps_of c.as_mut_slice-operations.ensures.value ∙ is.finds)

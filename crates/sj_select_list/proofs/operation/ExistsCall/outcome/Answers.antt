@@ -4,4 +4,4 @@ use Rattle.sj_select_list.proofs.Printed.{exists_printed}
 use Rattle.sj_select_list.proofs.operation.ExistsCall.outcome.Goals as goal
 
 pub returns-clause-printed : goal.returns-clause-printed
-returns-clause-printed g c = subst IsPrinted (sym c.json_exists.ensures.outcome) (exists_printed _ _ _ _)
+returns-clause-printed c = subst IsPrinted (sym c.json_exists.ensures.outcome) (exists_printed _ _ _ _)

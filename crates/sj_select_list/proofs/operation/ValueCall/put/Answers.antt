@@ -5,7 +5,7 @@ use Rattle.sj_select_list.specs.Values.{trace_of}
 use Rattle.sj_select_list.proofs.operation.ValueCall.put.Goals as goal
 
 pub returns-clause-does : goal.returns-clause-does
-returns-clause-does g c =
+returns-clause-does c =
     let x = path_with c.args.self.now.cursor.value in
     c.put.ensures.does _
     (subst (λ (root : ContextValue). IfOk c.outcome-outcome.result (λ o. o ≡ value_outcome c.args.self.now.clauses.now x.path.mode root (trace_of x))) c.context.ensures c.outcome-outcome.ensures.outcome)
