@@ -37,8 +37,8 @@ pub fn is_json(
     Ok(doc.unique_keys(alloc)?)
 }
 
-// Whether a value of this kind is of the kind that is asked for. Two of the three are compared, since taking the pair apart
-// would cost two jumps that the processor does not foresee.
+// Whether a value of this kind is of the kind that is asked for. The value's own kind is found first and then compared: a
+// `match` on the pair of them has two jumps by tables, behind which the processor was found waiting (`bench/waits.py`).
 fn is_of(asked: JsonKind, kind: Kind) -> bool
     ensures { result ≡ of_kind asked kind }
 {

@@ -5,8 +5,8 @@ use Rattle.sj_json.specs.Machine.{after_value, ending, reading}
 use Rattle.sj_json.specs.Spelling.{SpellsText, IsJson, max_depth}
 use Rattle.sj_read.specs.declared.reader.ReadRefusal.{ReadRefusal}
 use Rattle.sj_read.specs.declared.reader.ReadRefusal.TheVariants as refusals
-use Rattle.sj_read.specs.declared.reader.LineRead.{LineRead}
-use Rattle.sj_read.specs.declared.reader.LineRead.TheVariants.{Json, NotJson}
+use Rattle.sj_read.specs.declared.line.LineRead.{LineRead}
+use Rattle.sj_read.specs.declared.line.LineRead.TheVariants.{Json, NotJson}
 
 -- a document that the line spells, where it is JSON, and else nothing
 abbrev pub IsReadAs : List ℕ → LineRead → Type 0

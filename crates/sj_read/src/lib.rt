@@ -7,7 +7,7 @@
 //!
 //! # How a line is read
 //!
-//! First the line as a whole is looked at: it is not too long, and it is UTF-8 (`utf8.rt`). It is copied once into the
+//! First the line as a whole is looked at (`line.rt`): it is not too long, and it is UTF-8 (`utf8.rt`). It is copied once into the
 //! document, which keeps it as its text. Keys, strings and numbers are then places in that text, so a node is made
 //! without a copy. Only a string with an escape is written out, into a buffer that all of them share, and from there
 //! behind the line's text (`unescape.rt`, `escape.rt`).
@@ -33,6 +33,7 @@
 #![tactic(auto)]
 
 mod escape;
+mod line;
 mod numeral;
 mod plain;
 mod reader;
@@ -40,4 +41,5 @@ mod scan;
 mod unescape;
 mod utf8;
 
-pub use reader::{LineRead, MAX_DEPTH, MAX_LENGTH, MOST_KEPT, ReadRefusal, read, read_over};
+pub use line::{LineRead, MOST_BUFFERED, read, read_over};
+pub use reader::{MAX_DEPTH, MAX_LENGTH, ReadRefusal};

@@ -1,25 +1,19 @@
 // The reader: a loop over the tokens that drives a `DocBuilder`.
-ghost use Rattle.std.specs.Prelude.{◌≡◌, ◌≢◌, ℕ, List, ◌+◌, ◌-◌, ◌<◌, ◌≤◌, length, drop, get_or, slice_index, IsUtf8, true, false, IfSome, MatchOption, MatchResult, IfOk, Ok, Err};
+ghost use Rattle.std.specs.Prelude.{◌≡◌, ◌≢◌, ◌+◌, ◌-◌, ◌<◌, ◌≤◌, length, slice_index, IsUtf8, true, false, IfSome, MatchResult, IfOk, Ok, Err};
 ghost use Rattle.sj_base.specs.ByteClasses.{is_blank as blank_byte};
 ghost use Rattle.sj_decimal.specs.Number.{begins_number as beginning_byte};
 ghost use Rattle.sj_decimal.specs.Shorts.{between};
-ghost use Rattle.sj_json.specs.Tree.{Tree};
-ghost use Rattle.sj_json.specs.Building.{State, fresh};
-ghost use Rattle.sj_json.specs.Spelling.{SpellsText, IsJson};
 ghost use Rattle.sj_json.specs.Machine.{value as value_mode, key as key_mode, colon as colon_mode, after_value as after_mode};
 ghost use Rattle.sj_doc.specs.Builders.{node_total};
-ghost use Rattle.sj_read.specs.LinesRead.{IsReadAs, HasRead};
 ghost use Rattle.sj_read.specs.Numerals.{IsPlainNumber};
 ghost use Rattle.sj_read.specs.Scans.{EndsPlain};
-ghost use Rattle.sj_read.specs.Turns.{mode_of, closes_at, Ready, StandsIn, StoodIn, HasTaken, TakesOneKey, Turns};
+ghost use Rattle.sj_read.specs.Turns.{mode_of, closes_at, Ready, StandsIn, StoodIn, HasTaken, Turns};
 
 use crate::numeral::{Numeral, judged, plain_number_end};
 use crate::scan::{begins_number, follows, number_end, string_end, token_at};
 use crate::unescape::unescape;
-use crate::utf8::text_of;
 use sj_base::{Memory, is_blank};
-use sj_doc::{Doc, DocBuilder, Want};
-use std::alloc::Global;
+use sj_doc::{DocBuilder, Want};
 use thiserror::Error;
 
 /// The greatest length of a text, in bytes.
@@ -27,9 +21,6 @@ pub const MAX_LENGTH: usize = sj_json::MAX_LENGTH;
 
 /// The greatest number of arrays and objects that may be open at one place.
 pub const MAX_DEPTH: u64 = 100_000;
-
-/// The most bytes of a buffer that are kept for the next line.
-pub const MOST_KEPT: usize = 65_536;
 
 /// Why a line was not read.
 #[derive(Clone, Copy, Debug, Drop, PartialEq, Eq, Error)]
@@ -649,7 +640,7 @@ fn closes_empty(mode: Mode, c: u8) -> bool
 
 // What stands at the place, or one byte of white space.
 #[inline(always)]
-fn turn(
+pub(crate) fn turn(
     builder: &mut DocBuilder,
     buffer: &mut Vec<u8>,
     mode: &mut Mode,
@@ -683,135 +674,5 @@ fn turn(
             Ok(at + 1)
         }
         Mode::AfterValue => separators(builder, mode, text, at, c),
-    }
-}
-
-/// What a line was read as.
-#[derive(Drop)]
-pub enum LineRead {
-    /// The document that it spells.
-    Json(Doc),
-    /// It is no JSON text within the limits. The builder has the memory that was to hold its document.
-    NotJson(DocBuilder),
-}
-
-/// The document that the line spells (RFC 8259). Equal keys of an object are kept, in their order.
-///
-/// The answer is `NotJson` exactly where the line is not well-formed UTF-8, has more than `MAX_LENGTH`
-/// bytes, opens more than `MAX_DEPTH` containers at one place, or spells no tree.
-///
-/// Example: `{"a":1,"a":2}` has two members; `[1,]` is not JSON (`sj_document_tests::examples::lines_are_read`).
-pub fn read(alloc: Global, line: &[u8]) -> Result<Doc, ReadRefusal>
-    ensures ok { IfOk result (λ doc. SpellsText doc line.now × IsJson line.now) }
-    ensures refused { result ≡ Err ReadRefusal.NotJson → IsJson line.now → ⊥ }
-{
-    let mut buffer = Vec::new(alloc);
-    match read_over(alloc, DocBuilder::new(alloc), &mut buffer, line) {
-        Ok(LineRead::Json(doc)) => Ok(doc),
-        Ok(LineRead::NotJson(_)) => Err(ReadRefusal::NotJson),
-        Err(Memory) => Err(ReadRefusal::Memory),
-    }
-}
-
-/// The same, in the memory of a builder, whatever it holds: that of an earlier document, by `Doc::recycle`, or of an
-/// earlier line that is not JSON. The buffer is for the texts of strings with escapes, and may hold anything. Behind a line
-/// that needed more than [`MOST_KEPT`] bytes of it, its memory is given back to the allocator.
-///
-/// # Errors
-/// [`Memory`] where memory runs out. The memory of the builder is given back to the allocator then, and the buffer may hold
-/// anything.
-///
-/// Example: `[1, 2, 3]` is read in the memory of the document before (`sj_document_tests::examples::lines_are_read`).
-pub fn read_over(
-    alloc: Global,
-    builder: DocBuilder,
-    buffer: &mut Vec<u8>,
-    line: &[u8],
-) -> Result<LineRead, Memory>
-    ensures read { IfOk result (IsReadAs line.now) }
-    ensures short { length buffer.old.items ≤ MOST_KEPT → length buffer.new.items ≤ MOST_KEPT }
-{
-    let Some(text) = text_within(line) else {
-        return Ok(LineRead::NotJson(builder));
-    };
-    match builder.holding(text) {
-        Ok(builder) => read_held(alloc, builder, buffer, text),
-        Err(memory) => Err(memory),
-    }
-}
-
-// The same of a text that the builder holds.
-#[inline(always)]
-fn read_held(
-    alloc: Global,
-    builder: DocBuilder,
-    buffer: &mut Vec<u8>,
-    text: &str,
-) -> Result<LineRead, Memory>
-    requires fresh { builder ≡ (fresh, text.now) }
-    requires short { length text.now ≤ MAX_LENGTH }
-    ensures read { IfOk result (IsReadAs text.now) }
-    ensures short { length buffer.new.items ≤ MOST_KEPT }
-{
-    let mut builder = builder;
-    match read_tidied(alloc, &mut builder, buffer, text) {
-        Ok(()) => Ok(LineRead::Json(builder.finish())),
-        Err(ReadRefusal::NotJson) => Ok(LineRead::NotJson(builder)),
-        Err(ReadRefusal::Memory) => Err(Memory),
-    }
-}
-
-// Reads a text as `read_text` does. The memory of a long buffer is given back then.
-#[inline(always)]
-fn read_tidied(
-    alloc: Global,
-    builder: &mut DocBuilder,
-    buffer: &mut Vec<u8>,
-    text: &str,
-) -> Result<(), ReadRefusal>
-    requires fresh { builder.old ≡ (fresh, text.now) }
-    requires short { length text.now ≤ MAX_LENGTH }
-    ensures read { HasRead text.now result builder.new.0 }
-    ensures short { length buffer.new.items ≤ MOST_KEPT }
-{
-    let read = read_text(builder, buffer, text);
-    if buffer.len() > MOST_KEPT {
-        *buffer = Vec::new(alloc);
-    }
-    read
-}
-
-// The text, if the line is one and not too long.
-#[inline(always)]
-fn text_within(line: &[u8]) -> Option<&str>
-    ensures { MatchOption result (IsJson line.now → ⊥) (λ text. (text.now ≡ line.now) × IsUtf8 line.now × (length line.now ≤ MAX_LENGTH)) }
-{
-    if line.len() > MAX_LENGTH {
-        return None;
-    }
-    text_of(line)
-}
-
-// Reads a text into a builder that holds it. Where that gives `Ok`, the document is complete.
-#[inline(always)]
-fn read_text(builder: &mut DocBuilder, buffer: &mut Vec<u8>, text: &str) -> Result<(), ReadRefusal>
-    requires fresh { builder.old ≡ (fresh, text.now) }
-    requires short { length text.now ≤ MAX_LENGTH }
-    ensures { HasRead text.now result builder.new.0 }
-{
-    let mut mode = Mode::Value;
-    let mut at = 0;
-    while at < text.len() {
-        match turn(builder, buffer, &mut mode, text, at) {
-            Ok(to) => at = to,
-            Err(refusal) => return Err(refusal),
-        }
-    }
-    match mode {
-        Mode::AfterValue => match builder.wants() {
-            Want::Nothing => Ok(()),
-            _ => Err(ReadRefusal::NotJson),
-        },
-        _ => Err(ReadRefusal::NotJson),
     }
 }

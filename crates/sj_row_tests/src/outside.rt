@@ -53,33 +53,32 @@ fn compare_reads<S: Source>(rt: &impl Abort, source: &mut S, wants: &[Result<&[u
     }
 }
 
+/// Of `abcdefghij`, where the calls 1 and 5 fail: the first call is cut to 3, a cut of 0 is none, a cut above the room changes
+/// nothing, and the last bytes are fewer than the room.
+const CUT_READS: [Result<&[u8], Failed>; 7] = [
+    Ok(b"abc"),
+    Err(Failed),
+    Ok(b"defg"),
+    Ok(b"h"),
+    Ok(b"ij"),
+    Err(Failed),
+    Ok(b""),
+];
+
+/// Of `abcde`.
+const WHOLE_READS: [Result<&[u8], Failed>; 3] = [Ok(b"abcd"), Ok(b"e"), Ok(b"")];
+
 #[test]
 fn a_source_fails_and_is_cut_at_the_listed_calls(rt: HostRuntime) -> Result<(), Fail> {
     let bytes = b"abcdefghij".to_vec(rt.alloc())?;
     let cuts = [3, 0, 9, 1].to_vec(rt.alloc())?;
     let fails = [1, 5].to_vec(rt.alloc())?;
     let mut source = MemSource::new(bytes, cuts, fails);
-    // the first call is cut to 3, a cut of 0 is none, a cut above the room changes nothing, and the last bytes are
-    // fewer than the room
-    let wants = [
-        Ok(b"abc".as_slice()),
-        Err(Failed),
-        Ok(b"defg".as_slice()),
-        Ok(b"h".as_slice()),
-        Ok(b"ij".as_slice()),
-        Err(Failed),
-        Ok(b"".as_slice()),
-    ];
-    compare_reads(&rt, &mut source, &wants);
+    compare_reads(&rt, &mut source, &CUT_READS);
     expect_count(&rt, source.calls(), 7);
 
     let mut quiet = QuietSource::new(b"abcde".to_vec(rt.alloc())?);
-    let wants = [
-        Ok(b"abcd".as_slice()),
-        Ok(b"e".as_slice()),
-        Ok(b"".as_slice()),
-    ];
-    compare_reads(&rt, &mut quiet, &wants);
+    compare_reads(&rt, &mut quiet, &WHOLE_READS);
     Ok(())
 }
 
@@ -90,12 +89,14 @@ fn compare_writes<S: Sink>(rt: &impl Abort, sink: &mut S, wants: &[Result<usize,
     }
 }
 
+/// Into room for five bytes, where the calls 0 and 2 fail.
+const WRITES: [Result<usize, Failed>; 5] = [Err(Failed), Ok(3), Err(Failed), Ok(2), Err(Failed)];
+
 #[test]
 fn a_sink_fails_at_the_listed_calls_and_without_room(rt: HostRuntime) -> Result<(), Fail> {
     let fails = [0, 2].to_vec(rt.alloc())?;
     let mut sink = MemSink::new(rt.alloc(), 5, fails)?;
-    let wants = [Err(Failed), Ok(3), Err(Failed), Ok(2), Err(Failed)];
-    compare_writes(&rt, &mut sink, &wants);
+    compare_writes(&rt, &mut sink, &WRITES);
     assert!(rt; sink.bytes() == b"abcab".as_slice());
     expect_count(&rt, sink.faults(), 3);
 
@@ -128,37 +129,40 @@ fn compare_calls<S: Shelf>(rt: &impl Abort, shelf: &mut S, calls: &[Call]) {
     }
 }
 
+/// On a file `f` with `abcdef`, where the calls 4 and 7 fail: a failed pick leaves no file chosen, and a failed read takes nothing.
+const CALLS_THAT_FAIL: [Call; 11] = [
+    Call::Reads(Ok(b"")),
+    Call::Picks("f", Ok(())),
+    Call::Reads(Ok(b"abcd")),
+    Call::Reads(Ok(b"ef")),
+    Call::Picks("f", Err(Failed)),
+    Call::Reads(Ok(b"")),
+    Call::Picks("f", Ok(())),
+    Call::Reads(Err(Failed)),
+    Call::Reads(Ok(b"abcd")),
+    Call::Picks("ff", Err(Failed)),
+    Call::Reads(Ok(b"")),
+];
+
+/// On a file `f` with `ab`.
+const QUIET_CALLS: [Call; 5] = [
+    Call::Reads(Ok(b"")),
+    Call::Picks("g", Err(Failed)),
+    Call::Reads(Ok(b"")),
+    Call::Picks("f", Ok(())),
+    Call::Reads(Ok(b"ab")),
+];
+
 #[test]
 fn a_shelf_gives_its_file_from_the_front_at_each_pick(rt: HostRuntime) -> Result<(), Fail> {
     let name = Text::from_str(rt.alloc(), "f")?;
     let fails = [4, 7].to_vec(rt.alloc())?;
     let mut shelf = MemShelf::new(name, b"abcdef".to_vec(rt.alloc())?, fails);
-    // calls 4 and 7 are listed; a failed pick leaves no file chosen, and a failed read takes nothing
-    let calls = [
-        Call::Reads(Ok(b"")),
-        Call::Picks("f", Ok(())),
-        Call::Reads(Ok(b"abcd")),
-        Call::Reads(Ok(b"ef")),
-        Call::Picks("f", Err(Failed)),
-        Call::Reads(Ok(b"")),
-        Call::Picks("f", Ok(())),
-        Call::Reads(Err(Failed)),
-        Call::Reads(Ok(b"abcd")),
-        Call::Picks("ff", Err(Failed)),
-        Call::Reads(Ok(b"")),
-    ];
-    compare_calls(&rt, &mut shelf, &calls);
+    compare_calls(&rt, &mut shelf, &CALLS_THAT_FAIL);
 
     let name = Text::from_str(rt.alloc(), "f")?;
     let mut quiet = QuietShelf::new(name, b"ab".to_vec(rt.alloc())?);
-    let calls = [
-        Call::Reads(Ok(b"")),
-        Call::Picks("g", Err(Failed)),
-        Call::Reads(Ok(b"")),
-        Call::Picks("f", Ok(())),
-        Call::Reads(Ok(b"ab")),
-    ];
-    compare_calls(&rt, &mut quiet, &calls);
+    compare_calls(&rt, &mut quiet, &QUIET_CALLS);
     Ok(())
 }
 
@@ -207,12 +211,7 @@ impl Write for Fake {
 #[test]
 fn the_adapters_pass_on_counts_and_failures(rt: HostRuntime) {
     let mut input = StdinSource::new(b"abcde".as_slice());
-    let wants = [
-        Ok(b"abcd".as_slice()),
-        Ok(b"e".as_slice()),
-        Ok(b"".as_slice()),
-    ];
-    compare_reads(&rt, &mut input, &wants);
+    compare_reads(&rt, &mut input, &WHOLE_READS);
     let mut broken = StdinSource::new(Fake {
         most: None,
         flushes: true,
@@ -231,20 +230,22 @@ fn the_adapters_pass_on_counts_and_failures(rt: HostRuntime) {
     }
 }
 
+/// On a file `a_file_of_the_shelf` with `abcdef`.
+const CALLS_ON_FILES: [Call; 8] = [
+    Call::Reads(Ok(b"")),
+    Call::Picks("no_such_file", Err(Failed)),
+    Call::Picks("a_file_of_the_shelf", Ok(())),
+    Call::Reads(Ok(b"abcd")),
+    Call::Reads(Ok(b"ef")),
+    Call::Reads(Ok(b"")),
+    Call::Picks("no_such_file", Err(Failed)),
+    Call::Reads(Ok(b"")),
+];
+
 #[test]
 fn the_shelf_of_files_opens_what_is_there(rt: HostRuntime) -> Result<(), Fail> {
     fs::write(&rt, "a_file_of_the_shelf", "abcdef")?;
-    let calls = [
-        Call::Reads(Ok(b"")),
-        Call::Picks("no_such_file", Err(Failed)),
-        Call::Picks("a_file_of_the_shelf", Ok(())),
-        Call::Reads(Ok(b"abcd")),
-        Call::Reads(Ok(b"ef")),
-        Call::Reads(Ok(b"")),
-        Call::Picks("no_such_file", Err(Failed)),
-        Call::Reads(Ok(b"")),
-    ];
-    compare_calls(&rt, &mut FileShelf::new(&rt), &calls);
+    compare_calls(&rt, &mut FileShelf::new(&rt), &CALLS_ON_FILES);
     fs::remove_file(&rt, "a_file_of_the_shelf")?;
     Ok(())
 }

@@ -34,6 +34,26 @@ some_tens n large small = record {
 has_tens : (n : ℕ) → n + 1 < 2 ^ 64 → HasTens n
 has_tens n small = ⊎_elim (no_tens n) (λ large. some_tens n large small) (cases_lt n 10)
 
+-- its last digit alone
+EndsIn : ℕ → Type 0
+EndsIn n = (tens : List ℕ) × (decimal n ≡ tens ++ (48 + n % 10) ∷ [])
+
+ends_in : (n : ℕ) → n < 2 ^ 64 → EndsIn n
+ends_in n small =
+    let one (h : n < 10) : EndsIn n = ([], decimal_digit n h ∙ ap (λ (d : ℕ). (48 + d) ∷ []) (omega arith)) in
+    let more (h : 10 ≤ n) : EndsIn n = (decimal (n / 10), decimal_step n h small) in
+    ⊎_elim one more (cases_lt n 10)
+
+digit_at : (bytes behind : List ℕ) (first last line : ℕ) → line < 2 ^ 64 → drop first bytes ≡ decimal line ++ behind → last + 1 ≡ first + length (decimal line)
+    → get_or bytes last 0 ≡ 48 + line % 10
+digit_at bytes behind first last line small written at =
+    let units = ends_in line small in
+    let count : ℕ = length units.0 in
+    let place : last ≡ first + count = omega (arith, at, ap length units.1 ∙ length_push units.0 (48 + line % 10)) in
+    ap (λ (k : ℕ). get_or bytes k 0) place ∙ sym (get_or-drop first bytes count 0)
+    ∙ ap (λ (l : List ℕ). get_or l count 0) (written ∙ ap (λ (l : List ℕ). l ++ behind) units.1 ∙ append_assoc units.0 ((48 + line % 10) ∷ []) behind)
+    ∙ get_or_at units.0 (48 + line % 10) behind 0 count refl
+
 -- the number whose last digit was raised is the next one, and as long
 record IsRaised (bytes new behind : List ℕ) (first line : ℕ) : Type 0 where
   written : drop first new ≡ decimal (line + 1) ++ behind
@@ -48,8 +68,7 @@ raised bytes behind first last line small written at below =
     let long : length (decimal line) ≡ count + 1 = ap length units.now ∙ length_push units.tens digit in
     let place : last ≡ first + count = omega (arith, at, long) in
     let split : drop first bytes ≡ units.tens ++ digit ∷ behind = written ∙ ap (λ (l : List ℕ). l ++ behind) units.now ∙ append_assoc units.tens (digit ∷ []) behind in
-    let is : get_or bytes last 0 ≡ digit =
-    ap (λ (k : ℕ). get_or bytes k 0) place ∙ sym (get_or-drop first bytes count 0) ∙ ap (λ (l : List ℕ). get_or l count 0) split ∙ get_or_at units.tens digit behind 0 count refl in
+    let is : get_or bytes last 0 ≡ digit = digit_at bytes behind first last line (omega (arith, small)) written at in
     let next : decimal (line + 1) ≡ units.tens ++ (digit + 1) ∷ [] = units.next (omega (arith, below, is)) in
     record {
       written = ap₂ (λ (k d : ℕ). drop first (set bytes k (d + 1))) place is ∙ drop-set-add first bytes count (digit + 1) ∙ ap (λ (l : List ℕ). set l count (digit + 1)) split
@@ -74,3 +93,7 @@ next_head text line statement letter is small below =
       ends = omega (arith, is.ends, now.long, length_head line statement letter, length_head (line + 1) statement letter);
       last = omega (arith, is.last, now.long);
     }
+
+-- where the last digit stands
+pub last_digit : (text : HeadText) (line statement letter : ℕ) → IsHead text line statement letter → line < 2 ^ 64 → get_or text.bytes text.last 0 ≡ 48 + line % 10
+last_digit text line statement letter is small = digit_at text.bytes (after statement letter) text.first text.last line small (is.written ∙ parts line statement letter) is.last

@@ -1,5 +1,5 @@
 -- The head of a row that is kept for the next one.
-use Rattle.std.specs.Prelude.{◌≡◌, ℕ, ◌+◌, List, [], ◌∷◌, ◌++◌, length, drop, replicate, decimal}
+use Rattle.std.specs.Prelude.{◌≡◌, ℕ, ◌+◌, ◌%◌, ◌^◌, ◌<◌, List, [], ◌∷◌, ◌++◌, length, drop, replicate, decimal}
 use Rattle.sj_rows.specs.RowText.{row_head}
 use Rattle.sj_rows.specs.declared.row.HeadText.{HeadText}
 
@@ -10,6 +10,10 @@ pub record HeadOf : Type 0 where
 
 abbrev pub head_of : ℕ → ℕ → HeadOf
 head_of line statement = record { line = line; statement = statement }
+
+-- the next line's number differs in its last digit alone, and has 64 bits
+abbrev pub HasNext : HeadOf → Type 0
+HasNext h = (h.line % 10 < 9) × (h.line + 1 < 2 ^ 64)
 
 -- line, TAB, statement, TAB and the letter
 abbrev pub lettered : ℕ → ℕ → ℕ → List ℕ

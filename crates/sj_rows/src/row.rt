@@ -1,5 +1,5 @@
 // The texts of rows and error rows.
-ghost use Rattle.std.specs.Prelude.{◌≡◌, ◌≤◌, ◌+◌, ◌-◌, ◌⊎◌, ◌++◌, take, drop, All, codes, OnOk, OnErr};
+ghost use Rattle.std.specs.Prelude.{◌≡◌, ◌≤◌, ◌+◌, ◌-◌, ◌++◌, take, drop, All, codes, OnOk, OnErr};
 ghost use Rattle.std.specs.List.{flat_map};
 ghost use Rattle.sj_text.specs.Prefixes.{AppendsPrefix};
 ghost use Rattle.sj_value.specs.Values.{IsPrintable};
@@ -37,7 +37,7 @@ impl Model for RowHead {
 }
 
 impl RowHead {
-    ghost use Rattle.sj_rows.specs.RowHead.{head_of};
+    ghost use Rattle.sj_rows.specs.RowHead.{head_of, HasNext};
 
     /// The head of line 0 and statement 0.
     pub fn new() -> RowHead
@@ -64,13 +64,14 @@ impl RowHead {
         self.text.append_to(out)
     }
 
-    /// Makes the head that of the next line, where only its last digit changes. Otherwise it stays.
+    /// Makes the head that of the next line, where only the last digit of the line's number changes. Otherwise it stays.
     ///
     /// It is called behind a row, and not before the next one: a window that is read right behind a write of one of its bytes
     /// waits for that write.
     #[inline(always)]
     pub fn advance(&mut self)
-        ensures { (self.new ≡ self.old) ⊎ (self.new ≡ head_of (self.old.line + 1) self.old.statement) }
+        ensures next { HasNext self.old → self.new ≡ head_of (self.old.line + 1) self.old.statement }
+        ensures last { (HasNext self.old → ⊥) → self.new ≡ self.old }
     {
         let digit = self.text.bytes[self.text.last];
         if digit < b'9' && self.line < u64::MAX {

@@ -1,7 +1,7 @@
 use Rattle.std.proofs.Common.{sym, ap, subst}
 use Rattle.sj_json.proofs.Documents.{document_gives, document_refused}
 use Rattle.sj_read.specs.LinesRead.{IsReadAs}
-use Rattle.sj_read.specs.declared.reader.LineRead.TheVariants.{Json, NotJson}
+use Rattle.sj_read.specs.declared.line.LineRead.TheVariants.{Json, NotJson}
 use Rattle.sj_run.specs.Batch.{reading}
 use Rattle.sj_run.proofs.batch.reading_of.Goals as goal
 

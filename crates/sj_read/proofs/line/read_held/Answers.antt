@@ -5,7 +5,7 @@ use Rattle.sj_read.specs.declared.reader.TheConstants.{MAX_DEPTH}
 use Rattle.sj_read.specs.declared.reader.ReadRefusal.{ReadRefusal}
 use Rattle.sj_read.specs.LinesRead.{HasRead}
 use Rattle.sj_read.proofs.Ends.{not_json}
-use Rattle.sj_read.proofs.reader.read_held.Goals as goal
+use Rattle.sj_read.proofs.line.read_held.Goals as goal
 
 pub returns-in-Ok-clause-read : goal.returns-in-Ok-clause-read
 returns-in-Ok-clause-read c =
@@ -15,4 +15,4 @@ returns-in-Ok-clause-read c =
 
 pub returns-in-Err-NotJson-clause-read : goal.returns-in-Err-NotJson-clause-read
 returns-in-Err-NotJson-clause-read c h =
-    not_json c.args.text.now (subst (λ (r : ReadRefusal). HasRead c.args.text.now (Err r) c.read_tidied.new.builder.0) c.in-Err-NotJson.field-0-is c.in-Err-NotJson.ensures.read) h
+    not_json c.args.text.now (subst (λ (r : ReadRefusal). HasRead c.args.text.now (Err r) c.read_and_trim.new.builder.0) c.in-Err-NotJson.field-0-is c.in-Err-NotJson.ensures.read) h

@@ -4,7 +4,7 @@ use Rattle.sj_read.specs.declared.reader.TheConstants.{MAX_DEPTH}
 use Rattle.sj_read.specs.declared.reader.Mode as coded
 use Rattle.sj_read.specs.Turns.{mode_of, Ready}
 use Rattle.sj_read.proofs.Ends.{at_end, no_end_mode, no_end_want}
-use Rattle.sj_read.proofs.reader.read_text.Goals as goal
+use Rattle.sj_read.proofs.line.read_text.Goals as goal
 
 pub returns-in-Nothing : goal.returns-in-Nothing
 returns-in-Nothing c =

@@ -3,7 +3,7 @@ use Rattle.sj_json.specs.Machine.{run, reading}
 use Rattle.sj_doc.specs.Builders.{node_total}
 use Rattle.sj_read.specs.declared.reader.TheConstants.{MAX_DEPTH}
 use Rattle.sj_read.specs.Turns.{mode_of, Ready}
-use Rattle.sj_read.proofs.reader.read_text.Given as goal
+use Rattle.sj_read.proofs.line.read_text.Given as goal
 
 abbrev pub invariant-loop-at : goal.invariant-loop-at
 invariant-loop-at l = record {
