@@ -35,14 +35,14 @@ has_tens : (n : ℕ) → n + 1 < 2 ^ 64 → HasTens n
 has_tens n small = ⊎_elim (no_tens n) (λ large. some_tens n large small) (cases_lt n 10)
 
 -- its last digit alone
-EndsIn : ℕ → Type 0
+abbrev EndsIn : ℕ → Type 0
 EndsIn n = (tens : List ℕ) × (decimal n ≡ tens ++ (48 + n % 10) ∷ [])
 
+ends_in_one : (n : ℕ) → n < 10 → EndsIn n
+ends_in_one n h = ([], decimal_digit n h ∙ ap (λ (d : ℕ). (48 + d) ∷ []) (omega arith))
+
 ends_in : (n : ℕ) → n < 2 ^ 64 → EndsIn n
-ends_in n small =
-    let one (h : n < 10) : EndsIn n = ([], decimal_digit n h ∙ ap (λ (d : ℕ). (48 + d) ∷ []) (omega arith)) in
-    let more (h : 10 ≤ n) : EndsIn n = (decimal (n / 10), decimal_step n h small) in
-    ⊎_elim one more (cases_lt n 10)
+ends_in n small = ⊎_elim (ends_in_one n) (λ h. (decimal (n / 10), decimal_step n h small)) (cases_lt n 10)
 
 digit_at : (bytes behind : List ℕ) (first last line : ℕ) → line < 2 ^ 64 → drop first bytes ≡ decimal line ++ behind → last + 1 ≡ first + length (decimal line)
     → get_or bytes last 0 ≡ 48 + line % 10

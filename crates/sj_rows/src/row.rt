@@ -1,5 +1,5 @@
 // The texts of rows and error rows.
-ghost use Rattle.std.specs.Prelude.{◌≡◌, ◌≤◌, ◌+◌, ◌-◌, ◌++◌, take, drop, All, codes, OnOk, OnErr};
+ghost use Rattle.std.specs.Prelude.{◌≡◌, ◌≤◌, ◌+◌, ◌-◌, ◌↔◌, ◌++◌, take, drop, All, codes, IsTrue, OnOk, OnErr};
 ghost use Rattle.std.specs.List.{flat_map};
 ghost use Rattle.sj_text.specs.Prefixes.{AppendsPrefix};
 ghost use Rattle.sj_value.specs.Values.{IsPrintable};
@@ -73,11 +73,18 @@ impl RowHead {
         ensures next { HasNext self.old → self.new ≡ head_of (self.old.line + 1) self.old.statement }
         ensures last { (HasNext self.old → ⊥) → self.new ≡ self.old }
     {
-        let digit = self.text.bytes[self.text.last];
-        if digit < b'9' && self.line < u64::MAX {
-            self.text.bytes[self.text.last] = digit + 1;
+        if self.has_next() {
+            self.text.bytes[self.text.last] += 1;
             self.line += 1;
         }
+    }
+
+    // Whether the head of the next line differs in the last digit of the line's number alone.
+    #[inline(always)]
+    fn has_next(&self) -> bool
+        ensures { IsTrue result ↔ HasNext self.now }
+    {
+        self.text.bytes[self.text.last] < b'9' && self.line < u64::MAX
     }
 
     // Makes the head that of this line and statement, which it most often is.
