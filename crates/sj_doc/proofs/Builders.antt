@@ -1,10 +1,12 @@
 -- What the calls of a builder keep.
-use Rattle.std.proofs.Common.{◌≡◌, ℕ, suc, zero, ◌+◌, ◌-◌, ◌<◌, ◌≤◌, List, [], ◌∷◌, ◌++◌, length, take, drop, get_or, set, Bool, true, false, Option, Some, None, option_map, IfSome, Result, Ok, Err, OnOk, OnErr, MatchResult, refl, sym, ap, ap₂, ◌∙◌, subst, length-append, arith}
+use Rattle.std.proofs.Common.{◌≡◌, ℕ, suc, zero, ◌+◌, ◌-◌, ◌<◌, ◌≤◌, List, [], ◌∷◌, ◌++◌, length, take, drop, get_or, set, replicate, Bool, true, false, Option, Some, None, option_map, IfSome, Result, Ok, Err, OnOk, OnErr, MatchResult, refl, sym, ap, ap₂, ◌∙◌, subst, length-append, ⊎_elim, arith}
 use Rattle.std.specs.List.{AllByRecursion}
 use Rattle.std.specs.Str.{IsUtf8}
 use Rattle.std.proofs.Math.ListN.{get_or-map}
 use Rattle.std.proofs.lemmas.Option.{same_Some}
-use Rattle.std.proofs.lemmas.List.{append-nil, length-map, map-append, map-set, set_at, get_or_at, take-append-drop, take-append-le, length-take-le, drop-append-le, take_at, drop_at, length-set, length-drop}
+use Rattle.std.proofs.lemmas.Bool.{cases_lt}
+use Rattle.std.proofs.lemmas.Str.{IsUtf8-append, IsUtf8-nil}
+use Rattle.std.proofs.lemmas.List.{get_or-append_right, get_or-replicate, length-replicate, append-nil, length-map, map-append, map-set, set_at, get_or_at, take-append-drop, take-append-le, length-take-le, drop-append-le, take_at, drop_at, length-set, length-drop}
 use Rattle.sj_decimal.specs.Shorts.{between}
 use Rattle.sj_json.specs.Tree.{Tree, null, truth, string, number}
 use Rattle.sj_json.specs.Cells.{Cell, string_cell, number_cell, closed, opened, Entry, layout, tree_of}
@@ -25,7 +27,7 @@ use Rattle.sj_doc.specs.Nodes.{spelled, text_in, cell_of, entry_of, entries, lin
 use Rattle.sj_doc.specs.declared.builder.OpenTree.{OpenTree}
 use Rattle.sj_doc.specs.declared.builder.Innermost.{Innermost}
 use Rattle.sj_doc.specs.declared.builder.Innermost.TheVariants as innermost
-use Rattle.sj_doc.specs.Builders.{Building, built, node_total, IsBuilder, IsOpenTree, built_tree, innermost_of, innermost_opened, IsInside, Opens, Tells, HasRoom, IsBetween, IsEmpty, Adds, Stays}
+use Rattle.sj_doc.specs.Builders.{feeds_behind, held, EndsInFeeds, IsLine, Building, built, node_total, IsBuilder, IsOpenTree, built_tree, innermost_of, innermost_opened, IsInside, Opens, Tells, HasRoom, IsBetween, IsEmpty, Adds, Stays}
 
 pub all_push : {X : Type 0} (P : X → Type 0) (xs : List X) (x : X) → AllByRecursion P xs → P x → AllByRecursion P (xs ++ x ∷ [])
 all_push P [] x h p = (p, tt)
@@ -296,7 +298,7 @@ scalar_alone a (Opened kind parent n) v e = cc
 
 -- the fields of a builder with this text, whose line has k bytes, stand for b
 abbrev pub Stands : List ℕ → ℕ → OpenTree → Building → Type 0
-Stands a k t b = (IsOpenTree a t × (k ≤ length a) × IsInside a t) × (◌≡◌ {A = Building} (built_tree a t, take k a) b)
+Stands a k t b = (IsOpenTree a t × IsLine a k × IsInside a t) × (◌≡◌ {A = Building} (built_tree a t, take k a) b)
 
 -- what the innermost container is follows from what is seen
 inside_seen : {i j : Innermost} {x s : State} → i ≡ j → j ≡ innermost_of s.0 → x ≡ s → i ≡ innermost_of x.0
@@ -324,21 +326,22 @@ module _ (a : List ℕ) (k : ℕ) (t : OpenTree) (b : Building) (now : Stands a 
   pub text_stored : (x new : List ℕ) → new ≡ a ++ x → length new < text_bound → Stands new k t b
   text_stored x new e small =
       let g = text_comes a t.nodes.items t.key t.inner t.count t.depth now.0.0 x new e small in
-      let line = line_kept a x new k now.0.1 e in
-      ((g.0, line.1, inside_seen refl now.0.2 g.1), both_seen (g.1 ∙ state_seen now.1) (line.0 ∙ line_seen now.1))
+      let line = line_kept a x new k now.0.1.within e in
+      let kept : IsLine new k = record { within = line.1; utf8 = subst IsUtf8 (sym line.0) now.0.1.utf8; feeds = subst EndsInFeeds (sym line.0) now.0.1.feeds } in
+      ((g.0, kept, inside_seen refl now.0.2 g.1), both_seen (g.1 ∙ state_seen now.1) (line.0 ∙ line_seen now.1))
 
   pub line_narrow : length b.1 < text_bound
-  line_narrow = line_room a b.1 k (line_seen now.1) now.0.1 now.0.0.narrow
+  line_narrow = line_room a b.1 k (line_seen now.1) now.0.1.within now.0.0.narrow
 
   inside_now : t.innermost ≡ innermost_of b.0.0
   inside_now = now.0.2 ∙ ap (λ (y : State). innermost_of y.0) (state_seen now.1)
 
   -- what stands in the line from the one place up to the other
   pub line_range : (from to : ℕ) → (from ≤ to) × (to ≤ length b.1) → IsUtf8 (between b.1 from to) → (s : Span) → IsBetween from to s → IsSpan a s × (text_in a s ≡ between b.1 from to)
-  line_range from to within good s ends = line_span a b.1 k from to s (line_seen now.1) now.0.1 within.0 within.1 ends.start ends.len good
+  line_range from to within good s ends = line_span a b.1 k from to s (line_seen now.1) now.0.1.within within.0 within.1 ends.start ends.len good
 
   pub key_given : (s : Span) → TakesKey b.0.0 → IsSpan a s → (x : List ℕ) → text_in a s ≡ x
-      → (IsBuilder a t.nodes.items (Some s) t.inner t.count t.depth × (k ≤ length a) × (t.innermost ≡ innermost_of (built a t.nodes.items (Some s)).0)) × (◌≡◌ {A = Building} (built a t.nodes.items (Some s), take k a) (with_key x b.0, b.1))
+      → (IsBuilder a t.nodes.items (Some s) t.inner t.count t.depth × IsLine a k × (t.innermost ≡ innermost_of (built a t.nodes.items (Some s)).0)) × (◌≡◌ {A = Building} (built a t.nodes.items (Some s), take k a) (with_key x b.0, b.1))
   key_given s wanted good x same =
       let g = key_comes a t.nodes.items t.key t.inner t.count t.depth now.0.0 b.0 (state_seen now.1) s wanted good in
       let view = g.1 ∙ ap (λ (y : List ℕ). with_key y b.0) same in
@@ -346,7 +349,7 @@ module _ (a : List ℕ) (k : ℕ) (t : OpenTree) (b : Building) (now : Stands a 
 
   stays : (u : OpenTree) → Stays t u → Stands a k u b
   stays u h =
-      let p = same_fields (λ ns l i n d. (IsBuilder a ns l i n d × (k ≤ length a)) × (◌≡◌ {A = Building} (built a ns l, take k a) b)) u t.nodes.items t.key t.inner t.count t.depth h.nodes_are h.key_is h.inner_is h.count_is h.depth_is ((now.0.0, now.0.1), now.1) in
+      let p = same_fields (λ ns l i n d. (IsBuilder a ns l i n d × IsLine a k) × (◌≡◌ {A = Building} (built a ns l, take k a) b)) u t.nodes.items t.key t.inner t.count t.depth h.nodes_are h.key_is h.inner_is h.count_is h.depth_is ((now.0.0, now.0.1), now.1) in
       ((p.0.0, p.0.1, inside_seen h.innermost_is inside_now (state_seen p.1)), p.1)
 
   module _ (room : node_total b.0 < most_nodes) where
@@ -364,7 +367,7 @@ module _ (a : List ℕ) (k : ℕ) (t : OpenTree) (b : Building) (now : Stands a 
     scalar_added wanted body good v is u (Ok x) h =
         let alone = scalar_alone a body v is in
         let p = value_comes a t.nodes.items t.key t.inner t.count t.depth now.0.0 b.0 (state_seen now.1) v body wanted room alone.0 alone.1 good (length t.nodes.items - t.inner) refl _ refl in
-        let q = same_fields (λ ns l i n d. (IsBuilder a ns l i n d × (k ≤ length a)) × (◌≡◌ {A = Building} (built a ns l, take k a) (with_value v b.0, b.1))) u _ None t.inner (t.count + 1) t.depth h.nodes_are h.key_is h.inner_is h.count_is h.depth_is
+        let q = same_fields (λ ns l i n d. (IsBuilder a ns l i n d × IsLine a k) × (◌≡◌ {A = Building} (built a ns l, take k a) (with_value v b.0, b.1))) u _ None t.inner (t.count + 1) t.depth h.nodes_are h.key_is h.inner_is h.count_is h.depth_is
         ((p.0, now.0.1), both_seen p.1 (line_seen now.1)) in
         ((q.0.0, q.0.1, inside_seen (h.innermost_is ∙ inside_now) (inside-put v b.0.0) (state_seen q.1)), q.1)
     scalar_added wanted body good v is u (Err e) h = stays u h
@@ -372,17 +375,17 @@ module _ (a : List ℕ) (k : ℕ) (t : OpenTree) (b : Building) (now : Stands a 
     -- a container was added, and is the innermost one
     pub container_opened : TakesValue b.0.0 → (kind : Bool) → (u : OpenTree) → Adds t (Opened kind t.inner t.count) u → (at : ℕ) → at ≡ length t.nodes.items
         → (i : Innermost) → i ≡ innermost_opened kind
-        → (IsBuilder a u.nodes.items u.key at 0 (u.depth + 1) × (k ≤ length a) × (i ≡ innermost_of (built_tree a u).0)) × (◌≡◌ {A = Building} (built_tree a u, take k a) (with_open kind b.0, b.1))
+        → (IsBuilder a u.nodes.items u.key at 0 (u.depth + 1) × IsLine a k × (i ≡ innermost_of (built_tree a u).0)) × (◌≡◌ {A = Building} (built_tree a u, take k a) (with_open kind b.0, b.1))
     container_opened wanted kind u h at here inner inner_is =
         let p = opens a t.nodes.items t.key t.inner t.count t.depth now.0.0 b.0 (state_seen now.1) kind wanted room (length t.nodes.items - t.inner) refl u.nodes.items h.nodes_are in
-        let P = λ (l : Option Span) (i d : ℕ). (IsBuilder a u.nodes.items l i 0 d × (k ≤ length a)) × (◌≡◌ {A = Building} (built a u.nodes.items l, take k a) (with_open kind b.0, b.1)) in
+        let P = λ (l : Option Span) (i d : ℕ). (IsBuilder a u.nodes.items l i 0 d × IsLine a k) × (◌≡◌ {A = Building} (built a u.nodes.items l, take k a) (with_open kind b.0, b.1)) in
         let q = subst (λ (l : Option Span). P l at (u.depth + 1)) (sym h.key_is)
         (subst (λ (i : ℕ). P None i (u.depth + 1)) (sym here)
         (subst (λ (d : ℕ). P None (length t.nodes.items) (d + 1)) (sym h.depth_is) ((p.0, now.0.1), both_seen p.1 (line_seen now.1)))) in
         ((q.0.0, q.0.1, inside_seen inner_is (inside-empty kind) (state_seen q.1)), q.1)
 
 module _ {E : Type 0} (a : List ℕ) (k : ℕ) (u : OpenTree) (b : Building) (v : Tree) where
-  pub kept : (r : Result (Unit {0}) E) → Comes a k u b v r → IsOpenTree a u × (k ≤ length a) × IsInside a u
+  pub kept : (r : Result (Unit {0}) E) → Comes a k u b v r → IsOpenTree a u × IsLine a k × IsInside a u
   kept (Ok x) h = h.0
   kept (Err e) h = h.0
 
@@ -395,6 +398,23 @@ module _ {E : Type 0} (a : List ℕ) (k : ℕ) (u : OpenTree) (b : Building) (v 
   on_err (Err e) h = h.1
 
 -- ---- a new builder
+
+pub no_line : (a : List ℕ) → IsLine a 0
+no_line a = record { within = omega arith; utf8 = IsUtf8-nil; feeds = λ i h. absurd (omega (arith, h)) }
+
+fed : (line : List ℕ) → EndsInFeeds (held line)
+fed line i within other =
+    let all : length (held line) ≡ length line + feeds_behind = length-append line (replicate feeds_behind 10) ∙ ap (λ (n : ℕ). length line + n) (length-replicate {A = ℕ} feeds_behind 10) in
+    ⊎_elim
+    (λ near. omega (arith, near, all))
+    (λ far. absurd (other (get_or-append_right line (replicate feeds_behind 10) (length line) i 0 refl far ∙ get_or-replicate feeds_behind (i - length line) 10 0 (omega (arith, within, far, all)))))
+    (cases_lt i (length line))
+
+-- a line is held, with the line feeds
+pub line_held : (line a : List ℕ) (k : ℕ) → IsUtf8 line → IsUtf8 (replicate feeds_behind 10) → a ≡ held line → k ≡ length a → IsLine a k × (take k a ≡ held line)
+line_held line a k good feeds is all =
+    let whole : take k a ≡ held line = ap (λ (n : ℕ). take n a) all ∙ take_all a ∙ is in
+    (record { within = omega (arith, all); utf8 = subst IsUtf8 (sym whole) (IsUtf8-append line (replicate feeds_behind 10) good feeds); feeds = subst EndsInFeeds (sym whole) (fed line) }, whole)
 
 pub starts : (a : List ℕ) (ns : List Node) (t : OpenTree) → IsEmpty ns t → ns ≡ [] → length a < text_bound → IsOpenTree a t × (built_tree a t ≡ fresh) × IsInside a t
 starts a ns t h e small =

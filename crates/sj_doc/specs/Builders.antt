@@ -1,5 +1,5 @@
 -- What the fields of a `DocBuilder` stand for.
-use Rattle.std.specs.Prelude.{◌≡◌, ℕ, ◌+◌, ◌-◌, ◌≤◌, ◌<◌, List, [], ◌∷◌, ◌++◌, length, get_or, Bool, true, false, Option, None, option_map, IfSome}
+use Rattle.std.specs.Prelude.{◌≡◌, ◌≢◌, ℕ, ◌+◌, ◌-◌, ◌≤◌, ◌<◌, List, [], ◌∷◌, ◌++◌, length, get_or, slice_index, replicate, take, IsUtf8, Bool, true, false, Option, None, option_map, IfSome}
 use Rattle.std.specs.List.{AllByRecursion}
 use Rattle.std.specs.Coded.{Coded, coded×, coded_list, coded_ℕ}
 use Rattle.sj_json.specs.Coding.{state_code}
@@ -15,12 +15,30 @@ use Rattle.sj_json.specs.Links.{laid_ups}
 use Rattle.sj_doc.specs.Kinds.{opens_object}
 use Rattle.sj_doc.specs.Nodes.{text_in, entries, links, IsSpan, IsNode}
 
--- the document so far, and the line
+-- the document so far, and the line with the line feeds behind it
 abbrev pub Building : Type 0
 Building = State × List ℕ
 
 abbrev pub building_code : Coded Building
 building_code = coded× state_code (coded_list coded_ℕ)
+
+-- how many line feeds stand behind a line that is held
+abbrev pub feeds_behind : ℕ
+feeds_behind = 16
+
+-- a line as it is held
+abbrev pub held : List ℕ → List ℕ
+held line = line ++ replicate feeds_behind 10
+
+-- so many bytes stand behind each byte that is no line feed
+abbrev pub EndsInFeeds : List ℕ → Type 0
+EndsInFeeds text = (i : ℕ) → i < length text → slice_index text i ≢ 10 → i + 1 + feeds_behind ≤ length text
+
+-- the first so many bytes are the line that is held, with the line feeds, or there is none
+pub record IsLine (arena : List ℕ) (line : ℕ) : Type 0 where
+  pub within : line ≤ length arena
+  pub utf8 : IsUtf8 (take line arena)
+  pub feeds : EndsInFeeds (take line arena)
 
 abbrev pub built : List ℕ → List Node → Option Span → State
 built arena nodes key = state_of (option_map (text_in arena) key) (entries arena nodes)

@@ -1,5 +1,5 @@
 -- The children that are left, from a node in the layout of a tree on.
-use Rattle.std.specs.Prelude.{◌≡◌, ℕ, List, [], ◌∷◌, ◌++◌, length, take, drop, Option, None}
+use Rattle.std.specs.Prelude.{◌≡◌, ℕ, List, [], ◌∷◌, ◌++◌, length, take, drop, None}
 use Rattle.sj_json.specs.Tree.{Tree, Child, numbered, NumberedChild}
 use Rattle.sj_json.specs.Cells.{Entry, layout, Spine, last, into, spine}
 

@@ -1,7 +1,7 @@
 -- The children under one key.
 use Rattle.std.specs.Prelude.{ℕ, List, [], ◌∷◌, Bool, false, Option, Some, None, if◌then◌else◌}
 use Rattle.std.specs.Str.{bytes_eq}
-use Rattle.sj_json.specs.Tree.{Tree, NumberedChild}
+use Rattle.sj_json.specs.Tree.{NumberedChild}
 
 abbrev pub is_key : List ℕ → Option (List ℕ) → Bool
 is_key key None = false

@@ -1,6 +1,6 @@
 -- The keys among children.
-use Rattle.std.specs.Prelude.{ℕ, List, [], ◌∷◌, Option, Some, None}
-use Rattle.sj_json.specs.Tree.{Tree, NumberedChild}
+use Rattle.std.specs.Prelude.{ℕ, List, [], ◌∷◌, Some, None}
+use Rattle.sj_json.specs.Tree.{NumberedChild}
 
 abbrev pub given : List NumberedChild → List (List ℕ)
 given [] = []

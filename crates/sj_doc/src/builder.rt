@@ -5,16 +5,19 @@ ghost use Rattle.sj_decimal.specs.Shorts.{between};
 ghost use Rattle.sj_json.specs.Tree.{null, truth, string, number, exact, wide};
 ghost use Rattle.sj_json.specs.Building.{fresh, TakesValue, TakesKey, TakesClose, with_value, with_key, with_open, with_close, IsComplete, top};
 ghost use Rattle.sj_doc.specs.Limits.{most_nodes, text_bound};
-ghost use Rattle.sj_doc.specs.Builders.{node_total, IsBetween, Stores, HasRoom, IsEmpty, Adds, Stays, Tells, innermost_opened};
+ghost use Rattle.sj_doc.specs.Builders.{held, EndsInFeeds, node_total, IsBetween, Stores, HasRoom, IsEmpty, Adds, Stays, Tells, innermost_opened};
 ghost use Rattle.sj_doc.specs.Nodes.{IsNumeral, spelled};
 ghost use Rattle.sj_doc.specs.Kinds.{want_of};
 
-use crate::doc::Doc;
+use crate::doc::{Doc, text_at};
 use crate::node::{Body, Node, Span, Want};
 use sj_base::Memory;
 use sj_decimal::Decimal;
 use std::alloc::Global;
 use std::marker::Model;
+
+// What stands behind a line that a builder holds.
+const LINE_FEEDS: &str = "\n\n\n\n\n\n\n\n\n\n\n\n\n\n\n\n";
 
 // What the innermost open container is.
 #[derive(Clone, Copy, Drop)]
@@ -41,22 +44,22 @@ struct OpenTree {
 
 /// A document while it is being built, from its first token to its last. Contracts see what the innermost
 /// open container holds so far, then the same of those around it, from the inside out, and the line that it
-/// holds.
+/// holds, with the line feeds behind it.
 ///
-/// A value may come where `wants` is `Value` or `ValueOrClose` and fewer than 2^25 nodes were built. The line
-/// and all strings, keys and numbers that do not stand in it may have 2^32 - 1 bytes together: a call that
+/// A value may come where `wants` is `Value` or `ValueOrClose` and fewer than 2^25 nodes were built. The line,
+/// the line feeds and all strings, keys and numbers that do not stand in it may have 2^32 - 1 bytes together: a call that
 /// would pass this gives `Memory`. A call that gives `Memory` leaves the builder as it was.
 #[derive(Drop)]
 pub struct DocBuilder {
     // the line, and behind it each text that does not stand in it
     arena: Vec<u8>,
-    // the length of the line
+    // the length of the line, with the line feeds behind it
     line: u32,
     tree: OpenTree,
 }
 
 impl Model for DocBuilder {
-    ghost use Rattle.std.specs.Prelude.{ℕ, ◌≤◌, take, length};
+    ghost use Rattle.std.specs.Prelude.{ℕ, take};
     ghost use Rattle.sj_doc.specs.Builders.{Building, building_code, built_tree, IsOpenTree};
 
     ghost Value = { Building };
@@ -65,9 +68,9 @@ impl Model for DocBuilder {
 
     ghost view = { λ b. (built_tree b.arena.items b.tree, take b.line b.arena.items) };
 
-    ghost use Rattle.sj_doc.specs.Builders.{IsInside};
+    ghost use Rattle.sj_doc.specs.Builders.{IsInside, IsLine};
 
-    ghost invariant = { λ b. IsOpenTree b.arena.items b.tree × (b.line ≤ length b.arena.items) × IsInside b.arena.items b.tree };
+    ghost invariant = { λ b. IsOpenTree b.arena.items b.tree × IsLine b.arena.items b.line × IsInside b.arena.items b.tree };
 }
 
 // `Vec::push`, where there is no room. Its answer fits a register, which that of `Vec::push` does not.
@@ -200,10 +203,13 @@ impl DocBuilder {
         }
     }
 
-    /// An empty builder over the memory of this one, which holds the line. Strings, keys and numbers that stand in the line
-    /// are then given by their places, and are not copied one by one.
+    /// An empty builder over the memory of this one, which holds the line, and 16 line feeds behind it. Strings, keys and numbers
+    /// that stand in the line are then given by their places, and are not copied one by one.
+    ///
+    /// # Errors
+    /// [`Memory`] where memory runs out.
     pub fn holding(self, line: &str) -> Result<DocBuilder, Memory>
-        ensures { IfOk result (λ builder. builder ≡ (fresh, line.now)) }
+        ensures { IfOk result (λ builder. builder ≡ (fresh, held line.now)) }
     {
         let DocBuilder {
             mut arena,
@@ -213,11 +219,27 @@ impl DocBuilder {
         arena.clear();
         tree.nodes.clear();
         store(&mut arena, line.as_bytes())?;
+        store(&mut arena, LINE_FEEDS.as_bytes())?;
+        let held = arena.len() as u32;
         Ok(DocBuilder {
             arena,
-            line: line.len() as u32,
+            line: held,
             tree: OpenTree::over(tree.nodes),
         })
+    }
+
+    /// What it holds: the line and the line feeds behind it, or nothing. At a byte that is no line feed, the 16 bytes behind it
+    /// may be looked at without asking for the end.
+    #[inline(always)]
+    pub fn line(&self) -> &str
+        ensures line { result.now ≡ self.now.1 }
+        ensures feeds { EndsInFeeds result.now }
+    {
+        let span = Span {
+            start: 0,
+            len: self.line,
+        };
+        text_at(&self.arena, span)
     }
 
     /// A null.

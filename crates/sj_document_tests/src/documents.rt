@@ -63,6 +63,16 @@ fn builds_and_walks(rt: HostRuntime) -> Result<(), Fail> {
     Ok(())
 }
 
+#[test]
+fn holds_a_line_with_line_feeds_behind_it(rt: HostRuntime) -> Result<(), Fail> {
+    let builder = DocBuilder::new(rt.alloc());
+    expect(&rt, builder.line(), "", "no line");
+    let builder = builder.holding("[1]")?;
+    let want = "[1]\n\n\n\n\n\n\n\n\n\n\n\n\n\n\n\n";
+    expect(&rt, builder.line(), want, "a line");
+    Ok(())
+}
+
 // [1.5,-7]
 fn numbers(alloc: Global) -> Result<Doc, Fail> {
     let mut builder = DocBuilder::new(alloc);

@@ -10,7 +10,7 @@ use Rattle.sj_json.specs.Machine.{Mode, Escape, begun, unit, high, second, Escap
 use Rattle.sj_read.specs.declared.escape.TheConstants.{LETTERS, DIGITS}
 use Rattle.sj_read.specs.Strings.{or_zero, letter_or_none, digit_or_none, FindsFrom, FailsFrom, FindsEscape, NoEscape, after_unit, HasUnit, NoUnit}
 use Rattle.sj_read.proofs.Lanes.{upto, upto_sound}
-use Rattle.sj_read.proofs.Steps.{goes, stops, here, cond_no, ne_false}
+use Rattle.sj_read.proofs.Steps.{goes, halts, here, cond_no, ne_false}
 
 -- ---- the tables
 
@@ -84,7 +84,7 @@ module _ (text : List ℕ) (at : ℕ) (e : Escape) (h : at < length text) where
   escape_ends c is limit k x s = goes limit (escaped k x e) s text at (get_or text at 0) h refl (quoted k (x ++ encode_utf8 c), s) (ap (option_map (after_step k x s)) is)
 
   pub escape_fails : escape_step e (get_or text at 0) ≡ None → (limit : ℕ) (k : Bool) (x : List ℕ) (s : State) → run limit (escaped k x e) s (drop at text) ≡ None
-  escape_fails is limit k x s = stops limit (escaped k x e) s text at (get_or text at 0) h refl (ap (option_map (after_step k x s)) is)
+  escape_fails is limit k x s = halts limit (escaped k x e) s text at (get_or text at 0) h refl (ap (option_map (after_step k x s)) is)
 
 -- the text ends within the escape
 pub escape_cut : (text : List ℕ) (at : ℕ) (e : Escape) → length text ≤ at → (limit : ℕ) (k : Bool) (x : List ℕ) (s : State) → run limit (escaped k x e) s (drop at text) ≡ None

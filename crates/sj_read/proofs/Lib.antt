@@ -18,5 +18,5 @@ pub mod Ends
 pub mod Lanes
 -- for `long_plain_end`, `near_digits_end`, `near_end`, `plain_end_of_15`, `plain_end_of_31` and `short_plain_end`
 pub mod Runs
--- for `stops_in_last_16`
-pub mod Last
+-- for `read_text`
+pub mod Feeds

@@ -1,11 +1,14 @@
 -- A run of bytes that pass q, seen a vector at a time through the mask of those that fail it.
-use Rattle.std.proofs.Common.{◌≡◌, ◌≢◌, ℕ, ◌+◌, ◌*◌, ◌<◌, ◌≤◌, Bool, true, false, not, cond, eqb, List, [], ◌∷◌, map, length, drop, refl, sym, ap, ap₂, ◌∙◌, arith}
+use Rattle.std.proofs.Common.{◌≡◌, ◌≢◌, ℕ, ◌+◌, ◌*◌, ◌<◌, ◌≤◌, ◌==◌, inl, inr, get_or, Bool, true, false, not, cond, eqb, List, [], ◌∷◌, map, length, drop, refl, sym, ap, ap₂, ◌∙◌, arith}
 use Rattle.std.proofs.lemmas.Simd.{chunk-drop, length-chunk, leading_from_mask_l, trailing_mask_l}
-use Rattle.std.proofs.lemmas.List.{length-drop}
+use Rattle.std.proofs.lemmas.List.{get_or-drop, length-drop}
 use Rattle.std.proofs.lemmas.List.Folds.{prefix_len-append}
-use Rattle.std.proofs.lemmas.List.Sums.{prefix_len-le-length}
+use Rattle.std.proofs.lemmas.List.Sums.{prefix_len-le-length, prefix_len_passes}
 use Rattle.std.proofs.lemmas.Bool.{eq-eqb, ne_eqb}
 use Rattle.std.specs.List.{prefix_len}
+use Rattle.std.proofs.lemmas.Bool.Decides.{eqb_tells}
+use Rattle.sj_base.specs.ByteClasses.{is_plain}
+use Rattle.sj_doc.specs.Builders.{feeds_behind, EndsInFeeds}
 use lib.Lanes.{chunk, mask_l}
 use lib.Count.{count_trailing_zeros}
 
@@ -24,13 +27,6 @@ module _ (p q : ℕ → Bool) (opposite : (x : ℕ) → q x ≡ not (p x)) where
   all_pass : (xs : List ℕ) → prefix_len (λ x. not (p x)) xs ≡ length xs → mask_l (map p xs) ≡ 0
   all_pass [] e = refl
   all_pass (x ∷ xs) e = none_fails (p x) _ (length xs) _ (prefix_len-le-length (λ y. not (p y)) xs) (omega arith) (all_pass xs)
-
-  -- a list of so few bytes that one mask has them all
-  pub run_in : (xs : List ℕ) → length xs ≤ 64 → 0 < mask_l (map p xs) → prefix_len q xs ≡ count_trailing_zeros 64 (mask_l (map p xs))
-  run_in xs few some = same_run xs ∙ sym (trailing_mask_l p 64 xs few some)
-
-  pub run_all : (xs : List ℕ) → mask_l (map p xs) ≡ 0 → prefix_len q xs ≡ length xs
-  run_all xs none = same_run xs ∙ leading_from_mask_l p xs none
 
   split : (d : List ℕ) (i n : ℕ) → prefix_len q (drop i d) ≡ cond (eqb (prefix_len q (chunk i n d)) (length (chunk i n d))) (length (chunk i n d) + prefix_len q (drop (i + n) d)) (prefix_len q (chunk i n d))
   split d i n = ap (prefix_len q) (chunk-drop i n d) ∙ prefix_len-append q (chunk i n d) (drop (i + n) d)
@@ -54,3 +50,22 @@ module _ (p q : ℕ → Bool) (opposite : (x : ℕ) → q x ≡ not (p x)) where
       let stops : prefix_len q c ≢ length c = λ e. omega (arith, all_pass c (sym (same_run c) ∙ e)) in
       let here : prefix_len q (drop i d) ≡ prefix_len q c = split d i n ∙ ap (λ b. cond b (length c + prefix_len q (drop (i + n) d)) (prefix_len q c)) (ne_eqb _ _ stops) in
       omega (arith, here, prefix_len-le-length q c, length-chunk i n d room)
+
+-- behind 16 bytes of plain text there are line feeds still
+pub plain_inside : (text : List ℕ) (at : ℕ) → EndsInFeeds text → 16 ≤ prefix_len is_plain (drop at text) → at + 16 ≤ length text → at + 16 + feeds_behind ≤ length text
+plain_inside text at feeds more within =
+    let plain : is_plain (get_or (drop at text) 15 0) ≡ true = prefix_len_passes is_plain (drop at text) 15 0 (omega (arith, more)) in
+    omega (arith, feeds (at + 15) (omega (arith, within)) (λ q. let no : true ≡ false = sym plain ∙ ap is_plain (get_or-drop at text 15 0 ∙ q) in cc))
+
+no_plain_front : (xs : List ℕ) → (0 < length xs → get_or xs 0 0 ≡ 10) → prefix_len is_plain xs ≡ 0
+no_plain_front [] h = refl
+no_plain_front (x ∷ xs) h = ap (λ (y : ℕ). cond (is_plain y) (1 + prefix_len is_plain xs) 0) (h (omega arith))
+
+-- among the line feeds there is no plain text
+pub no_plain_behind : (text : List ℕ) (at : ℕ) → EndsInFeeds text → at ≤ length text → length text < at + 16 → prefix_len is_plain (drop at text) ≡ 0
+no_plain_behind text at feeds within far =
+    no_plain_front (drop at text) (λ some.
+    elim (eqb_tells (get_or text at 0) 10) as (λ _. get_or (drop at text) 0 0 ≡ 10) [
+      | inl e ↦ get_or-drop at text 0 0 ∙ ap (λ (i : ℕ). get_or text i 0) (omega arith) ∙ e.1
+      | inr e ↦ absurd (omega (arith, far, feeds at (omega (arith, some, length-drop at text)) (λ q. let no : true ≡ false = sym (ap (λ (y : ℕ). y == 10) q) ∙ e.0 in cc)))
+    ])

@@ -1,16 +1,18 @@
 -- Steps of the reader of bytes, as the code takes them.
 use Rattle.std.proofs.Common.{◌≡◌, ◌≢◌, ℕ, ◌+◌, ◌-◌, ◌<◌, ◌≤◌, List, [], ◌∷◌, ◌++◌, length, take, drop, get_or, Bool, true, false, cond, ◌==◌, nat_lt, Option, Some, None, Result, Ok, Err, option_and_then, MatchResult, IfOk, OnOk, OnErr, codes, refl, sym, ap, ◌∙◌, subst, arith, ◌⊎◌, inl, inr}
-use Rattle.std.proofs.lemmas.List.{drop_more, drop-drop, take-append-drop, length-drop, length-append}
+use Rattle.std.proofs.lemmas.List.{get_or-drop, get_or_append_left, drop_more, drop-drop, take-append-drop, length-drop, length-append}
 use Rattle.std.proofs.lemmas.Bool.Decides.{eqb_tells}
 use borrow.Author.Tests.{lt-ltb, le-ltb, eqb-true, eqb-false}
+use Rattle.std.specs.Str.{IsUtf8}
 use Rattle.sj_decimal.specs.Number.{begins_number}
+use Rattle.sj_decimal.specs.Shorts.{between}
 use Rattle.sj_json.specs.Tree.{Tree, null, truth, string, below}
 use Rattle.sj_json.specs.Building.{Part, top, elements, pairs, State, TakesValue, TakesKey, TakesClose, put, put_key, with_value, with_key, with_open, with_close}
 use Rattle.sj_base.specs.ByteClasses.{is_blank}
 use Rattle.sj_json.specs.Machine.{Mode, value, value_or_close, key, key_or_close, colon, after_value, letters, quoted, open_turn, close_turn, start, separate, end_quote, turn, run}
 use Rattle.sj_json.proofs.Complete.{run_step, run_plain}
 use Rattle.sj_json.proofs.Buildings.{total-put, total-open, total-key}
-use Rattle.sj_doc.specs.Builders.{Building, node_total}
+use Rattle.sj_doc.specs.Builders.{feeds_behind, EndsInFeeds, Building, node_total}
 use Rattle.sj_doc.specs.Kinds.{want_of}
 use Rattle.sj_doc.specs.declared.node.Want.TheVariants as wants
 use Rattle.sj_read.specs.declared.reader.Mode as coded
@@ -36,12 +38,17 @@ module _ (limit : ℕ) (m : Mode) (s : State) (text : List ℕ) (at c : ℕ) (h 
   pub goes : (p : Mode × State) → turn limit m s c ≡ Some p → run limit m s (drop at text) ≡ run limit p.0 p.1 (drop (at + 1) text)
   goes p t = ap (run limit m s) here ∙ run_step limit m s c (drop (at + 1) text) p t
 
-  pub stops : turn limit m s c ≡ None → run limit m s (drop at text) ≡ None
+  pub halts : turn limit m s c ≡ None → run limit m s (drop at text) ≡ None
   unfolding run
-  stops t = ap (run limit m s) here ∙ ap (option_and_then (λ (q : Mode × State). run limit q.0 q.1 (drop (at + 1) text))) t
+  halts t = ap (run limit m s) here ∙ ap (option_and_then (λ (q : Mode × State). run limit q.0 q.1 (drop (at + 1) text))) t
+
+-- in a line, before the line feeds
+module _ (limit : ℕ) (m : Mode) (s : State) (text : List ℕ) (at c : ℕ) (h : at + feeds_behind < length text) (e : get_or text at 0 ≡ c) where
+  pub stops : turn limit m s c ≡ None → run limit m s (drop at text) ≡ None
+  stops t = halts limit m s text at c (omega (arith, h)) e t
 
   pub one_byte : (n : coded.Mode) (t : State) → turn limit m s c ≡ Some (mode_of n, t) → Ready (mode_of n) t → node_total t ≤ at + 1 → Went limit m s text at n (at + 1) t
-  one_byte n t is ready room = record { same = goes (mode_of n, t) is; later = omega arith; within = omega arith; ready = ready; room = room }
+  one_byte n t is ready room = record { same = goes limit m s text at c (omega (arith, h)) e (mode_of n, t) is; later = omega arith; within = omega (arith, h); ready = ready; room = room }
 
 -- ---- white space
 
@@ -188,7 +195,11 @@ string_goes limit k s text from end h =
 
 -- a string without an escape
 pub plain_string : (text : List ℕ) (from end : ℕ) → EndsPlain text from end → FindsString text from end (take (end - from) (drop from text))
-plain_string text from end h = record { reads = λ limit k s. string_goes limit k s text from end h; later = h.later; within = h.within }
+plain_string text from end h = record { reads = λ limit k s. string_goes limit k s text from end h; later = h.later; within = h.within; quote = h.quote }
+
+-- in the line that is lent
+pub lent : (text line : List ℕ) (from end : ℕ) → text ≡ line → EndsPlain text from end × IsUtf8 (between text from end) → EndsPlain line from end × IsUtf8 (between line from end)
+lent text line from end e h = subst (λ (x : List ℕ). EndsPlain x from end × IsUtf8 (between x from end)) e h
 
 -- ---- calls of the builder
 
@@ -221,15 +232,19 @@ onward limit m s text at n to t w k (Ok end) new v = record { same = w.same ∙ 
 onward limit m s text at n to t w k (Err NotJson) new v = w.same ∙ v
 onward limit m s text at n to t w k (Err Memory) new v = tt
 
+-- behind a quotation mark
+behind_quote : (text : List ℕ) (end : ℕ) → EndsInFeeds text → end < length text → get_or text end 0 ≡ 34 → end + 1 + feeds_behind ≤ length text
+behind_quote text end feeds within quote = feeds end within (λ q. let same : 34 ≡ 10 = sym quote ∙ q in cc)
+
 -- what a value or a key that begins at the place leads to
-module _ (limit : ℕ) (s : State) (text : List ℕ) (at c : ℕ) (h : at < length text) (e : get_or text at 0 ≡ c) (room : node_total s ≤ at) where
-  pub string_value : TakesValue s.0 → c ≡ 34 → (end : ℕ) (x : List ℕ) → FindsString text (at + 1) end x → Went limit value s text at modes.AfterValue (end + 1) (with_value (string x) s)
-  string_value ready is end x found =
+module _ (limit : ℕ) (s : State) (text : List ℕ) (at c : ℕ) (h : at + feeds_behind < length text) (e : get_or text at 0 ≡ c) (room : node_total s ≤ at) where
+  pub string_value : EndsInFeeds text → TakesValue s.0 → c ≡ 34 → (end : ℕ) (x : List ℕ) → FindsString text (at + 1) end x → Went limit value s text at modes.AfterValue (end + 1) (with_value (string x) s)
+  string_value feeds ready is end x found =
       let first : turn limit value s c ≡ Some (quoted false [], s) = subst (λ (z : ℕ). turn limit value s z ≡ Some (quoted false [], s)) (sym is) refl in
       record {
-        same = goes limit value s text at c h e (quoted false [], s) first ∙ found.reads limit false s;
+        same = goes limit value s text at c (omega (arith, h)) e (quoted false [], s) first ∙ found.reads limit false s;
         later = omega (arith, found.later);
-        within = omega (arith, found.within);
+        within = behind_quote text end feeds found.within found.quote;
         ready = put_value (string x) s.0 ready;
         room = omega (arith, total-put (string x) s.0 s.1 ready, found.later);
       }
@@ -237,15 +252,15 @@ module _ (limit : ℕ) (s : State) (text : List ℕ) (at c : ℕ) (h : at < leng
   pub no_string_value : c ≡ 34 → NoString text (at + 1) → run limit value s (drop at text) ≡ None
   no_string_value is missing =
       let first : turn limit value s c ≡ Some (quoted false [], s) = subst (λ (z : ℕ). turn limit value s z ≡ Some (quoted false [], s)) (sym is) refl in
-      goes limit value s text at c h e (quoted false [], s) first ∙ missing limit false s
+      goes limit value s text at c (omega (arith, h)) e (quoted false [], s) first ∙ missing limit false s
 
-  pub key_value : TakesKey s.0 → c ≡ 34 → (end : ℕ) (x : List ℕ) → FindsString text (at + 1) end x → Went limit key s text at modes.Colon (end + 1) (with_key x s)
-  key_value ready is end x found =
+  pub key_value : EndsInFeeds text → TakesKey s.0 → c ≡ 34 → (end : ℕ) (x : List ℕ) → FindsString text (at + 1) end x → Went limit key s text at modes.Colon (end + 1) (with_key x s)
+  key_value feeds ready is end x found =
       let first : turn limit key s c ≡ Some (quoted true [], s) = subst (λ (z : ℕ). turn limit key s z ≡ Some (quoted true [], s)) (sym is) refl in
       record {
-        same = goes limit key s text at c h e (quoted true [], s) first ∙ found.reads limit true s;
+        same = goes limit key s text at c (omega (arith, h)) e (quoted true [], s) first ∙ found.reads limit true s;
         later = omega (arith, found.later);
-        within = omega (arith, found.within);
+        within = behind_quote text end feeds found.within found.quote;
         ready = put_key_ready x s.0 ready;
         room = omega (arith, total-key x s.0 s.1, found.later);
       }
@@ -253,7 +268,7 @@ module _ (limit : ℕ) (s : State) (text : List ℕ) (at c : ℕ) (h : at < leng
   pub no_key_value : c ≡ 34 → NoString text (at + 1) → run limit key s (drop at text) ≡ None
   no_key_value is missing =
       let first : turn limit key s c ≡ Some (quoted true [], s) = subst (λ (z : ℕ). turn limit key s z ≡ Some (quoted true [], s)) (sym is) refl in
-      goes limit key s text at c h e (quoted true [], s) first ∙ missing limit true s
+      goes limit key s text at c (omega (arith, h)) e (quoted true [], s) first ∙ missing limit true s
 
   pub no_key : is_blank c ≡ false → c ≢ 34 → run limit key s (drop at text) ≡ None
   no_key b is = stops limit key s text at c h e (cond_no (is_blank c) (Some (key, s)) (cond (c == 34) (Some (quoted true [], s)) None) b ∙ cond_no (c == 34) (Some (quoted true [], s)) None (ne_false c 34 is))
@@ -284,21 +299,23 @@ module _ (limit : ℕ) (s : State) (text : List ℕ) (at c : ℕ) (h : at < leng
     begun : turn limit value s c ≡ Some (letters (y ∷ r) t, s)
     begun = subst (λ (z : ℕ). turn limit value s z ≡ Some (letters (y ∷ r) t, s)) (sym is) first
 
-    pub word_value : TakesValue s.0 → ((rest : List ℕ) → run limit (letters (y ∷ r) t) s ((y ∷ r) ++ rest) ≡ run limit after_value (with_value t s) rest) → below t ≡ 0
+    pub word_value : EndsInFeeds text → get_or (y ∷ r) (length r) 0 ≢ 10 → TakesValue s.0 → ((rest : List ℕ) → run limit (letters (y ∷ r) t) s ((y ∷ r) ++ rest) ≡ run limit after_value (with_value t s) rest) → below t ≡ 0
         → drop (at + 1) text ≡ (y ∷ r) ++ drop (length (y ∷ r)) (drop (at + 1) text) → Went limit value s text at modes.AfterValue (at + 1 + length (y ∷ r)) (with_value t s)
-    word_value ready reads leaf found =
+    word_value feeds last ready reads leaf found =
         let n = length (y ∷ r) in
         let long : n ≤ length (drop (at + 1) text) = omega (arith, ap length found, length-append (y ∷ r) (drop n (drop (at + 1) text))) in
+        let final : get_or text (at + 1 + length r) 0 ≡ get_or (y ∷ r) (length r) 0 =
+        sym (get_or-drop (at + 1) text (length r) 0) ∙ ap (λ (z : List ℕ). get_or z (length r) 0) found ∙ get_or_append_left (y ∷ r) (drop n (drop (at + 1) text)) 0 (length r) (omega arith) in
         record {
-          same = goes limit value s text at c h e (letters (y ∷ r) t, s) begun ∙ ap (run limit (letters (y ∷ r) t) s) found ∙ reads (drop n (drop (at + 1) text)) ∙ ap (run limit after_value (with_value t s)) (drop-drop n (at + 1) text);
+          same = goes limit value s text at c (omega (arith, h)) e (letters (y ∷ r) t, s) begun ∙ ap (run limit (letters (y ∷ r) t) s) found ∙ reads (drop n (drop (at + 1) text)) ∙ ap (run limit after_value (with_value t s)) (drop-drop n (at + 1) text);
           later = omega arith;
-          within = omega (arith, length-drop (at + 1) text);
+          within = omega (arith, feeds (at + 1 + length r) (omega (arith, long, length-drop (at + 1) text)) (λ q. last (sym final ∙ q)));
           ready = put_value t s.0 ready;
           room = omega (arith, total-put t s.0 s.1 ready);
         }
 
     pub no_word_value : ((rest : List ℕ) → drop (at + 1) text ≡ (y ∷ r) ++ rest → ⊥) → run limit value s (drop at text) ≡ None
-    no_word_value missing = goes limit value s text at c h e (letters (y ∷ r) t, s) begun ∙ no_word limit y r t s (drop (at + 1) text) missing
+    no_word_value missing = goes limit value s text at c (omega (arith, h)) e (letters (y ∷ r) t, s) begun ∙ no_word limit y r t s (drop (at + 1) text) missing
 
   pub no_value : is_blank c ≡ false → begins_number c ≡ false → c ≢ 34 → c ≢ 91 → c ≢ 123 → c ≢ 110 → c ≢ 116 → c ≢ 102 → run limit value s (drop at text) ≡ None
   no_value b d p q r x y z =
@@ -317,7 +334,7 @@ pub false_read : (limit : ℕ) (s : State) (rest : List ℕ) → run limit (lett
 unfolding run
 false_read limit s rest = refl
 
-pub closed_went : (limit : ℕ) (m : Mode) (s : State) (text : List ℕ) (at c : ℕ) → at < length text → get_or text at 0 ≡ c → node_total s ≤ at → turn limit m s c ≡ close_turn s → TakesClose s.0
+pub closed_went : (limit : ℕ) (m : Mode) (s : State) (text : List ℕ) (at c : ℕ) → at + feeds_behind < length text → get_or text at 0 ≡ c → node_total s ≤ at → turn limit m s c ≡ close_turn s → TakesClose s.0
     → (new : State) → new ≡ with_close s → node_total new ≡ node_total s → Went limit m s text at modes.AfterValue (at + 1) new
 closed_went limit m s text at c h e room is takes new same total =
     subst (Went limit m s text at modes.AfterValue (at + 1)) (sym same)
@@ -347,13 +364,13 @@ first_key_turn limit s c b e =
     let rest = cond (c == 34) (Some (quoted true [], s)) None in
     cond_no (is_blank c) (Some (key_or_close, s)) (cond (c == 125) (close_turn s) rest) b ∙ cond_no (c == 125) (close_turn s) rest (ne_false c 125 e) ∙ sym (cond_no (is_blank c) (Some (key, s)) rest b)
 
-same_run : (limit : ℕ) (m n : Mode) (s : State) (text : List ℕ) (at c : ℕ) → at < length text → get_or text at 0 ≡ c → turn limit m s c ≡ turn limit n s c → run limit m s (drop at text) ≡ run limit n s (drop at text)
+same_run : (limit : ℕ) (m n : Mode) (s : State) (text : List ℕ) (at c : ℕ) → at + feeds_behind < length text → get_or text at 0 ≡ c → turn limit m s c ≡ turn limit n s c → run limit m s (drop at text) ≡ run limit n s (drop at text)
 unfolding run
 same_run limit m n s text at c h e f =
-    let cells = here limit m s text at c h e in
+    let cells = here limit m s text at c (omega (arith, h)) e in
     ap (run limit m s) cells ∙ ap (option_and_then (λ (q : Mode × State). run limit q.0 q.1 (drop (at + 1) text))) f ∙ sym (ap (run limit n s) cells)
 
-pub moved : (limit : ℕ) (m n : Mode) (s : State) (text : List ℕ) (at c : ℕ) → at < length text → get_or text at 0 ≡ c → turn limit m s c ≡ turn limit n s c
+pub moved : (limit : ℕ) (m n : Mode) (s : State) (text : List ℕ) (at c : ℕ) → at + feeds_behind < length text → get_or text at 0 ≡ c → turn limit m s c ≡ turn limit n s c
     → (k : coded.Mode) (r : Result ℕ ReadRefusal) (new : State) → Turns limit k r n s text at new → Turns limit k r m s text at new
 moved limit m n s text at c h e f k (Ok x) new w = record { same = same_run limit m n s text at c h e f ∙ w.same; later = w.later; within = w.within; ready = w.ready; room = w.room }
 moved limit m n s text at c h e f k (Err NotJson) new w = same_run limit m n s text at c h e f ∙ w

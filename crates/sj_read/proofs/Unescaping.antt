@@ -12,7 +12,7 @@ use Rattle.sj_json.specs.Building.{State}
 use Rattle.sj_json.specs.Machine.{quoted, escaped, begun, end_quote, run}
 use Rattle.sj_json.proofs.Complete.{run_plain_bytes}
 use Rattle.sj_read.specs.Strings.{FindsString, NoString, FindsEscape, NoEscape}
-use Rattle.sj_read.proofs.Steps.{goes, stops, cut, cond_no, ne_false}
+use Rattle.sj_read.proofs.Steps.{goes, halts, cut, cond_no, ne_false}
 use Rattle.sj_read.proofs.Scanned.{plain_run, no_plain}
 
 -- a byte at which plain text stops is ASCII
@@ -46,7 +46,7 @@ module _ (text : List ℕ) (from end : ℕ) (x : List ℕ) (h : Reaches text fro
 
   module _ (l : end < length text) where
     pub string_closes : from ≤ end → get_or text end 0 ≡ 34 → FindsString text from end x
-    string_closes later e = record { reads = λ limit k s. h limit k s ∙ goes limit (quoted k x) s text end 34 l e (end_quote k x s) refl; later = later; within = l }
+    string_closes later e = record { reads = λ limit k s. h limit k s ∙ goes limit (quoted k x) s text end 34 l e (end_quote k x s) refl; later = later; within = l; quote = e }
 
     begins : get_or text end 0 ≡ 92 → (limit : ℕ) (k : Bool) (s : State) → run limit (quoted k []) s (drop from text) ≡ run limit (escaped k x begun) s (drop (end + 1) text)
     begins e limit k s = h limit k s ∙ goes limit (quoted k x) s text end 92 l e (escaped k x begun, s) refl
@@ -60,7 +60,7 @@ module _ (text : List ℕ) (from end : ℕ) (x : List ℕ) (h : Reaches text fro
     pub bad_byte : is_plain (get_or text end 0) ≡ false → get_or text end 0 ≢ 34 → get_or text end 0 ≢ 92 → NoString text from
     bad_byte p q r limit k s =
         let b = get_or text end 0 in
-        h limit k s ∙ stops limit (quoted k x) s text end b l refl (cond_no (b == 34) _ _ (ne_false b 34 q) ∙ cond_no (is_plain b) _ _ p ∙ cond_no (b == 92) _ _ (ne_false b 92 r))
+        h limit k s ∙ halts limit (quoted k x) s text end b l refl (cond_no (b == 34) _ _ (ne_false b 34 q) ∙ cond_no (is_plain b) _ _ p ∙ cond_no (b == 92) _ _ (ne_false b 92 r))
 
 pub escape_boundary : (text : List ℕ) (from c next : ℕ) → IsUtf8 text → FindsEscape text from c next → IsCharBoundary text next
 escape_boundary text from c next good f =

@@ -61,6 +61,7 @@ pub record FindsString (text : List ℕ) (from : ℕ) (end : ℕ) (x : List ℕ)
   pub reads : (limit : ℕ) (k : Bool) (s : State) → run limit (quoted k []) s (drop from text) ≡ run limit (end_quote k x s).0 (end_quote k x s).1 (drop (end + 1) text)
   pub later : from ≤ end
   pub within : end < length text
+  pub quote : get_or text end 0 ≡ 34
 
 abbrev pub NoString : List ℕ → ℕ → Type 0
 NoString text from = (limit : ℕ) (k : Bool) (s : State) → run limit (quoted k []) s (drop from text) ≡ None

@@ -1,16 +1,21 @@
 -- What a step of the reader does, against the reader of bytes.
-use Rattle.std.specs.Prelude.{◌≡◌, ℕ, ◌<◌, ◌≤◌, ◌==◌, List, length, drop, Bool, false, Some, None, Result, Ok, Err, ⊤}
+use Rattle.std.specs.Prelude.{◌≡◌, ℕ, ◌+◌, ◌<◌, ◌≤◌, ◌==◌, List, length, drop, Bool, false, Some, None, Result, Ok, Err, ⊤}
 use Rattle.sj_json.specs.Tree.{Tree}
 use Rattle.sj_json.specs.Building.{Part, top, elements, pairs, State, TakesValue, TakesKey, with_value}
 use Rattle.sj_json.specs.Machine as machine
 use Rattle.sj_json.specs.Machine.{run}
-use Rattle.sj_doc.specs.Builders.{node_total}
+use Rattle.sj_json.specs.Spelling.{max_length}
+use Rattle.sj_doc.specs.Builders.{feeds_behind, node_total}
 use Rattle.sj_read.specs.declared.reader.Mode.{Mode}
 use Rattle.sj_read.specs.declared.reader.Mode.TheVariants.{Value, ValueOrClose, Key, KeyOrClose, Colon, AfterValue}
 use Rattle.sj_read.specs.declared.reader.Place.{Place}
 use Rattle.sj_read.specs.declared.reader.Place.TheVariants.{Member, Anywhere}
 use Rattle.sj_read.specs.declared.reader.ReadRefusal.{ReadRefusal}
 use Rattle.sj_read.specs.declared.reader.ReadRefusal.TheVariants.{NotJson, Memory}
+
+-- the greatest length of a line as it is held, with the line feeds behind it
+abbrev pub most_held : ℕ
+most_held = max_length + feeds_behind
 
 abbrev pub mode_of : Mode → machine.Mode
 mode_of Value = machine.value
@@ -83,7 +88,7 @@ TakesOneKey s = TakesKey s.0
 pub record Went (limit : ℕ) (m : machine.Mode) (s : State) (text : List ℕ) (at : ℕ) (n : Mode) (to : ℕ) (t : State) : Type 0 where
   pub same : run limit m s (drop at text) ≡ run limit (mode_of n) t (drop to text)
   pub later : at < to
-  pub within : to ≤ length text
+  pub within : to + feeds_behind ≤ length text
   pub ready : Ready (mode_of n) t
   pub room : node_total t ≤ to
 

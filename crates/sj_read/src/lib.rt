@@ -7,10 +7,13 @@
 //!
 //! # How a line is read
 //!
-//! First the line as a whole is looked at (`line.rt`): it is not too long, and it is UTF-8 (`utf8.rt`). It is copied once into the
-//! document, which keeps it as its text. Keys, strings and numbers are then places in that text, so a node is made
-//! without a copy. Only a string with an escape is written out, into a buffer that all of them share, and from there
-//! behind the line's text (`unescape.rt`, `escape.rt`).
+//! First the line as a whole is looked at (`line.rt`): it is not too long, and it is UTF-8 (`utf8.rt`). It is copied once
+//! into the document, which keeps it as its text, and the copy is what is read. Behind it stand 16 line feeds. They are
+//! white space, and no token of a line goes on into them. So behind a byte of a token 16 bytes can be looked at together,
+//! and one byte at least, without asking for the end.
+//!
+//! Keys, strings and numbers are places in that text, so a node is made without a copy. Only a string with an escape is
+//! written out, into a buffer that all of them share, and from there behind the line's text (`unescape.rt`, `escape.rt`).
 //!
 //! The rest is a loop without recursion (`reader.rt`). Its state is the place in the text, the mode, which says what may
 //! come next, and a `DocBuilder`, which knows the containers that are open. So depth costs no stack. One turn of the loop

@@ -2,6 +2,7 @@
 ghost use Rattle.std.specs.Prelude.{◌≡◌, ◌≤◌, length, IsUtf8, MatchOption, IfOk, Err};
 ghost use Rattle.sj_json.specs.Building.{fresh};
 ghost use Rattle.sj_json.specs.Spelling.{SpellsText, IsJson};
+ghost use Rattle.sj_doc.specs.Builders.{held};
 ghost use Rattle.sj_read.specs.LinesRead.{IsReadAs, HasRead};
 
 use crate::reader::{MAX_LENGTH, Mode, ReadRefusal, turn};
@@ -75,7 +76,7 @@ fn read_held(
     buffer: &mut Vec<u8>,
     text: &str,
 ) -> Result<LineRead, Memory>
-    requires fresh { builder ≡ (fresh, text.now) }
+    requires fresh { builder ≡ (fresh, held text.now) }
     requires short { length text.now ≤ MAX_LENGTH }
     ensures read { IfOk result (IsReadAs text.now) }
     ensures short { length buffer.new.items ≤ MOST_BUFFERED }
@@ -96,7 +97,7 @@ fn read_and_trim(
     buffer: &mut Vec<u8>,
     text: &str,
 ) -> Result<(), ReadRefusal>
-    requires fresh { builder.old ≡ (fresh, text.now) }
+    requires fresh { builder.old ≡ (fresh, held text.now) }
     requires short { length text.now ≤ MAX_LENGTH }
     ensures read { HasRead text.now result builder.new.0 }
     ensures short { length buffer.new.items ≤ MOST_BUFFERED }
@@ -122,14 +123,14 @@ fn text_within(line: &[u8]) -> Option<&str>
 // Reads a text into a builder that holds it. Where that gives `Ok`, the document is complete.
 #[inline(always)]
 fn read_text(builder: &mut DocBuilder, buffer: &mut Vec<u8>, text: &str) -> Result<(), ReadRefusal>
-    requires fresh { builder.old ≡ (fresh, text.now) }
+    requires fresh { builder.old ≡ (fresh, held text.now) }
     requires short { length text.now ≤ MAX_LENGTH }
     ensures { HasRead text.now result builder.new.0 }
 {
     let mut mode = Mode::Value;
     let mut at = 0;
     while at < text.len() {
-        match turn(builder, buffer, &mut mode, text, at) {
+        match turn(builder, buffer, &mut mode, at) {
             Ok(to) => at = to,
             Err(refusal) => return Err(refusal),
         }

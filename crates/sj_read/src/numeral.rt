@@ -4,6 +4,7 @@ ghost use Rattle.std.specs.Char.{is_ascii_digit};
 ghost use Rattle.std.specs.List.{prefix_len};
 ghost use Rattle.std.specs.Simd.Lanes.{mask_l};
 ghost use Rattle.sj_decimal.specs.Number.{is_number_byte as number_byte};
+ghost use Rattle.sj_doc.specs.Builders.{feeds_behind, EndsInFeeds};
 ghost use Rattle.sj_read.specs.Scans.{is_other};
 ghost use Rattle.sj_read.specs.Numerals.{HasDigits, HasWhole, HasPoint, HasFraction, EndsNear, EndsFraction, IsUnsigned, IsPlainNumber, Tells};
 
@@ -56,12 +57,9 @@ fn others_in_16(v: u8x16) -> u64
 // The place behind the digits from the place on, if it is among the next 16 bytes, as that of most is.
 #[inline(always)]
 fn near_digits_end(bytes: &[u8], from: usize) -> Option<usize>
-    requires { from ≤ length bytes.now }
+    requires { from + feeds_behind ≤ length bytes.now }
     ensures { IfSome result (EndsNear bytes.now from) }
 {
-    if bytes.len() - from < 16 {
-        return None;
-    }
     let found = others_in_16(u8x16::from_slice(&bytes[from..]));
     if found == 0 {
         return None;
@@ -99,7 +97,8 @@ fn is_whole(bytes: &[u8], from: usize, end: usize) -> bool
 // The end of the fraction whose point stands at the place, if it is among the next 16 bytes behind that.
 #[inline(always)]
 fn near_fraction_end(bytes: &[u8], point: usize) -> Option<usize>
-    requires { HasPoint bytes.now point }
+    requires point { HasPoint bytes.now point }
+    requires feeds { EndsInFeeds bytes.now }
     ensures { IfSome result (EndsFraction bytes.now point) }
 {
     let end = near_digits_end(bytes, point + 1)?;
@@ -109,16 +108,26 @@ fn near_fraction_end(bytes: &[u8], point: usize) -> Option<usize>
 // Whether a number that has come to the place goes on there.
 #[inline(always)]
 fn goes_on(bytes: &[u8], at: usize) -> bool
+    requires { at < length bytes.now }
+    ensures { result ≡ false → prefix_len number_byte (drop at bytes.now) ≡ 0 }
+{
+    is_number_byte(bytes[at])
+}
+
+// The same, where the place may be the end.
+#[inline(always)]
+fn goes_on_before_the_end(bytes: &[u8], at: usize) -> bool
     requires { at ≤ length bytes.now }
     ensures { result ≡ false → prefix_len number_byte (drop at bytes.now) ≡ 0 }
 {
-    at < bytes.len() && is_number_byte(bytes[at])
+    at < bytes.len() && goes_on(bytes, at)
 }
 
 // The end of the number at the place, which has no sign, if it has no exponent and its digits end within 16 bytes.
 #[inline(always)]
 fn near_number_end(bytes: &[u8], from: usize) -> Option<usize>
-    requires { from ≤ length bytes.now }
+    requires within { from + feeds_behind ≤ length bytes.now }
+    requires feeds { EndsInFeeds bytes.now }
     ensures { IfSome result (IsUnsigned bytes.now from) }
 {
     let point = near_digits_end(bytes, from)?;
@@ -146,7 +155,7 @@ fn fraction_end(bytes: &[u8], point: usize) -> Option<usize>
     if end == point + 1 { None } else { Some(end) }
 }
 
-// The same as `near_number_end`, for numbers of more digits and for those near the end of the text.
+// The same as `near_number_end`, for numbers of more digits.
 #[inline(never)]
 fn far_number_end(bytes: &[u8], from: usize) -> Option<usize>
     requires { from ≤ length bytes.now }
@@ -157,7 +166,7 @@ fn far_number_end(bytes: &[u8], from: usize) -> Option<usize>
         return None;
     }
     let end = fraction_end(bytes, point)?;
-    if end - from > MOST_KEPT || goes_on(bytes, end) {
+    if end - from > MOST_KEPT || goes_on_before_the_end(bytes, end) {
         return None;
     }
     Some(end)
@@ -166,7 +175,8 @@ fn far_number_end(bytes: &[u8], from: usize) -> Option<usize>
 // The end of the number that begins with the byte c at the place, if it has no exponent and is not long.
 #[inline(always)]
 pub(crate) fn plain_number_end(bytes: &[u8], at: usize, c: u8) -> Option<usize>
-    requires within { at < length bytes.now }
+    requires within { at + feeds_behind < length bytes.now }
+    requires feeds { EndsInFeeds bytes.now }
     requires here { slice_index bytes.now at ≡ c }
     ensures { IfSome result (IsPlainNumber bytes.now at c) }
 {

@@ -4,10 +4,10 @@ ghost use Rattle.sj_base.specs.ByteClasses.{is_blank as blank_byte};
 ghost use Rattle.sj_decimal.specs.Number.{begins_number as beginning_byte};
 ghost use Rattle.sj_decimal.specs.Shorts.{between};
 ghost use Rattle.sj_json.specs.Machine.{value as value_mode, key as key_mode, colon as colon_mode, after_value as after_mode};
-ghost use Rattle.sj_doc.specs.Builders.{node_total};
+ghost use Rattle.sj_doc.specs.Builders.{feeds_behind, EndsInFeeds, node_total};
 ghost use Rattle.sj_read.specs.Numerals.{IsPlainNumber};
 ghost use Rattle.sj_read.specs.Scans.{EndsPlain};
-ghost use Rattle.sj_read.specs.Turns.{mode_of, closes_at, Ready, StandsIn, StoodIn, HasTaken, Turns};
+ghost use Rattle.sj_read.specs.Turns.{most_held, mode_of, closes_at, Ready, StandsIn, StoodIn, HasTaken, Turns};
 
 use crate::numeral::{Numeral, judged, plain_number_end};
 use crate::scan::{begins_number, follows, number_end, string_end, token_at};
@@ -78,10 +78,20 @@ fn anew(turn: Advance) -> Advance
     }
 }
 
+// The bytes of the line that the builder holds, with the line feeds behind it.
+#[inline(always)]
+fn bytes(builder: &DocBuilder) -> &[u8]
+    ensures line { result.now ≡ builder.now.1 }
+    ensures feeds { EndsInFeeds result.now }
+{
+    builder.line().as_bytes()
+}
+
 // Where a string ends that begins at `from`, behind its quotation mark, if it has no escape.
 #[inline(always)]
 fn text_end(text: &str, from: usize) -> Option<usize>
-    requires within { (0 < from) × (from ≤ length text.now) }
+    requires within { (0 < from) × (from + feeds_behind ≤ length text.now) }
+    requires feeds { EndsInFeeds text.now }
     requires quote { slice_index text.now (from - 1) ≡ 34 }
     ensures { IfSome result (λ end. EndsPlain text.now from end × IsUtf8 (between text.now from end)) }
 {
@@ -90,23 +100,17 @@ fn text_end(text: &str, from: usize) -> Option<usize>
 
 // The string that begins with the byte c at the place, where it may have escapes.
 #[inline(never)]
-fn escaped_value(
-    builder: &mut DocBuilder,
-    buffer: &mut Vec<u8>,
-    text: &str,
-    at: usize,
-    c: u8,
-) -> Advance
-    requires within { (at < length text.now) × (length text.now ≤ MAX_LENGTH) }
-    requires here { slice_index text.now at ≡ c }
+fn escaped_value(builder: &mut DocBuilder, buffer: &mut Vec<u8>, at: usize, c: u8) -> Advance
+    requires within { (at + feeds_behind < length builder.old.1) × (length builder.old.1 ≤ most_held) }
+    requires here { slice_index builder.old.1 at ≡ c }
     requires quote { c ≡ 34 }
     requires ready { Ready value_mode builder.old.0 }
     requires room { node_total builder.old.0 ≤ at }
-    ensures turns { Turns MAX_DEPTH Mode.AfterValue result value_mode builder.old.0 text.now at builder.new.0 }
+    ensures turns { Turns MAX_DEPTH Mode.AfterValue result value_mode builder.old.0 builder.old.1 at builder.new.0 }
     ensures taken { IfOk result (λ _. HasTaken builder.old.0 builder.new.0) }
     ensures line { builder.new.1 ≡ builder.old.1 }
 {
-    match unescape(text, at + 1, buffer) {
+    match unescape(builder.line(), at + 1, buffer) {
         Ok(Some(found)) => after(
             builder.text_bytes(&buffer.as_slice()[..found.len]),
             found.end + 1,
@@ -118,22 +122,16 @@ fn escaped_value(
 
 // The same of a key.
 #[inline(never)]
-fn escaped_key(
-    builder: &mut DocBuilder,
-    buffer: &mut Vec<u8>,
-    text: &str,
-    at: usize,
-    c: u8,
-) -> Advance
-    requires within { (at < length text.now) × (length text.now ≤ MAX_LENGTH) }
-    requires here { slice_index text.now at ≡ c }
+fn escaped_key(builder: &mut DocBuilder, buffer: &mut Vec<u8>, at: usize, c: u8) -> Advance
+    requires within { (at + feeds_behind < length builder.old.1) × (length builder.old.1 ≤ most_held) }
+    requires here { slice_index builder.old.1 at ≡ c }
     requires quote { c ≡ 34 }
     requires ready { Ready key_mode builder.old.0 }
     requires room { node_total builder.old.0 ≤ at }
-    ensures turns { Turns MAX_DEPTH Mode.Colon result key_mode builder.old.0 text.now at builder.new.0 }
+    ensures turns { Turns MAX_DEPTH Mode.Colon result key_mode builder.old.0 builder.old.1 at builder.new.0 }
     ensures line { builder.new.1 ≡ builder.old.1 }
 {
-    match unescape(text, at + 1, buffer) {
+    match unescape(builder.line(), at + 1, buffer) {
         Ok(Some(found)) => after(
             builder.key_bytes(&buffer.as_slice()[..found.len]),
             found.end + 1,
@@ -146,55 +144,48 @@ fn escaped_key(
 // `escaped_value`, from where it is rarely called. The place in memory for its answer is cleared here, and not on each
 // of the other ways.
 #[inline(always)]
-fn rare_value(
-    builder: &mut DocBuilder,
-    buffer: &mut Vec<u8>,
-    text: &str,
-    at: usize,
-    c: u8,
-) -> Advance
-    requires within { (at < length text.now) × (length text.now ≤ MAX_LENGTH) }
-    requires here { slice_index text.now at ≡ c }
+fn rare_value(builder: &mut DocBuilder, buffer: &mut Vec<u8>, at: usize, c: u8) -> Advance
+    requires within { (at + feeds_behind < length builder.old.1) × (length builder.old.1 ≤ most_held) }
+    requires here { slice_index builder.old.1 at ≡ c }
     requires quote { c ≡ 34 }
     requires ready { Ready value_mode builder.old.0 }
     requires room { node_total builder.old.0 ≤ at }
-    ensures turns { Turns MAX_DEPTH Mode.AfterValue result value_mode builder.old.0 text.now at builder.new.0 }
+    ensures turns { Turns MAX_DEPTH Mode.AfterValue result value_mode builder.old.0 builder.old.1 at builder.new.0 }
     ensures taken { IfOk result (λ _. HasTaken builder.old.0 builder.new.0) }
     ensures line { builder.new.1 ≡ builder.old.1 }
 {
-    anew(escaped_value(builder, buffer, text, at, c))
+    anew(escaped_value(builder, buffer, at, c))
 }
 
 // `escaped_key`, from where it is rarely called. The place in memory for its answer is cleared here, and not on each
 // of the other ways.
 #[inline(always)]
-fn rare_key(builder: &mut DocBuilder, buffer: &mut Vec<u8>, text: &str, at: usize, c: u8) -> Advance
-    requires within { (at < length text.now) × (length text.now ≤ MAX_LENGTH) }
-    requires here { slice_index text.now at ≡ c }
+fn rare_key(builder: &mut DocBuilder, buffer: &mut Vec<u8>, at: usize, c: u8) -> Advance
+    requires within { (at + feeds_behind < length builder.old.1) × (length builder.old.1 ≤ most_held) }
+    requires here { slice_index builder.old.1 at ≡ c }
     requires quote { c ≡ 34 }
     requires ready { Ready key_mode builder.old.0 }
     requires room { node_total builder.old.0 ≤ at }
-    ensures turns { Turns MAX_DEPTH Mode.Colon result key_mode builder.old.0 text.now at builder.new.0 }
+    ensures turns { Turns MAX_DEPTH Mode.Colon result key_mode builder.old.0 builder.old.1 at builder.new.0 }
     ensures line { builder.new.1 ≡ builder.old.1 }
 {
-    anew(escaped_key(builder, buffer, text, at, c))
+    anew(escaped_key(builder, buffer, at, c))
 }
 
 // The number that begins with the byte c at the place, with an exponent or without.
 #[inline(never)]
-fn any_number(builder: &mut DocBuilder, text: &str, at: usize, c: u8) -> Advance
-    requires line { builder.old.1 ≡ text.now }
-    requires within { (at < length text.now) × (length text.now ≤ MAX_LENGTH) }
-    requires here { slice_index text.now at ≡ c }
+fn any_number(builder: &mut DocBuilder, at: usize, c: u8) -> Advance
+    requires within { (at + feeds_behind < length builder.old.1) × (length builder.old.1 ≤ most_held) }
+    requires here { slice_index builder.old.1 at ≡ c }
     requires begins { beginning_byte c ≡ true }
     requires ready { Ready value_mode builder.old.0 }
     requires room { node_total builder.old.0 ≤ at }
-    ensures turns { Turns MAX_DEPTH Mode.AfterValue result value_mode builder.old.0 text.now at builder.new.0 }
+    ensures turns { Turns MAX_DEPTH Mode.AfterValue result value_mode builder.old.0 builder.old.1 at builder.new.0 }
     ensures taken { IfOk result (λ _. HasTaken builder.old.0 builder.new.0) }
     ensures line { builder.new.1 ≡ builder.old.1 }
 {
-    let end = number_end(text.as_bytes(), at + 1);
-    match judged(&text.as_bytes()[at..end]) {
+    let end = number_end(bytes(builder), at + 1);
+    match judged(&bytes(builder)[at..end]) {
         Numeral::Kept => after(builder.number_at(at, end), end),
         Numeral::Exact(n) => after(builder.exact(n), end),
         Numeral::NotNumber => Err(ReadRefusal::NotJson),
@@ -203,30 +194,29 @@ fn any_number(builder: &mut DocBuilder, text: &str, at: usize, c: u8) -> Advance
 
 // `any_number` in the same way.
 #[inline(always)]
-fn rare_number(builder: &mut DocBuilder, text: &str, at: usize, c: u8) -> Advance
-    requires line { builder.old.1 ≡ text.now }
-    requires within { (at < length text.now) × (length text.now ≤ MAX_LENGTH) }
-    requires here { slice_index text.now at ≡ c }
+fn rare_number(builder: &mut DocBuilder, at: usize, c: u8) -> Advance
+    requires within { (at + feeds_behind < length builder.old.1) × (length builder.old.1 ≤ most_held) }
+    requires here { slice_index builder.old.1 at ≡ c }
     requires begins { beginning_byte c ≡ true }
     requires ready { Ready value_mode builder.old.0 }
     requires room { node_total builder.old.0 ≤ at }
-    ensures turns { Turns MAX_DEPTH Mode.AfterValue result value_mode builder.old.0 text.now at builder.new.0 }
+    ensures turns { Turns MAX_DEPTH Mode.AfterValue result value_mode builder.old.0 builder.old.1 at builder.new.0 }
     ensures taken { IfOk result (λ _. HasTaken builder.old.0 builder.new.0) }
     ensures line { builder.new.1 ≡ builder.old.1 }
 {
-    anew(any_number(builder, text, at, c))
+    anew(any_number(builder, at, c))
 }
 
 // The number from the place up to the end, which begins with the byte c.
 #[inline(always)]
-fn plain_number(builder: &mut DocBuilder, text: &str, at: usize, c: u8, end: usize) -> Advance
-    requires line { builder.old.1 ≡ text.now }
-    requires within { (at < length text.now) × (length text.now ≤ MAX_LENGTH) }
-    requires here { slice_index text.now at ≡ c }
-    requires plain { IsPlainNumber text.now at c end }
+fn plain_number(builder: &mut DocBuilder, at: usize, c: u8, end: usize) -> Advance
+    requires within { (at + feeds_behind < length builder.old.1) × (length builder.old.1 ≤ most_held) }
+    requires here { slice_index builder.old.1 at ≡ c }
+    requires plain { IsPlainNumber builder.old.1 at c end }
+    requires feeds { EndsInFeeds builder.old.1 }
     requires ready { Ready value_mode builder.old.0 }
     requires room { node_total builder.old.0 ≤ at }
-    ensures turns { Turns MAX_DEPTH Mode.AfterValue result value_mode builder.old.0 text.now at builder.new.0 }
+    ensures turns { Turns MAX_DEPTH Mode.AfterValue result value_mode builder.old.0 builder.old.1 at builder.new.0 }
     ensures taken { IfOk result (λ _. HasTaken builder.old.0 builder.new.0) }
     ensures line { builder.new.1 ≡ builder.old.1 }
 {
@@ -235,50 +225,49 @@ fn plain_number(builder: &mut DocBuilder, text: &str, at: usize, c: u8, end: usi
 
 // The value that begins with the byte c at the place, where that opens no container.
 #[inline(always)]
-fn scalar(builder: &mut DocBuilder, buffer: &mut Vec<u8>, text: &str, at: usize, c: u8) -> Advance
-    requires line { builder.old.1 ≡ text.now }
-    requires within { (at < length text.now) × (length text.now ≤ MAX_LENGTH) }
-    requires here { slice_index text.now at ≡ c }
+fn scalar(builder: &mut DocBuilder, buffer: &mut Vec<u8>, at: usize, c: u8) -> Advance
+    requires within { (at + feeds_behind < length builder.old.1) × (length builder.old.1 ≤ most_held) }
+    requires here { slice_index builder.old.1 at ≡ c }
     requires not_blank { blank_byte c ≡ false }
     requires no_array { c ≢ 91 }
     requires no_object { c ≢ 123 }
     requires ready { Ready value_mode builder.old.0 }
     requires room { node_total builder.old.0 ≤ at }
-    ensures turns { Turns MAX_DEPTH Mode.AfterValue result value_mode builder.old.0 text.now at builder.new.0 }
+    ensures turns { Turns MAX_DEPTH Mode.AfterValue result value_mode builder.old.0 builder.old.1 at builder.new.0 }
     ensures taken { IfOk result (λ _. HasTaken builder.old.0 builder.new.0) }
     ensures line { builder.new.1 ≡ builder.old.1 }
 {
     match c {
-        b'"' => match text_end(text, at + 1) {
+        b'"' => match text_end(builder.line(), at + 1) {
             Some(end) => after(builder.text_at(at + 1, end), end + 1),
-            None => rare_value(builder, buffer, text, at, c),
+            None => rare_value(builder, buffer, at, c),
         },
         b'n' => {
-            if !follows(text.as_bytes(), at + 1, b"ull") {
+            if !follows(bytes(builder), at + 1, b"ull") {
                 return Err(ReadRefusal::NotJson);
             }
             after(builder.null(), at + 4)
         }
         b't' => {
-            if !follows(text.as_bytes(), at + 1, b"rue") {
+            if !follows(bytes(builder), at + 1, b"rue") {
                 return Err(ReadRefusal::NotJson);
             }
             after(builder.truth(true), at + 4)
         }
         b'f' => {
-            if !follows(text.as_bytes(), at + 1, b"alse") {
+            if !follows(bytes(builder), at + 1, b"alse") {
                 return Err(ReadRefusal::NotJson);
             }
             after(builder.truth(false), at + 5)
         }
         _ => {
-            if let Some(end) = plain_number_end(text.as_bytes(), at, c) {
-                return plain_number(builder, text, at, c, end);
+            if let Some(end) = plain_number_end(bytes(builder), at, c) {
+                return plain_number(builder, at, c, end);
             }
             if !begins_number(c) {
                 return Err(ReadRefusal::NotJson);
             }
-            rare_number(builder, text, at, c)
+            rare_number(builder, at, c)
         }
     }
 }
@@ -289,18 +278,17 @@ fn scalar(builder: &mut DocBuilder, buffer: &mut Vec<u8>, text: &str, at: usize,
 fn behind_scalar(
     builder: &mut DocBuilder,
     mode: &mut Mode,
-    text: &str,
     at: usize,
     c: u8,
     place: Place,
 ) -> Advance
-    requires within { (at < length text.now) × (length text.now ≤ MAX_LENGTH) }
-    requires here { slice_index text.now at ≡ c }
+    requires within { (at + feeds_behind < length builder.old.1) × (length builder.old.1 ≤ most_held) }
+    requires here { slice_index builder.old.1 at ≡ c }
     requires not_blank { blank_byte c ≡ false }
     requires ready { Ready after_mode builder.old.0 }
     requires stood { StoodIn place builder.old.0 }
     requires room { node_total builder.old.0 ≤ at }
-    ensures turns { Turns MAX_DEPTH mode.new result after_mode builder.old.0 text.now at builder.new.0 }
+    ensures turns { Turns MAX_DEPTH mode.new result after_mode builder.old.0 builder.old.1 at builder.new.0 }
     ensures line { builder.new.1 ≡ builder.old.1 }
 {
     match place {
@@ -308,7 +296,7 @@ fn behind_scalar(
             *mode = Mode::Key;
             Ok(at + 1)
         }
-        _ => separators(builder, mode, text, at, c),
+        _ => separators(builder, mode, at, c),
     }
 }
 
@@ -319,26 +307,24 @@ fn scalar_and_separator(
     builder: &mut DocBuilder,
     buffer: &mut Vec<u8>,
     mode: &mut Mode,
-    text: &str,
     at: usize,
     c: u8,
     place: Place,
 ) -> Advance
-    requires line { builder.old.1 ≡ text.now }
-    requires within { (at < length text.now) × (length text.now ≤ MAX_LENGTH) }
-    requires here { slice_index text.now at ≡ c }
+    requires within { (at + feeds_behind < length builder.old.1) × (length builder.old.1 ≤ most_held) }
+    requires here { slice_index builder.old.1 at ≡ c }
     requires not_blank { blank_byte c ≡ false }
     requires no_array { c ≢ 91 }
     requires no_object { c ≢ 123 }
     requires ready { Ready value_mode builder.old.0 }
     requires stands { StandsIn place builder.old.0 }
     requires room { node_total builder.old.0 ≤ at }
-    ensures turns { Turns MAX_DEPTH mode.new result value_mode builder.old.0 text.now at builder.new.0 }
+    ensures turns { Turns MAX_DEPTH mode.new result value_mode builder.old.0 builder.old.1 at builder.new.0 }
     ensures line { builder.new.1 ≡ builder.old.1 }
 {
-    match scalar(builder, buffer, text, at, c) {
-        Ok(end) => match token_at(text.as_bytes(), end) {
-            Some(next) => behind_scalar(builder, mode, text, end, next, place),
+    match scalar(builder, buffer, at, c) {
+        Ok(end) => match token_at(bytes(builder), end) {
+            Some(next) => behind_scalar(builder, mode, end, next, place),
             None => {
                 *mode = Mode::AfterValue;
                 Ok(end)
@@ -355,19 +341,17 @@ fn value(
     builder: &mut DocBuilder,
     buffer: &mut Vec<u8>,
     mode: &mut Mode,
-    text: &str,
     at: usize,
     c: u8,
     place: Place,
 ) -> Advance
-    requires line { builder.old.1 ≡ text.now }
-    requires within { (at < length text.now) × (length text.now ≤ MAX_LENGTH) }
-    requires here { slice_index text.now at ≡ c }
+    requires within { (at + feeds_behind < length builder.old.1) × (length builder.old.1 ≤ most_held) }
+    requires here { slice_index builder.old.1 at ≡ c }
     requires not_blank { blank_byte c ≡ false }
     requires ready { Ready value_mode builder.old.0 }
     requires stands { StandsIn place builder.old.0 }
     requires room { node_total builder.old.0 ≤ at }
-    ensures turns { Turns MAX_DEPTH mode.new result value_mode builder.old.0 text.now at builder.new.0 }
+    ensures turns { Turns MAX_DEPTH mode.new result value_mode builder.old.0 builder.old.1 at builder.new.0 }
     ensures line { builder.new.1 ≡ builder.old.1 }
 {
     match c {
@@ -385,37 +369,30 @@ fn value(
             *mode = Mode::KeyOrClose;
             after(builder.open_object(), at + 1)
         }
-        _ => scalar_and_separator(builder, buffer, mode, text, at, c, place),
+        _ => scalar_and_separator(builder, buffer, mode, at, c, place),
     }
 }
 
 // The key that begins with the byte c at the place.
 #[inline(always)]
-fn quoted_key(
-    builder: &mut DocBuilder,
-    buffer: &mut Vec<u8>,
-    text: &str,
-    at: usize,
-    c: u8,
-) -> Advance
-    requires line { builder.old.1 ≡ text.now }
-    requires within { (at < length text.now) × (length text.now ≤ MAX_LENGTH) }
-    requires here { slice_index text.now at ≡ c }
+fn quoted_key(builder: &mut DocBuilder, buffer: &mut Vec<u8>, at: usize, c: u8) -> Advance
+    requires within { (at + feeds_behind < length builder.old.1) × (length builder.old.1 ≤ most_held) }
+    requires here { slice_index builder.old.1 at ≡ c }
     requires not_blank { blank_byte c ≡ false }
     requires ready { Ready key_mode builder.old.0 }
     requires room { node_total builder.old.0 ≤ at }
-    ensures turns { Turns MAX_DEPTH Mode.Colon result key_mode builder.old.0 text.now at builder.new.0 }
+    ensures turns { Turns MAX_DEPTH Mode.Colon result key_mode builder.old.0 builder.old.1 at builder.new.0 }
     ensures line { builder.new.1 ≡ builder.old.1 }
 {
     if c != b'"' {
         return Err(ReadRefusal::NotJson);
     }
-    match text_end(text, at + 1) {
+    match text_end(builder.line(), at + 1) {
         Some(end) => {
             builder.key_at(at + 1, end);
             Ok(end + 1)
         }
-        None => rare_key(builder, buffer, text, at, c),
+        None => rare_key(builder, buffer, at, c),
     }
 }
 
@@ -426,19 +403,17 @@ fn colon_and_value(
     builder: &mut DocBuilder,
     buffer: &mut Vec<u8>,
     mode: &mut Mode,
-    text: &str,
     at: usize,
 ) -> Advance
-    requires line { builder.old.1 ≡ text.now }
-    requires within { (at < length text.now) × (length text.now ≤ MAX_LENGTH) }
-    requires here { slice_index text.now at ≡ 58 }
+    requires within { (at + feeds_behind < length builder.old.1) × (length builder.old.1 ≤ most_held) }
+    requires here { slice_index builder.old.1 at ≡ 58 }
     requires ready { Ready colon_mode builder.old.0 }
     requires room { node_total builder.old.0 ≤ at }
-    ensures turns { Turns MAX_DEPTH mode.new result colon_mode builder.old.0 text.now at builder.new.0 }
+    ensures turns { Turns MAX_DEPTH mode.new result colon_mode builder.old.0 builder.old.1 at builder.new.0 }
     ensures line { builder.new.1 ≡ builder.old.1 }
 {
-    if let Some(c) = token_at(text.as_bytes(), at + 1) {
-        return value(builder, buffer, mode, text, at + 1, c, Place::Member);
+    if let Some(c) = token_at(bytes(builder), at + 1) {
+        return value(builder, buffer, mode, at + 1, c, Place::Member);
     }
     *mode = Mode::Value;
     Ok(at + 1)
@@ -451,22 +426,20 @@ fn member(
     builder: &mut DocBuilder,
     buffer: &mut Vec<u8>,
     mode: &mut Mode,
-    text: &str,
     at: usize,
     c: u8,
 ) -> Advance
-    requires line { builder.old.1 ≡ text.now }
-    requires within { (at < length text.now) × (length text.now ≤ MAX_LENGTH) }
-    requires here { slice_index text.now at ≡ c }
+    requires within { (at + feeds_behind < length builder.old.1) × (length builder.old.1 ≤ most_held) }
+    requires here { slice_index builder.old.1 at ≡ c }
     requires not_blank { blank_byte c ≡ false }
     requires ready { Ready key_mode builder.old.0 }
     requires room { node_total builder.old.0 ≤ at }
-    ensures turns { Turns MAX_DEPTH mode.new result key_mode builder.old.0 text.now at builder.new.0 }
+    ensures turns { Turns MAX_DEPTH mode.new result key_mode builder.old.0 builder.old.1 at builder.new.0 }
     ensures line { builder.new.1 ≡ builder.old.1 }
 {
-    match quoted_key(builder, buffer, text, at, c) {
-        Ok(end) => match token_at(text.as_bytes(), end) {
-            Some(b':') => colon_and_value(builder, buffer, mode, text, end),
+    match quoted_key(builder, buffer, at, c) {
+        Ok(end) => match token_at(bytes(builder), end) {
+            Some(b':') => colon_and_value(builder, buffer, mode, end),
             _ => {
                 *mode = Mode::Colon;
                 Ok(end)
@@ -483,28 +456,26 @@ fn members(
     builder: &mut DocBuilder,
     buffer: &mut Vec<u8>,
     mode: &mut Mode,
-    text: &str,
     at: usize,
     c: u8,
 ) -> Advance
-    requires line { builder.old.1 ≡ text.now }
-    requires within { (at < length text.now) × (length text.now ≤ MAX_LENGTH) }
-    requires here { slice_index text.now at ≡ c }
+    requires within { (at + feeds_behind < length builder.old.1) × (length builder.old.1 ≤ most_held) }
+    requires here { slice_index builder.old.1 at ≡ c }
     requires not_blank { blank_byte c ≡ false }
     requires ready { Ready key_mode builder.old.0 }
     requires room { node_total builder.old.0 ≤ at }
-    ensures turns { Turns MAX_DEPTH mode.new result key_mode builder.old.0 text.now at builder.new.0 }
+    ensures turns { Turns MAX_DEPTH mode.new result key_mode builder.old.0 builder.old.1 at builder.new.0 }
     ensures line { builder.new.1 ≡ builder.old.1 }
 {
     let mut from = at;
     let mut first = c;
     'members: loop {
-        let to = match member(builder, buffer, mode, text, from, first) {
+        let to = match member(builder, buffer, mode, from, first) {
             Ok(to) => to,
             Err(refusal) => return Err(refusal),
         };
         match *mode {
-            Mode::Key => match token_at(text.as_bytes(), to) {
+            Mode::Key => match token_at(bytes(builder), to) {
                 Some(next) => {
                     from = to;
                     first = next;
@@ -522,28 +493,26 @@ fn elements(
     builder: &mut DocBuilder,
     buffer: &mut Vec<u8>,
     mode: &mut Mode,
-    text: &str,
     at: usize,
     c: u8,
 ) -> Advance
-    requires line { builder.old.1 ≡ text.now }
-    requires within { (at < length text.now) × (length text.now ≤ MAX_LENGTH) }
-    requires here { slice_index text.now at ≡ c }
+    requires within { (at + feeds_behind < length builder.old.1) × (length builder.old.1 ≤ most_held) }
+    requires here { slice_index builder.old.1 at ≡ c }
     requires not_blank { blank_byte c ≡ false }
     requires ready { Ready value_mode builder.old.0 }
     requires room { node_total builder.old.0 ≤ at }
-    ensures turns { Turns MAX_DEPTH mode.new result value_mode builder.old.0 text.now at builder.new.0 }
+    ensures turns { Turns MAX_DEPTH mode.new result value_mode builder.old.0 builder.old.1 at builder.new.0 }
     ensures line { builder.new.1 ≡ builder.old.1 }
 {
     let mut from = at;
     let mut first = c;
     'elements: loop {
-        let to = match value(builder, buffer, mode, text, from, first, Place::Anywhere) {
+        let to = match value(builder, buffer, mode, from, first, Place::Anywhere) {
             Ok(to) => to,
             Err(refusal) => return Err(refusal),
         };
         match *mode {
-            Mode::Value => match token_at(text.as_bytes(), to) {
+            Mode::Value => match token_at(bytes(builder), to) {
                 Some(next) => {
                     from = to;
                     first = next;
@@ -557,13 +526,13 @@ fn elements(
 
 // A comma or a closing bracket.
 #[inline(always)]
-fn separator(builder: &mut DocBuilder, mode: &mut Mode, text: &str, at: usize, c: u8) -> Advance
-    requires within { (at < length text.now) × (length text.now ≤ MAX_LENGTH) }
-    requires here { slice_index text.now at ≡ c }
+fn separator(builder: &mut DocBuilder, mode: &mut Mode, at: usize, c: u8) -> Advance
+    requires within { (at + feeds_behind < length builder.old.1) × (length builder.old.1 ≤ most_held) }
+    requires here { slice_index builder.old.1 at ≡ c }
     requires not_blank { blank_byte c ≡ false }
     requires ready { Ready after_mode builder.old.0 }
     requires room { node_total builder.old.0 ≤ at }
-    ensures turns { Turns MAX_DEPTH mode.new result after_mode builder.old.0 text.now at builder.new.0 }
+    ensures turns { Turns MAX_DEPTH mode.new result after_mode builder.old.0 builder.old.1 at builder.new.0 }
     ensures line { builder.new.1 ≡ builder.old.1 }
 {
     match builder.wants() {
@@ -597,24 +566,24 @@ fn separator(builder: &mut DocBuilder, mode: &mut Mode, text: &str, at: usize, c
 
 // Closing brackets one right behind another, and a comma if one stands right behind them.
 #[inline(always)]
-fn separators(builder: &mut DocBuilder, mode: &mut Mode, text: &str, at: usize, c: u8) -> Advance
-    requires within { (at < length text.now) × (length text.now ≤ MAX_LENGTH) }
-    requires here { slice_index text.now at ≡ c }
+fn separators(builder: &mut DocBuilder, mode: &mut Mode, at: usize, c: u8) -> Advance
+    requires within { (at + feeds_behind < length builder.old.1) × (length builder.old.1 ≤ most_held) }
+    requires here { slice_index builder.old.1 at ≡ c }
     requires not_blank { blank_byte c ≡ false }
     requires ready { Ready after_mode builder.old.0 }
     requires room { node_total builder.old.0 ≤ at }
-    ensures turns { Turns MAX_DEPTH mode.new result after_mode builder.old.0 text.now at builder.new.0 }
+    ensures turns { Turns MAX_DEPTH mode.new result after_mode builder.old.0 builder.old.1 at builder.new.0 }
     ensures line { builder.new.1 ≡ builder.old.1 }
 {
     let mut from = at;
     let mut first = c;
     'separators: loop {
-        let to = match separator(builder, mode, text, from, first) {
+        let to = match separator(builder, mode, from, first) {
             Ok(to) => to,
             Err(refusal) => return Err(refusal),
         };
         match *mode {
-            Mode::AfterValue => match token_at(text.as_bytes(), to) {
+            Mode::AfterValue => match token_at(bytes(builder), to) {
                 Some(next) => {
                     from = to;
                     first = next;
@@ -644,17 +613,15 @@ pub(crate) fn turn(
     builder: &mut DocBuilder,
     buffer: &mut Vec<u8>,
     mode: &mut Mode,
-    text: &str,
     at: usize,
 ) -> Advance
-    requires line { builder.old.1 ≡ text.now }
-    requires within { (at < length text.now) × (length text.now ≤ MAX_LENGTH) }
+    requires within { (at + feeds_behind < length builder.old.1) × (length builder.old.1 ≤ most_held) }
     requires ready { Ready (mode_of mode.old) builder.old.0 }
     requires room { node_total builder.old.0 ≤ at }
-    ensures turns { Turns MAX_DEPTH mode.new result (mode_of mode.old) builder.old.0 text.now at builder.new.0 }
+    ensures turns { Turns MAX_DEPTH mode.new result (mode_of mode.old) builder.old.0 builder.old.1 at builder.new.0 }
     ensures line { builder.new.1 ≡ builder.old.1 }
 {
-    let c = text.as_bytes()[at];
+    let c = bytes(builder)[at];
     if is_blank(c) {
         return Ok(at + 1);
     }
@@ -664,8 +631,8 @@ pub(crate) fn turn(
         return Ok(at + 1);
     }
     match *mode {
-        Mode::Value | Mode::ValueOrClose => elements(builder, buffer, mode, text, at, c),
-        Mode::Key | Mode::KeyOrClose => members(builder, buffer, mode, text, at, c),
+        Mode::Value | Mode::ValueOrClose => elements(builder, buffer, mode, at, c),
+        Mode::Key | Mode::KeyOrClose => members(builder, buffer, mode, at, c),
         Mode::Colon => {
             if c != b':' {
                 return Err(ReadRefusal::NotJson);
@@ -673,6 +640,6 @@ pub(crate) fn turn(
             *mode = Mode::Value;
             Ok(at + 1)
         }
-        Mode::AfterValue => separators(builder, mode, text, at, c),
+        Mode::AfterValue => separators(builder, mode, at, c),
     }
 }

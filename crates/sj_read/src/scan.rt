@@ -4,20 +4,24 @@ ghost use Rattle.std.specs.Bool.{MatchBool};
 ghost use Rattle.std.specs.List.{prefix_len};
 ghost use Rattle.sj_base.specs.ByteClasses.{is_blank as blank_byte};
 ghost use Rattle.sj_decimal.specs.Number.{begins_number as beginning_byte, is_number_byte as number_byte};
+ghost use Rattle.sj_doc.specs.Builders.{feeds_behind, EndsInFeeds};
 ghost use Rattle.sj_read.specs.Scans.{EndsPlain};
 
-use crate::plain::{long_plain_end, near_end};
+use crate::plain::{far_end, near_end};
 use sj_base::is_blank;
 
 // The byte at the place, if it is no white space.
 #[inline(always)]
 pub(crate) fn token_at(bytes: &[u8], at: usize) -> Option<u8>
-    ensures { IfSome result (λ c. (at < length bytes.now) × (slice_index bytes.now at ≡ c) × (blank_byte c ≡ false)) }
+    requires within { at < length bytes.now }
+    requires feeds { EndsInFeeds bytes.now }
+    ensures { IfSome result (λ c. (at + feeds_behind < length bytes.now) × (slice_index bytes.now at ≡ c) × (blank_byte c ≡ false)) }
 {
-    if at >= bytes.len() || is_blank(bytes[at]) {
-        return None;
+    if is_blank(bytes[at]) {
+        None
+    } else {
+        Some(bytes[at])
     }
-    Some(bytes[at])
 }
 
 // A byte with which a number may begin.
@@ -62,7 +66,8 @@ pub(crate) fn follows(bytes: &[u8], at: usize, word: &[u8]) -> bool
 // Where the string ends whose text begins at `from`, if it has no escape: its closing quotation mark.
 #[inline(always)]
 pub(crate) fn string_end(bytes: &[u8], from: usize) -> Option<usize>
-    requires { from ≤ length bytes.now }
+    requires within { from + feeds_behind ≤ length bytes.now }
+    requires feeds { EndsInFeeds bytes.now }
     ensures { IfSome result (EndsPlain bytes.now from) }
 {
     match near_end(bytes, from) {
@@ -71,15 +76,13 @@ pub(crate) fn string_end(bytes: &[u8], from: usize) -> Option<usize>
     }
 }
 
-// The same of a string that is longer than most, or stands near the end of the text.
+// The same of a string that is longer than most.
 #[inline(always)]
 fn far_string_end(bytes: &[u8], from: usize) -> Option<usize>
-    requires { from ≤ length bytes.now }
+    requires within { from + feeds_behind ≤ length bytes.now }
+    requires feeds { EndsInFeeds bytes.now }
     ensures { IfSome result (EndsPlain bytes.now from) }
 {
-    let end = long_plain_end(bytes, from);
-    if end == bytes.len() {
-        return None;
-    }
+    let end = far_end(bytes, from);
     if bytes[end] == b'"' { Some(end) } else { None }
 }

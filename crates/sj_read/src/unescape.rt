@@ -1,7 +1,8 @@
 // The text of a string with escapes.
 ghost use Rattle.std.specs.Prelude.{◌≡◌, ◌++◌, ◌+◌, ◌-◌, ◌*◌, ◌<◌, ◌≤◌, length, take, drop, slice_index, IsUtf8, IfOk, OnOk, MatchOption};
 ghost use Rattle.std.specs.Char.{encode_utf8};
-ghost use Rattle.sj_json.specs.Spelling.{max_length};
+ghost use Rattle.sj_doc.specs.Builders.{EndsInFeeds};
+ghost use Rattle.sj_read.specs.Turns.{most_held};
 ghost use Rattle.sj_read.specs.Strings.{HoldsString, NoString};
 
 use crate::escape::escaped_char;
@@ -26,7 +27,7 @@ pub(crate) struct Unescaped {
 #[inline(always)]
 fn make_room(buffer: &mut Vec<u8>, len: usize, more: usize) -> Result<(), Memory>
     requires held { len ≤ length buffer.old.items }
-    requires small { (len ≤ 4 * max_length) × (more ≤ max_length) }
+    requires small { (len ≤ 4 * most_held) × (more ≤ most_held) }
     ensures room { OnOk result (len + more + 20 ≤ length buffer.new.items) }
     ensures kept { OnOk result (take len buffer.new.items ≡ take len buffer.old.items) }
 {
@@ -40,7 +41,7 @@ fn make_room(buffer: &mut Vec<u8>, len: usize, more: usize) -> Result<(), Memory
 #[inline(never)]
 fn grow(buffer: &mut Vec<u8>, len: usize, more: usize) -> Result<(), Memory>
     requires held { len ≤ length buffer.old.items }
-    requires small { (len ≤ 4 * max_length) × (more ≤ max_length) }
+    requires small { (len ≤ 4 * most_held) × (more ≤ most_held) }
     ensures room { OnOk result (len + more + 20 ≤ length buffer.new.items) }
     ensures kept { OnOk result (take len buffer.new.items ≡ take len buffer.old.items) }
 {
@@ -108,7 +109,8 @@ pub(crate) fn unescape(
     buffer: &mut Vec<u8>,
 ) -> Result<Option<Unescaped>, Memory>
     requires within { (0 < from) × (from ≤ length text.now) }
-    requires short { length text.now ≤ max_length }
+    requires short { length text.now ≤ most_held }
+    requires feeds { EndsInFeeds text.now }
     requires quote { slice_index text.now (from - 1) ≡ 34 }
     ensures { IfOk result (λ r. MatchOption r (NoString text.now from) (HoldsString text.now from buffer.new.items)) }
 {

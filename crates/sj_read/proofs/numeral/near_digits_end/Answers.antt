@@ -34,7 +34,7 @@ returns c =
     let short = run_short is_other is_ascii_digit (λ x. opposite (is_ascii_digit x)) b from 16 (omega arith) (omega (arith, found.ensures)) in
     let here : from ≡ from + 0 = omega arith in
     record {
-      digits = subst (HasDigits b from) (ap (λ (n : ℕ). from + n) run) (digits_run b from n c.requires (omega arith));
+      digits = subst (HasDigits b from) (ap (λ (n : ℕ). from + n) run) (digits_run b from n (omega (arith, c.requires)) (omega arith));
       first = λ l. ap (λ (i : ℕ). is_ascii_digit (get_or b i 0)) here ∙ ap is_ascii_digit (sym (get_or-drop from b 0 0)) ∙ prefix_len_passes is_ascii_digit (drop from b) 0 0 (omega (arith, run, l));
       within = omega (arith, run, short);
       near = omega (arith, run, short);

@@ -14,7 +14,7 @@ returns-then-end-point c =
     record {
       fraction = λ n. (
         digits_value_after 10 n (between b (point + 1) end),
-        fraction_reads b point n end (digits_value_after 10 n (between b (point + 1) end)) c.requires.0 c.requires.1 (record { passes = read.passes; digits = read.digits; value = refl }) (λ e. omega (arith, e, c.if-end-point.true)),
+        fraction_reads b point n end (digits_value_after 10 n (between b (point + 1) end)) c.requires.point.0 c.requires.point.1 (record { passes = read.passes; digits = read.digits; value = refl }) (λ e. omega (arith, e, c.if-end-point.true)),
       );
       within = near.within;
       near = omega (arith, near.near);

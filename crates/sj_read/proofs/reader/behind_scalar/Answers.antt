@@ -12,4 +12,4 @@ returns-in-Member-clause-turns c =
     let s = c.args.builder.now.0 in
     let stood = subst (λ (p : Place). StoodIn p s) c.in-Member.is c.requires.stood in
     let f = comma_members MAX_DEPTH s.0 s.1 c.args.c (wants_member s.0 stood) c.if-c-eq44.true in
-    one_byte MAX_DEPTH after_value s c.args.text.now c.args.at c.args.c c.requires.within.0 c.requires.here modes.Key s f.0 f.1 (omega (arith, c.requires.room))
+    one_byte MAX_DEPTH after_value s c.args.builder.now.1 c.args.at c.args.c c.requires.within.0 c.requires.here modes.Key s f.0 f.1 (omega (arith, c.requires.room))

@@ -7,10 +7,10 @@ use Rattle.sj_read.proofs.Steps.{one_byte, onward, colon_turn, key_takes_value}
 use Rattle.sj_read.proofs.reader.colon_and_value.Goals as goal
 use Rattle.sj_read.proofs.reader.colon_and_value.Goals.{Start}
 
-passed : (c : Start) → Went MAX_DEPTH colon c.args.builder.now.0 c.args.text.now c.args.at modes.Value (c.args.at + 1) c.args.builder.now.0
+passed : (c : Start) → Went MAX_DEPTH colon c.args.builder.now.0 c.args.builder.now.1 c.args.at modes.Value (c.args.at + 1) c.args.builder.now.0
 passed c =
     let s = c.args.builder.now.0 in
-    one_byte MAX_DEPTH colon s c.args.text.now c.args.at 58 c.requires.within.0 c.requires.here modes.Value s (colon_turn MAX_DEPTH s 58 refl) (key_takes_value s.0 c.requires.ready) (omega (arith, c.requires.room))
+    one_byte MAX_DEPTH colon s c.args.builder.now.1 c.args.at 58 c.requires.within.0 c.requires.here modes.Value s (colon_turn MAX_DEPTH s 58 refl) (key_takes_value s.0 c.requires.ready) (omega (arith, c.requires.room))
 
 pub value-requires-clause-ready : goal.value-requires-clause-ready
 value-requires-clause-ready c = key_takes_value c.args.builder.now.0.0 c.requires.ready
@@ -18,7 +18,7 @@ value-requires-clause-ready c = key_takes_value c.args.builder.now.0.0 c.require
 pub returns-in-Some-clause-turns : goal.returns-in-Some-clause-turns
 returns-in-Some-clause-turns c =
     let s = c.args.builder.now.0 in
-    onward MAX_DEPTH colon s c.args.text.now c.args.at modes.Value (c.args.at + 1) s (passed (goal.at.returns-in-Some-clause-turns c).Start) c.value.new.mode c.value.result c.value.new.builder.0 c.value.ensures.turns
+    onward MAX_DEPTH colon s c.args.builder.now.1 c.args.at modes.Value (c.args.at + 1) s (passed (goal.at.returns-in-Some-clause-turns c).Start) c.value.new.mode c.value.result c.value.new.builder.0 c.value.ensures.turns
 
 pub returns-clause-turns : goal.returns-clause-turns
 returns-clause-turns c = passed (goal.at.returns-clause-turns c).Start

@@ -1,22 +1,22 @@
-use Rattle.std.proofs.Common.{◌≡◌, ◌-◌, ◌<◌, ◌≤◌, length, drop, get_or, false}
+use Rattle.std.proofs.Common.{◌≡◌, ◌+◌, ◌-◌, ◌<◌, ◌≤◌, length, drop, get_or, false}
 use Rattle.sj_base.specs.ByteClasses.{is_blank}
 use Rattle.sj_json.specs.Machine.{key, run}
-use Rattle.sj_doc.specs.Builders.{node_total}
+use Rattle.sj_doc.specs.Builders.{feeds_behind, node_total}
 use Rattle.sj_read.specs.declared.reader.TheConstants.{MAX_DEPTH}
 use Rattle.sj_read.specs.Turns.{Ready}
 use Rattle.sj_read.proofs.reader.members.Given as goal
 
 abbrev pub invariant-members : goal.invariant-members
 invariant-members l = record {
-  line : l.builder.1 ≡ l.text;
-  within : l.from < length l.text;
-  here : get_or l.text l.from 0 ≡ l.first;
+  line : l.builder.1 ≡ l.fn.builder.1;
+  within : l.from + feeds_behind < length l.builder.1;
+  here : get_or l.builder.1 l.from 0 ≡ l.first;
   not_blank : is_blank l.first ≡ false;
   ready : Ready key l.builder.0;
   room : node_total l.builder.0 ≤ l.from;
   later : l.at ≤ l.from;
-  same : run MAX_DEPTH key l.fn.builder.0 (drop l.at l.text) ≡ run MAX_DEPTH key l.builder.0 (drop l.from l.text);
+  same : run MAX_DEPTH key l.fn.builder.0 (drop l.at l.builder.1) ≡ run MAX_DEPTH key l.builder.0 (drop l.from l.builder.1);
 }
 
 abbrev pub decreases-members : goal.decreases-members
-decreases-members l = length l.text - l.from
+decreases-members l = length l.builder.1 - l.from

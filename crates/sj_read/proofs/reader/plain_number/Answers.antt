@@ -1,6 +1,5 @@
-use Rattle.std.proofs.Common.{ℕ, ◌-◌, List, length, drop, sym, ap, subst, arith}
+use Rattle.std.proofs.Common.{◌-◌, drop, arith}
 use Rattle.std.proofs.lemmas.List.{length-take}
-use Rattle.sj_decimal.specs.Number.{IsNumber}
 use Rattle.sj_decimal.specs.Shorts.{between}
 use Rattle.sj_json.specs.Tree.{number}
 use Rattle.sj_json.specs.Building.{with_value}
@@ -20,27 +19,26 @@ number_at-requires-clause-wanted c = c.requires.ready
 pub number_at-requires-clause-within : goal.number_at-requires-clause-within
 number_at-requires-clause-within c =
     let plain = c.requires.plain in
-    (omega (arith, plain.reads.end_is), omega (arith, ap length c.requires.line, within MAX_DEPTH c.args.builder.now.0 c.args.text.now c.args.at c.args.c c.requires.within.0 c.requires.here plain.begins c.args.end plain.reads.end_is))
+    (omega (arith, plain.reads.end_is), omega (arith, within MAX_DEPTH c.args.builder.now.0 c.args.builder.now.1 c.args.at c.args.c c.requires.within.0 c.requires.here plain.begins c.args.end plain.reads.end_is))
 
 pub number_at-requires-clause-number : goal.number_at-requires-clause-number
 number_at-requires-clause-number c =
     let plain = c.requires.plain in
     record {
-      number = subst (λ (t : List ℕ). IsNumber (between t c.args.at c.args.end)) (sym c.requires.line) plain.reads.number;
+      number = plain.reads.number;
       long = λ more. absurd (omega (arith, more, plain.short, length-take (c.args.end - c.args.at) (drop c.args.at c.args.builder.now.1)));
     }
 
 pub returns-clause-turns : goal.returns-clause-turns
 returns-clause-turns c =
     let s = c.args.builder.now.0 in
-    let t = c.args.text.now in
+    let t = c.args.builder.now.1 in
     let line = c.args.builder.now.1 in
     let end = c.args.end in
     let plain = c.requires.plain in
     let w : Went MAX_DEPTH value s t c.args.at modes.AfterValue end (with_value (number (spelled (between t c.args.at end))) s) =
-    number_value MAX_DEPTH s t c.args.at c.args.c c.requires.within.0 c.requires.here plain.begins end plain.reads.end_is (spelled (between t c.args.at end)) (number_spelled (between t c.args.at end) plain.reads.number) c.requires.ready c.requires.room in
-    let v = subst (λ (x : List ℕ). Went MAX_DEPTH value s t c.args.at modes.AfterValue end (with_value (number (spelled (between x c.args.at end))) s)) (sym c.requires.line) w in
-    after_call MAX_DEPTH c.number_at.result c.after.result modes.AfterValue end value s t c.args.at c.number_at.new.self (with_value (number (spelled (between line c.args.at end))) s) line c.after.ensures c.number_at.ensures.ok v
+    number_value MAX_DEPTH s t c.args.at c.args.c c.requires.within.0 c.requires.here plain.begins end plain.reads.end_is c.requires.feeds (spelled (between t c.args.at end)) (number_spelled (between t c.args.at end) plain.reads.number) c.requires.ready c.requires.room in
+    after_call MAX_DEPTH c.number_at.result c.after.result modes.AfterValue end value s t c.args.at c.number_at.new.self (with_value (number (spelled (between line c.args.at end))) s) line c.after.ensures c.number_at.ensures.ok w
 
 pub returns-clause-taken : goal.returns-clause-taken
 returns-clause-taken c =

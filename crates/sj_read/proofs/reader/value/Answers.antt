@@ -8,22 +8,22 @@ use Rattle.sj_read.proofs.reader.value.Goals as goal
 use Rattle.sj_read.proofs.reader.value.Goals.{Start}
 
 pub returns-then-depth-ge-MAX_DEPTH-clause-turns : goal.returns-then-depth-ge-MAX_DEPTH-clause-turns
-returns-then-depth-ge-MAX_DEPTH-clause-turns c = array_too_deep MAX_DEPTH c.args.builder.now.0 c.args.text.now c.args.at c.args.c c.requires.within.0 c.requires.here c.requires.room c.in-91.is (omega (arith, c.depth.ensures))
+returns-then-depth-ge-MAX_DEPTH-clause-turns c = array_too_deep MAX_DEPTH c.args.builder.now.0 c.args.builder.now.1 c.args.at c.args.c c.requires.within.0 c.requires.here c.requires.room c.in-91.is (omega (arith, c.depth.ensures))
 
 pub returns-then-depth-ge-MAX_DEPTH-2-clause-turns : goal.returns-then-depth-ge-MAX_DEPTH-2-clause-turns
-returns-then-depth-ge-MAX_DEPTH-2-clause-turns c = object_too_deep MAX_DEPTH c.args.builder.now.0 c.args.text.now c.args.at c.args.c c.requires.within.0 c.requires.here c.requires.room c.in-123.is (omega (arith, c.depth-in-123.ensures))
+returns-then-depth-ge-MAX_DEPTH-2-clause-turns c = object_too_deep MAX_DEPTH c.args.builder.now.0 c.args.builder.now.1 c.args.at c.args.c c.requires.within.0 c.requires.here c.requires.room c.in-123.is (omega (arith, c.depth-in-123.ensures))
 
 pub returns-else-depth-ge-MAX_DEPTH-clause-turns : goal.returns-else-depth-ge-MAX_DEPTH-clause-turns
 returns-else-depth-ge-MAX_DEPTH-clause-turns c =
     let s = c.args.builder.now.0 in
-    let w = array_opens MAX_DEPTH s c.args.text.now c.args.at c.args.c c.requires.within.0 c.requires.here c.requires.room c.requires.ready c.in-91.is (omega (arith, c.depth.ensures)) in
-    after_call MAX_DEPTH c.open_array.result c.after.result modes.ValueOrClose (c.args.at + 1) value s c.args.text.now c.args.at c.open_array.new.self (with_open false s) c.args.builder.now.1 c.after.ensures c.open_array.ensures.ok w
+    let w = array_opens MAX_DEPTH s c.args.builder.now.1 c.args.at c.args.c c.requires.within.0 c.requires.here c.requires.room c.requires.ready c.in-91.is (omega (arith, c.depth.ensures)) in
+    after_call MAX_DEPTH c.open_array.result c.after.result modes.ValueOrClose (c.args.at + 1) value s c.args.builder.now.1 c.args.at c.open_array.new.self (with_open false s) c.args.builder.now.1 c.after.ensures c.open_array.ensures.ok w
 
 pub returns-else-depth-ge-MAX_DEPTH-2-clause-turns : goal.returns-else-depth-ge-MAX_DEPTH-2-clause-turns
 returns-else-depth-ge-MAX_DEPTH-2-clause-turns c =
     let s = c.args.builder.now.0 in
-    let w = object_opens MAX_DEPTH s c.args.text.now c.args.at c.args.c c.requires.within.0 c.requires.here c.requires.room c.requires.ready c.in-123.is (omega (arith, c.depth-in-123.ensures)) in
-    after_call MAX_DEPTH c.open_object.result c.after-in-123.result modes.KeyOrClose (c.args.at + 1) value s c.args.text.now c.args.at c.open_object.new.self (with_open true s) c.args.builder.now.1 c.after-in-123.ensures c.open_object.ensures.ok w
+    let w = object_opens MAX_DEPTH s c.args.builder.now.1 c.args.at c.args.c c.requires.within.0 c.requires.here c.requires.room c.requires.ready c.in-123.is (omega (arith, c.depth-in-123.ensures)) in
+    after_call MAX_DEPTH c.open_object.result c.after-in-123.result modes.KeyOrClose (c.args.at + 1) value s c.args.builder.now.1 c.args.at c.open_object.new.self (with_open true s) c.args.builder.now.1 c.after-in-123.ensures c.open_object.ensures.ok w
 
 pub returns-else-depth-ge-MAX_DEPTH-clause-line : goal.returns-else-depth-ge-MAX_DEPTH-clause-line
 returns-else-depth-ge-MAX_DEPTH-clause-line c = line_after c.open_array.result c.open_array.new.self c.args.builder.now (with_open false c.args.builder.now.0) c.open_array.ensures.ok c.open_array.ensures.err
