@@ -21,9 +21,11 @@ use Rattle.sj_doc.specs.declared.node.Body.{Body}
 use Rattle.sj_doc.specs.declared.node.Body.TheVariants.{Null, Truth, Text, Numeral, Closed, Opened}
 use Rattle.sj_doc.specs.declared.node.Node.{Node}
 use Rattle.sj_doc.specs.declared.node.Span.{Span}
-use Rattle.sj_json.specs.Links.{ups, laid_ups}
+use Rattle.sj_json.specs.Links.{ups, part_ups, laid_ups}
 use Rattle.sj_json.proofs.Links.{ups-put, ups-empty, ups-put_key, ups-close}
-use Rattle.sj_doc.specs.Nodes.{spelled, text_in, cell_of, entry_of, entries, links, IsSpan, IsNumeral, IsBody, IsNode, IsDoc}
+use Rattle.sj_json.proofs.Places.{length-layout_items, length-layout_members}
+use Rattle.sj_doc.proofs.ParentLinks.{length-item_ups, length-member_ups}
+use Rattle.sj_doc.specs.Nodes.{spelled, text_in, cell_of, entry_of, entries, IsLink, AreLinks, IsSpan, IsNumeral, IsBody, IsBelow, IsNode, IsDoc}
 use Rattle.sj_doc.specs.declared.builder.OpenTree.{OpenTree}
 use Rattle.sj_doc.specs.declared.builder.Innermost.{Innermost}
 use Rattle.sj_doc.specs.declared.builder.Innermost.TheVariants as innermost
@@ -38,11 +40,42 @@ take_all x = ap (take (length x)) (sym (append-nil x)) ∙ take_at x [] (length 
 
 -- a node whose children, if it may have any, stand elsewhere
 abbrev pub IsAlone : List ℕ → Tree → Body → Type 0
-IsAlone a t body = (k : Option (List ℕ)) → layout k t ≡ (k, cell_of a body) ∷ []
+IsAlone a t body = (k : Option (List ℕ)) → layout k t ≡ (k, cell_of a 0 body) ∷ []
 
 -- it has no children
 abbrev pub IsLeaf : Tree → Type 0
 IsLeaf t = (n : ℕ) → ups n t ≡ n ∷ []
+
+-- it does not say how far it lies behind its parent
+abbrev pub IsUnlinked : Body → Type 0
+IsUnlinked body = (far : ℕ) → IsLink far body
+
+links_push : (us : List ℕ) (ns : List Node) (u : ℕ) (n : Node) → AreLinks us ns → IsLink u n.body → AreLinks (us ++ u ∷ []) (ns ++ n ∷ [])
+links_push [] [] u n h l = (l, tt)
+links_push [] (m ∷ ns) u n h l = absurd h
+links_push (v ∷ us) [] u n h l = absurd h
+links_push (v ∷ us) (m ∷ ns) u n h l = (h.0, links_push us ns u n h.1 l)
+
+links_set : (us : List ℕ) (ns : List Node) (i : ℕ) (n : Node) → AreLinks us ns → IsLink (get_or us i 0) n.body → AreLinks us (set ns i n)
+links_set [] [] i n h l = tt
+links_set [] (m ∷ ns) i n h l = absurd h
+links_set (v ∷ us) [] i n h l = absurd h
+links_set (v ∷ us) (m ∷ ns) zero n h l = (l, h.1)
+links_set (v ∷ us) (m ∷ ns) (suc i) n h l = (h.0, links_set us ns i n h.1 l)
+
+links_count : (us : List ℕ) (ns : List Node) → AreLinks us ns → length ns ≡ length us
+links_count [] [] h = refl
+links_count [] (m ∷ ns) h = absurd h
+links_count (v ∷ us) [] h = absurd h
+links_count (v ∷ us) (m ∷ ns) h = ap suc (links_count us ns h.1)
+
+none_below : (body : Body) → IsBelow 0 body
+none_below Null = refl
+none_below (Truth b) = refl
+none_below (Text s) = refl
+none_below (Numeral s) = refl
+none_below (Closed kind n up) = tt
+none_below (Opened kind parent n) = refl
 
 module _ (a : List ℕ) (ns : List Node) (key : Option Span) (inner count depth : ℕ) (b : IsBuilder a ns key inner count depth) where
   pub now_seen : built a ns key ≡ (b.part, b.outer)
@@ -64,16 +97,16 @@ module _ (a : List ℕ) (ns : List Node) (key : Option Span) (inner count depth 
   pub room_left : node_total s < most_nodes → length ns < most_nodes
   room_left h = subst (λ n. n < most_nodes) (ap node_total (sym state_is) ∙ sym (total a ns key inner count depth b)) h
 
-  pub value_comes : (t : Tree) (body : Body) → TakesValue s.0 → node_total s < most_nodes → IsAlone a t body → IsLeaf t → IsBody a body → (up : ℕ) → up ≡ length ns - inner → (new : List Node) → new ≡ ns ++ record { key = key; up = up; body = body } ∷ []
+  pub value_comes : (t : Tree) (body : Body) → TakesValue s.0 → node_total s < most_nodes → IsAlone a t body → IsLeaf t → IsBody a body → IsUnlinked body → (new : List Node) → new ≡ ns ++ record { key = key; below = 0; body = body } ∷ []
       → IsBuilder a new None inner (count + 1) depth × (built a new None ≡ with_value t s)
-  value_comes t body wanted room alone single good up far new e =
+  value_comes t body wanted room alone single good unlinked new e =
       let took : TakesValue b.part = subst (λ (x : State). TakesValue x.0) (sym state_is) wanted in
-      let node : Node = record { key = key; up = up; body = body } in
-      let distance : up ≡ length (laid b.part b.outer) - place b.part b.outer = omega (arith, far, b.inner_is, total a ns key inner count depth b) in
+      let node : Node = record { key = key; below = 0; body = body } in
+      let far : ℕ = length (laid b.part b.outer) - place b.part b.outer in
       let free = room_left room in
       let out : entries a new ≡ laid (put t b.part) b.outer =
       ap (entries a) e ∙ map-append (entry_of a) ns (node ∷ []) ∙ ap (λ (x : List Entry). x ++ entries a (node ∷ [])) b.laid_out
-      ∙ ap (λ (k : Option (List ℕ)). laid b.part b.outer ++ (k, cell_of a body) ∷ []) b.keyed
+      ∙ ap (λ (k : Option (List ℕ)). laid b.part b.outer ++ (k, cell_of a 0 body) ∷ []) b.keyed
       ∙ ap (λ (x : List Entry). laid b.part b.outer ++ x) (sym (alone (part_key b.part)))
       ∙ sym (laid-put t b.part b.outer took) in
       let after : IsBuilder a new None inner (count + 1) depth = record {
@@ -81,12 +114,14 @@ module _ (a : List ℕ) (ns : List Node) (key : Option Span) (inner count depth 
         outer = b.outer;
         shape = state-put t b.part b.outer b.shape;
         laid_out = out;
-        linked = ap links e ∙ map-append (λ (n : Node). n.up) ns (node ∷ []) ∙ ap (λ (x : List ℕ). x ++ up ∷ []) b.linked ∙ ap (λ (m : ℕ). laid_ups b.part b.outer ++ m ∷ []) distance ∙ ap (λ (x : List ℕ). laid_ups b.part b.outer ++ x) (sym (single (length (laid b.part b.outer) - place b.part b.outer))) ∙ sym (ups-put t b.part b.outer took b.shape);
+        linked = subst (AreLinks (laid_ups (put t b.part) b.outer)) (sym e)
+            (subst (λ (us : List ℕ). AreLinks us (ns ++ node ∷ [])) (ap (λ (x : List ℕ). laid_ups b.part b.outer ++ x) (sym (single far)) ∙ sym (ups-put t b.part b.outer took b.shape))
+            (links_push (laid_ups b.part b.outer) ns far node b.linked (unlinked far)));
         keyed = sym (key-put t b.part);
         inner_is = b.inner_is ∙ sym (place-put t b.part b.outer);
         count_is = omega (arith, b.count_is, kids-put t b.part took);
         depth_is = b.depth_is;
-        fits = subst (AllByRecursion (IsNode a)) (sym e) (all_push (IsNode a) ns node b.fits (b.key_fits, good));
+        fits = subst (AllByRecursion (IsNode a)) (sym e) (all_push (IsNode a) ns node b.fits (b.key_fits, good, none_below body));
         key_fits = tt;
         small = omega (arith, ap length e, length-append ns (node ∷ []));
         narrow = b.narrow;
@@ -102,7 +137,7 @@ module _ (a : List ℕ) (ns : List Node) (key : Option Span) (inner count depth 
         outer = b.outer;
         shape = state-put_key (text_in a k) b.part b.outer b.shape;
         laid_out = b.laid_out ∙ laid-put_key (text_in a k) b.part b.outer;
-        linked = b.linked ∙ ups-put_key (text_in a k) b.part b.outer;
+        linked = subst (λ (us : List ℕ). AreLinks us ns) (ups-put_key (text_in a k) b.part b.outer) b.linked;
         keyed = sym (key-put_key (text_in a k) b.part wants);
         inner_is = b.inner_is ∙ place-put_key (text_in a k) b.part b.outer;
         count_is = b.count_is ∙ ap length (kids-put_key (text_in a k) b.part);
@@ -115,12 +150,11 @@ module _ (a : List ℕ) (ns : List Node) (key : Option Span) (inner count depth 
       (after, now_seen a ns (Some k) inner count depth after ∙ ap (with_key (text_in a k)) state_is)
 
   -- a container opens
-  pub opens : (kind : Bool) → TakesValue s.0 → node_total s < most_nodes → (up : ℕ) → up ≡ length ns - inner → (new : List Node) → new ≡ ns ++ record { key = key; up = up; body = Opened kind inner count } ∷ []
+  pub opens : (kind : Bool) → TakesValue s.0 → node_total s < most_nodes → (new : List Node) → new ≡ ns ++ record { key = key; below = 0; body = Opened kind inner count } ∷ []
       → IsBuilder a new None (length ns) 0 (depth + 1) × (built a new None ≡ with_open kind s)
-  opens kind wanted room up far new e =
+  opens kind wanted room new e =
       let took : TakesValue b.part = subst (λ (x : State). TakesValue x.0) (sym state_is) wanted in
-      let node : Node = record { key = key; up = up; body = Opened kind inner count } in
-      let distance : up ≡ length (laid b.part b.outer) - place b.part b.outer = omega (arith, far, b.inner_is, total a ns key inner count depth b) in
+      let node : Node = record { key = key; below = 0; body = Opened kind inner count } in
       let free = room_left room in
       let out : entries a new ≡ laid (empty kind) (b.part ∷ b.outer) =
       ap (entries a) e ∙ map-append (entry_of a) ns (node ∷ []) ∙ ap (λ (x : List Entry). x ++ entries a (node ∷ [])) b.laid_out
@@ -133,12 +167,14 @@ module _ (a : List ℕ) (ns : List Node) (key : Option Span) (inner count depth 
         outer = b.part ∷ b.outer;
         shape = state-empty kind b.part b.outer took b.shape;
         laid_out = out;
-        linked = ap links e ∙ map-append (λ (n : Node). n.up) ns (node ∷ []) ∙ ap (λ (x : List ℕ). x ++ up ∷ []) b.linked ∙ ap (λ (m : ℕ). laid_ups b.part b.outer ++ m ∷ []) distance ∙ sym (ups-empty kind b.part b.outer);
+        linked = subst (AreLinks (laid_ups (empty kind) (b.part ∷ b.outer))) (sym e)
+            (subst (λ (us : List ℕ). AreLinks us (ns ++ node ∷ [])) (sym (ups-empty kind b.part b.outer))
+            (links_push (laid_ups b.part b.outer) ns (length (laid b.part b.outer) - place b.part b.outer) node b.linked tt));
         keyed = key-empty kind;
         inner_is = total a ns key inner count depth b;
         count_is = kids-empty kind;
         depth_is = omega (arith, b.depth_is);
-        fits = subst (AllByRecursion (IsNode a)) (sym e) (all_push (IsNode a) ns node b.fits (b.key_fits, tt));
+        fits = subst (AllByRecursion (IsNode a)) (sym e) (all_push (IsNode a) ns node b.fits (b.key_fits, tt, refl));
         key_fits = tt;
         small = omega (arith, ap length e, length-append ns (node ∷ []));
         narrow = b.narrow;
@@ -173,13 +209,13 @@ module _ (a b : List ℕ) (g : Grows a b) where
   key_fits-grown None h = tt
   key_fits-grown (Some s) h = g.spans s h
 
-  cell-grown : (c : Body) → IsBody a c → cell_of b c ≡ cell_of a c
-  cell-grown Null h = refl
-  cell-grown (Truth x) h = refl
-  cell-grown (Text s) h = ap string_cell (g.texts s h)
-  cell-grown (Numeral s) h = ap (λ (x : List ℕ). number_cell (spelled x)) (g.texts s h.0)
-  cell-grown (Closed k n m) h = refl
-  cell-grown (Opened k n m) h = refl
+  cell-grown : (l : ℕ) (c : Body) → IsBody a c → cell_of b l c ≡ cell_of a l c
+  cell-grown l Null h = refl
+  cell-grown l (Truth x) h = refl
+  cell-grown l (Text s) h = ap string_cell (g.texts s h)
+  cell-grown l (Numeral s) h = ap (λ (x : List ℕ). number_cell (spelled x)) (g.texts s h.0)
+  cell-grown l (Closed k n m) h = refl
+  cell-grown l (Opened k n m) h = refl
 
   body-grown : (c : Body) → IsBody a c → IsBody b c
   body-grown Null h = tt
@@ -190,7 +226,7 @@ module _ (a b : List ℕ) (g : Grows a b) where
   body-grown (Opened k n m) h = tt
 
   entry-grown : (n : Node) → IsNode a n → entry_of b n ≡ entry_of a n
-  entry-grown n h = ap (λ (k : Option (List ℕ)). (k, cell_of b n.body)) (key-grown n.key h.0) ∙ ap (λ (c : Cell). (option_map (text_in a) n.key, c)) (cell-grown n.body h.1)
+  entry-grown n h = ap (λ (k : Option (List ℕ)). (k, cell_of b n.below n.body)) (key-grown n.key h.0) ∙ ap (λ (c : Cell). (option_map (text_in a) n.key, c)) (cell-grown n.below n.body h.1)
 
   entries-grown : (ns : List Node) → AllByRecursion (IsNode a) ns → entries b ns ≡ entries a ns
   entries-grown [] h = refl
@@ -198,7 +234,7 @@ module _ (a b : List ℕ) (g : Grows a b) where
 
   all-grown : (ns : List Node) → AllByRecursion (IsNode a) ns → AllByRecursion (IsNode b) ns
   all-grown [] h = tt
-  all-grown (n ∷ ns) h = ((key_fits-grown n.key h.0.0, body-grown n.body h.0.1), all-grown ns h.1)
+  all-grown (n ∷ ns) h = ((key_fits-grown n.key h.0.0, body-grown n.body h.0.1, h.0.2), all-grown ns h.1)
 
   grown_comes : (ns : List Node) (key : Option Span) (inner count depth : ℕ) → IsBuilder a ns key inner count depth → length b < text_bound
       → IsBuilder b ns key inner count depth × (built b ns key ≡ built a ns key)
@@ -285,15 +321,15 @@ scalar_of a Null = Some null
 scalar_of a (Truth b) = Some (truth b)
 scalar_of a (Text s) = Some (string (text_in a s))
 scalar_of a (Numeral s) = Some (number (spelled (text_in a s)))
-scalar_of a (Closed kind n size) = None
+scalar_of a (Closed kind n up) = None
 scalar_of a (Opened kind parent n) = None
 
-scalar_alone : (a : List ℕ) (body : Body) (v : Tree) → scalar_of a body ≡ Some v → IsAlone a v body × IsLeaf v
-scalar_alone a Null v e = subst (λ (t : Tree). IsAlone a t Null × IsLeaf t) (same_Some _ _ e) (λ k. refl, λ n. refl)
-scalar_alone a (Truth b) v e = subst (λ (t : Tree). IsAlone a t (Truth b) × IsLeaf t) (same_Some _ _ e) (λ k. refl, λ n. refl)
-scalar_alone a (Text s) v e = subst (λ (t : Tree). IsAlone a t (Text s) × IsLeaf t) (same_Some _ _ e) (λ k. refl, λ n. refl)
-scalar_alone a (Numeral s) v e = subst (λ (t : Tree). IsAlone a t (Numeral s) × IsLeaf t) (same_Some _ _ e) (λ k. refl, λ n. refl)
-scalar_alone a (Closed kind n size) v e = cc
+scalar_alone : (a : List ℕ) (body : Body) (v : Tree) → scalar_of a body ≡ Some v → IsAlone a v body × IsLeaf v × IsUnlinked body
+scalar_alone a Null v e = subst (λ (t : Tree). IsAlone a t Null × IsLeaf t × IsUnlinked Null) (same_Some _ _ e) (λ k. refl, λ n. refl, λ n. tt)
+scalar_alone a (Truth b) v e = subst (λ (t : Tree). IsAlone a t (Truth b) × IsLeaf t × IsUnlinked (Truth b)) (same_Some _ _ e) (λ k. refl, λ n. refl, λ n. tt)
+scalar_alone a (Text s) v e = subst (λ (t : Tree). IsAlone a t (Text s) × IsLeaf t × IsUnlinked (Text s)) (same_Some _ _ e) (λ k. refl, λ n. refl, λ n. tt)
+scalar_alone a (Numeral s) v e = subst (λ (t : Tree). IsAlone a t (Numeral s) × IsLeaf t × IsUnlinked (Numeral s)) (same_Some _ _ e) (λ k. refl, λ n. refl, λ n. tt)
+scalar_alone a (Closed kind n up) v e = cc
 scalar_alone a (Opened kind parent n) v e = cc
 
 -- the fields of a builder with this text, whose line has k bytes, stand for b
@@ -356,7 +392,6 @@ module _ (a : List ℕ) (k : ℕ) (t : OpenTree) (b : Building) (now : Stands a 
     pub has_room : HasRoom t
     has_room = record {
       few = room_left a t.nodes.items t.key t.inner t.count t.depth now.0.0 b.0 (state_seen now.1) room;
-      within = omega (arith, now.0.0.inner_is, place_within now.0.0.part now.0.0.outer, total a t.nodes.items t.key t.inner t.count t.depth now.0.0);
       counted = count_small a t.nodes.items t.key t.inner t.count t.depth now.0.0 b.0 (state_seen now.1);
     }
 
@@ -366,7 +401,7 @@ module _ (a : List ℕ) (k : ℕ) (t : OpenTree) (b : Building) (now : Stands a 
         → Comes a k u b v r
     scalar_added wanted body good v is u (Ok x) h =
         let alone = scalar_alone a body v is in
-        let p = value_comes a t.nodes.items t.key t.inner t.count t.depth now.0.0 b.0 (state_seen now.1) v body wanted room alone.0 alone.1 good (length t.nodes.items - t.inner) refl _ refl in
+        let p = value_comes a t.nodes.items t.key t.inner t.count t.depth now.0.0 b.0 (state_seen now.1) v body wanted room alone.0 alone.1 good alone.2 _ refl in
         let q = same_fields (λ ns l i n d. (IsBuilder a ns l i n d × IsLine a k) × (◌≡◌ {A = Building} (built a ns l, take k a) (with_value v b.0, b.1))) u _ None t.inner (t.count + 1) t.depth h.nodes_are h.key_is h.inner_is h.count_is h.depth_is
         ((p.0, now.0.1), both_seen p.1 (line_seen now.1)) in
         ((q.0.0, q.0.1, inside_seen (h.innermost_is ∙ inside_now) (inside-put v b.0.0) (state_seen q.1)), q.1)
@@ -377,7 +412,7 @@ module _ (a : List ℕ) (k : ℕ) (t : OpenTree) (b : Building) (now : Stands a 
         → (i : Innermost) → i ≡ innermost_opened kind
         → (IsBuilder a u.nodes.items u.key at 0 (u.depth + 1) × IsLine a k × (i ≡ innermost_of (built_tree a u).0)) × (◌≡◌ {A = Building} (built_tree a u, take k a) (with_open kind b.0, b.1))
     container_opened wanted kind u h at here inner inner_is =
-        let p = opens a t.nodes.items t.key t.inner t.count t.depth now.0.0 b.0 (state_seen now.1) kind wanted room (length t.nodes.items - t.inner) refl u.nodes.items h.nodes_are in
+        let p = opens a t.nodes.items t.key t.inner t.count t.depth now.0.0 b.0 (state_seen now.1) kind wanted room u.nodes.items h.nodes_are in
         let P = λ (l : Option Span) (i d : ℕ). (IsBuilder a u.nodes.items l i 0 d × IsLine a k) × (◌≡◌ {A = Building} (built a u.nodes.items l, take k a) (with_open kind b.0, b.1)) in
         let q = subst (λ (l : Option Span). P l at (u.depth + 1)) (sym h.key_is)
         (subst (λ (i : ℕ). P None i (u.depth + 1)) (sym here)
@@ -423,7 +458,7 @@ starts a ns t h e small =
       outer = [];
       shape = tt;
       laid_out = refl;
-      linked = refl;
+      linked = tt;
       keyed = refl;
       inner_is = refl;
       count_is = refl;
@@ -496,11 +531,28 @@ same_opened e = (cc, cc, cc)
 abbrev pub Closed_up : List ℕ → List Node → Option Span → ℕ → ℕ → ℕ → State → Type 0
 Closed_up a new key inner count depth s = IsBuilder a new key inner count depth × (built a new key ≡ with_close s)
 
--- a node that is overwritten keeps its link
-same_links : (ns : List Node) (i : ℕ) (n : Node) → n ≡ get_or ns i n → set (links ns) i n.up ≡ links ns
-same_links [] i n e = refl
-same_links (m ∷ ns) zero n e = ap (λ (x : Node). x.up ∷ links ns) e
-same_links (m ∷ ns) (suc i) n e = ap (λ (x : List ℕ). m.up ∷ x) (same_links ns i n e)
+-- a container has as many links as entries
+part_links : (p : Part) → TakesClose p → length (part_ups p) ≡ length (part_entries p)
+part_links (top o) h = absurd h
+part_links (elements ts) h = length-item_ups 1 ts ∙ sym (length-layout_items ts)
+part_links (pairs ms k) h = length-member_ups 1 ms ∙ sym (length-layout_members ms)
+
+-- the innermost open container lies so far behind its parent
+inner_link : (p q : Part) (qs : List Part) (ns : List Node) (inner : ℕ) → TakesClose p → AreLinks (laid_ups p (q ∷ qs)) ns → length ns ≡ length (laid p (q ∷ qs)) → inner ≡ length (laid q qs)
+    → get_or (laid_ups p (q ∷ qs)) inner 0 ≡ inner - place q qs
+inner_link p q qs ns inner wanted linked total_is inner_is =
+    let far : ℕ = length (laid q qs) - place q qs in
+    let front : length (laid_ups q qs) ≡ inner =
+    omega (
+      arith,
+      inner_is,
+      total_is,
+      links_count (laid_ups p (q ∷ qs)) ns linked,
+      length-append (laid_ups q qs) (far ∷ part_ups p),
+      part_links p wanted,
+      length-append (laid q qs) ((part_key q, opened (is_object p) (place q qs) (length (part_kids q))) ∷ part_entries p),
+    ) in
+    get_or_at (laid_ups q qs) far (part_ups p) 0 inner front ∙ ap (λ (i : ℕ). i - place q qs) (sym inner_is)
 
 no_key : (p : Part) → TakesClose p → part_key p ≡ None
 no_key (top o) h = absurd h
@@ -508,22 +560,23 @@ no_key (elements ts) h = refl
 no_key (pairs ms None) h = refl
 no_key (pairs ms (Some k)) h = absurd h
 
-module _ (a : List ℕ) (ns : List Node) (key : Option Span) (n : Node) (inner count depth : ℕ) (kind : Bool) (parent before below : ℕ) (new : List Node) where
+module _ (a : List ℕ) (ns : List Node) (key : Option Span) (n : Node) (inner count depth : ℕ) (kind : Bool) (parent before below up : ℕ) (new : List Node) where
   closing : (p : Part) (qs : List Part) → IsState p qs → TakesClose p → entries a ns ≡ laid p qs
       → option_map (text_in a) key ≡ part_key p → inner ≡ place p qs → count ≡ length (part_kids p) → depth ≡ length qs
       → AllByRecursion (IsNode a) ns → IfSome key (IsSpan a) → length ns ≤ most_nodes → length a < text_bound
       → open_at p qs (entry_of a n) → n.body ≡ Opened kind parent before → IsNode a n
-      → links ns ≡ laid_ups p qs → n ≡ get_or ns inner n
-      → new ≡ set ns inner (record { key = n.key; up = n.up; body = Closed kind count below }) → below + 1 + inner ≡ length ns
+      → AreLinks (laid_ups p qs) ns
+      → new ≡ set ns inner (record { key = n.key; below = below; body = Closed kind count up }) → below + 1 + inner ≡ length ns → up ≡ inner - parent
       → Closed_up a new key parent (before + 1) (depth - 1) (p, qs)
-  closing p [] shape wanted out keyed inner_is count_is depth_is fits key_fits small narrow here body good linked read e size = absurd (has_outer p [] shape wanted)
-  closing p (q ∷ qs) shape wanted out keyed inner_is count_is depth_is fits key_fits small narrow here body good linked read e size =
+  closing p [] shape wanted out keyed inner_is count_is depth_is fits key_fits small narrow here body good linked e size far = absurd (has_outer p [] shape wanted)
+  closing p (q ∷ qs) shape wanted out keyed inner_is count_is depth_is fits key_fits small narrow here body good linked e size far =
       let t = closes p wanted in
       let outside = outer_state p q qs shape in
-      let parts = same_opened (ap (cell_of a) (sym body) ∙ ap (λ (x : Entry). x.1) here) in
-      let node : Node = record { key = n.key; up = n.up; body = Closed kind count below } in
+      let parts = same_opened (ap (cell_of a n.below) (sym body) ∙ ap (λ (x : Entry). x.1) here) in
+      let node : Node = record { key = n.key; below = below; body = Closed kind count up } in
       let total_is : length ns ≡ length (laid p (q ∷ qs)) = sym (length-map ns (entry_of a)) ∙ ap length out in
       let size_is : below ≡ length (part_entries p) = omega (arith, length-append (laid q qs) ((part_key q, opened (is_object p) (place q qs) (length (part_kids q))) ∷ part_entries p)) in
+      let link : up ≡ get_or (laid_ups p (q ∷ qs)) inner 0 = far ∙ ap (λ (i : ℕ). inner - i) parts.1 ∙ sym (inner_link p q qs ns inner wanted linked total_is inner_is) in
       let entry_is : entry_of a node ≡ (part_key q, closed (is_object p) (length (part_kids p)) (length (part_entries p))) =
       ap (λ (k : Option (List ℕ)). (k, closed kind count below)) (ap (λ (x : Entry). x.0) here)
       ∙ ap (λ (k : Bool). (part_key q, closed k count below)) parts.0
@@ -541,12 +594,13 @@ module _ (a : List ℕ) (ns : List Node) (key : Option Span) (n : Node) (inner c
         outer = qs;
         shape = state-put t.0 q qs outside.1;
         laid_out = laid_new;
-        linked = ap links e ∙ map-set (λ (x : Node). x.up) ns inner node ∙ same_links ns inner n read ∙ linked ∙ ups-close t.0 p q qs wanted t.1 outside.0 outside.1;
+        linked = subst (AreLinks (laid_ups (put t.0 q) qs)) (sym e)
+            (subst (λ (us : List ℕ). AreLinks us (set ns inner node)) (ups-close t.0 p q qs wanted t.1 outside.0 outside.1) (links_set (laid_ups p (q ∷ qs)) ns inner node linked link));
         keyed = keyed ∙ no_key p wanted ∙ sym (key-put t.0 q);
         inner_is = parts.1 ∙ sym (place-put t.0 q qs);
         count_is = omega (arith, parts.2, kids-put t.0 q outside.0);
         depth_is = omega (arith, depth_is);
-        fits = subst (AllByRecursion (IsNode a)) (sym e) (all_set (IsNode a) ns inner node fits (good.0, tt));
+        fits = subst (AllByRecursion (IsNode a)) (sym e) (all_set (IsNode a) ns inner node fits (good.0, tt, tt));
         key_fits = key_fits;
         small = omega (arith, ap length e, length-set ns inner node);
         narrow = narrow;
@@ -555,36 +609,37 @@ module _ (a : List ℕ) (ns : List Node) (key : Option Span) (n : Node) (inner c
 
   pub container_closes : (b : IsBuilder a ns key inner count depth) (s : State) → built a ns key ≡ s → TakesClose s.0
       → n ≡ get_or ns inner n → n.body ≡ Opened kind parent before
-      → new ≡ set ns inner (record { key = n.key; up = n.up; body = Closed kind count below }) → below + 1 + inner ≡ length ns
+      → new ≡ set ns inner (record { key = n.key; below = below; body = Closed kind count up }) → below + 1 + inner ≡ length ns → up ≡ inner - parent
       → Closed_up a new key parent (before + 1) (depth - 1) s
-  container_closes b s view wanted e body new_is size =
+  container_closes b s view wanted e body new_is size far =
       let same = state_is a ns key inner count depth b s view in
       let wants : TakesClose b.part = subst (λ (x : State). TakesClose x.0) (sym same) wanted in
       let outside = has_outer b.part b.outer b.shape wants in
       let good : IsNode a n = all_at (IsNode a) ns inner n b.fits (inner_small a ns key inner count depth b outside) e in
       subst (Closed_up a new key parent (before + 1) (depth - 1)) same
-      (closing b.part b.outer b.shape wants b.laid_out b.keyed b.inner_is b.count_is b.depth_is b.fits b.key_fits b.small b.narrow (entry_open a ns key inner count depth b n outside e) body good b.linked e new_is size)
+      (closing b.part b.outer b.shape wants b.laid_out b.keyed b.inner_is b.count_is b.depth_is b.fits b.key_fits b.small b.narrow (entry_open a ns key inner count depth b n outside e) body good b.linked new_is size far)
 
-is_open : (a : List ℕ) (b : Body) (k : Bool) (i m : ℕ) → cell_of a b ≡ opened k i m → b ≡ Opened k i m
-is_open a Null k i m e = cc
-is_open a (Truth x) k i m e = cc
-is_open a (Text s) k i m e = cc
-is_open a (Numeral s) k i m e = cc
-is_open a (Closed l j n) k i m e = cc
-is_open a (Opened l j n) k i m e = cc
+is_open : (a : List ℕ) (l : ℕ) (b : Body) (k : Bool) (i m : ℕ) → cell_of a l b ≡ opened k i m → b ≡ Opened k i m
+is_open a l Null k i m e = cc
+is_open a l (Truth x) k i m e = cc
+is_open a l (Text s) k i m e = cc
+is_open a l (Numeral s) k i m e = cc
+is_open a l (Closed o j n) k i m e = cc
+is_open a l (Opened o j n) k i m e = cc
 
--- what the node of the innermost open container has
-abbrev pub IsOpenBody : ℕ → Body → Type 0
-IsOpenBody total b = (k : Bool) × (i : ℕ) × (m : ℕ) × (b ≡ Opened k i m) × (m ≤ total)
+-- what the node of the innermost open container has: its parent comes before it
+abbrev pub IsOpenBody : ℕ → ℕ → Body → Type 0
+IsOpenBody inner total b = (k : Bool) × (i : ℕ) × (m : ℕ) × (b ≡ Opened k i m) × (m ≤ total) × (i ≤ inner)
 
-open_body : (a : List ℕ) (n : Node) (p : Part) (qs : List Part) → open_at p qs (entry_of a n) → IsOpenBody (length (laid p qs)) n.body
+open_body : (a : List ℕ) (n : Node) (p : Part) (qs : List Part) → open_at p qs (entry_of a n) → IsOpenBody (place p qs) (length (laid p qs)) n.body
 open_body a n p [] h = absurd h
 open_body a n p (q ∷ qs) h = (
   is_object p,
   place q qs,
   length (part_kids q),
-  is_open a n.body (is_object p) (place q qs) (length (part_kids q)) (ap (λ (x : Entry). x.1) h),
+  is_open a n.below n.body (is_object p) (place q qs) (length (part_kids q)) (ap (λ (x : Entry). x.1) h),
   omega (arith, kids_le q qs, length-append (laid q qs) ((part_key q, opened (is_object p) (place q qs) (length (part_kids q))) ∷ part_entries p)),
+  place_within q qs,
 )
 
 outer_some : (qs : List Part) → HasOuter qs → 0 < length qs
@@ -601,15 +656,22 @@ module _ (a : List ℕ) (ns : List Node) (key : Option Span) (inner count depth 
   pub depth_some : 0 < depth
   depth_some = omega (arith, outer_some b.outer inside, b.depth_is)
 
-  pub inner_body : (n : Node) → n ≡ get_or ns inner n → IsOpenBody (length ns) n.body
+  pub inner_body : (n : Node) → n ≡ get_or ns inner n → IsOpenBody inner (length ns) n.body
   inner_body n e =
-      subst (λ (m : ℕ). IsOpenBody m n.body) (sym (total a ns key inner count depth b)) (open_body a n b.part b.outer (entry_open a ns key inner count depth b n inside e))
+      subst (λ (i : ℕ). IsOpenBody i (length ns) n.body) (sym b.inner_is)
+      (subst (λ (m : ℕ). IsOpenBody (place b.part b.outer) m n.body) (sym (total a ns key inner count depth b)) (open_body a n b.part b.outer (entry_open a ns key inner count depth b n inside e)))
 
 same_count : {k l : Bool} {i j m n : ℕ} → Opened k i m ≡ Opened l j n → m ≡ n
 same_count e = cc
 
-pub count_opened : (total : ℕ) (b : Body) (k : Bool) (i m : ℕ) → IsOpenBody total b → b ≡ Opened k i m → m ≤ total
-count_opened total b k i m h e = subst (λ (x : ℕ). x ≤ total) (same_count (sym h.3 ∙ e)) h.4
+pub count_opened : (inner total : ℕ) (b : Body) (k : Bool) (i m : ℕ) → IsOpenBody inner total b → b ≡ Opened k i m → m ≤ total
+count_opened inner total b k i m h e = subst (λ (x : ℕ). x ≤ total) (same_count (sym h.3 ∙ e)) h.4
+
+same_parent : {k l : Bool} {i j m n : ℕ} → Opened k i m ≡ Opened l j n → i ≡ j
+same_parent e = cc
+
+pub parent_opened : (inner total : ℕ) (b : Body) (k : Bool) (i m : ℕ) → IsOpenBody inner total b → b ≡ Opened k i m → i ≤ inner
+parent_opened inner _ b k i m h e = subst (λ (x : ℕ). x ≤ inner) (same_parent (sym h.3 ∙ e)) h.5
 
 -- ---- the document is complete
 
@@ -627,7 +689,7 @@ finishes a ns key inner count depth b s view wanted =
     let t = complete b.part b.outer b.shape (subst IsComplete (sym same) wanted) in
     let out : entries a ns ≡ layout None t.0 = b.laid_out ∙ ap (λ (x : State). laid x.0 x.1) t.1 in
     let tree : tree_of (entries a ns) ≡ t.0 = ap tree_of out ∙ tree_of-layout None t.0 in
-    (record { laid = out ∙ ap (layout None) (sym tree); linked = b.linked ∙ ap (λ (x : State). laid_ups x.0 x.1) t.1 ∙ ap (ups 0) (sym tree); fits = b.fits; small = b.small }, sym same ∙ t.1 ∙ ap (λ (u : Tree). (top (Some u), [])) (sym tree))
+    (record { laid = out ∙ ap (layout None) (sym tree); linked = subst (λ (us : List ℕ). AreLinks us ns) (ap (λ (x : State). laid_ups x.0 x.1) t.1 ∙ ap (ups 0) (sym tree)) b.linked; fits = b.fits; small = b.small }, sym same ∙ t.1 ∙ ap (λ (u : Tree). (top (Some u), [])) (sym tree))
 
 -- ---- what is wanted
 
@@ -662,7 +724,7 @@ want_member (pairs ms (Some l)) k f e = refl
 
 object_opened : (a : List ℕ) (n : Node) (p : Part) (qs : List Part) → open_at p qs (entry_of a n) → opens_object n.body ≡ is_object p
 object_opened a n p [] h = absurd h
-object_opened a n p (q ∷ qs) h = ap opens_object (is_open a n.body (is_object p) (place q qs) (length (part_kids q)) (ap (λ (x : Entry). x.1) h))
+object_opened a n p (q ∷ qs) h = ap opens_object (is_open a n.below n.body (is_object p) (place q qs) (length (part_kids q)) (ap (λ (x : Entry). x.1) h))
 
 some_outer : (qs : List Part) → 0 < length qs → HasOuter qs
 some_outer [] h = absurd (omega arith)

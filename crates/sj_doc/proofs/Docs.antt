@@ -1,6 +1,6 @@
 -- What is known of a document's nodes.
 use Rattle.std.proofs.Common.{◌≡◌, ℕ, suc, zero, ◌<◌, List, [], ◌∷◌, ◌++◌, length, get_or, Bool, true, false, Option, None, option_map, refl, sym, ap, ◌∙◌, subst, arith, add-zero}
-use Rattle.std.proofs.lemmas.List.{length-map, get_or-drop, get_or_default}
+use Rattle.std.proofs.lemmas.List.{length-map, get_or-drop}
 use Rattle.std.proofs.Math.ListN.{get_or-map}
 use Rattle.std.specs.List.{AllByRecursion}
 use Rattle.sj_json.specs.Tree.{Number, Tree, null, truth, string, number, array, object, item_list, member_list, below, subtree, node_count, children}
@@ -12,9 +12,9 @@ use Rattle.sj_doc.specs.declared.node.Body.TheVariants.{Null, Truth, Text, Numer
 use Rattle.sj_doc.specs.declared.node.Node.{Node}
 use Rattle.sj_doc.specs.declared.node.Span.{Span}
 use Rattle.sj_json.specs.Links.{ups}
-use Rattle.sj_doc.specs.Nodes.{text_in, cell_of, entry_of, entries, links, IsDoc}
+use Rattle.sj_doc.specs.Nodes.{text_in, cell_of, entry_of, entries, IsLink, AreLinks, IsBelow, IsNode, IsDoc}
 use Rattle.sj_doc.specs.declared.node.Kind.TheVariants as kinds
-use Rattle.sj_doc.specs.Kinds.{kind_of, body_kind, body_count, body_below}
+use Rattle.sj_doc.specs.Kinds.{kind_of, IsContainer, body_kind, body_count}
 
 abbrev pub head_cell : Tree → Cell
 head_cell null = null_cell
@@ -40,6 +40,45 @@ layout-cons k (number v) = refl
 layout-cons k (array ts) = refl
 layout-cons k (object ms) = refl
 
+pub all_at : {X : Type 0} (P : X → Type 0) (xs : List X) (i : ℕ) (x : X) → AllByRecursion P xs → i < length xs → x ≡ get_or xs i x → P x
+all_at P [] i x h l e = absurd (omega arith)
+all_at P (y ∷ ys) zero x h l e = subst P (sym e) h.0
+all_at P (y ∷ ys) (suc i) x h l e = all_at P ys i x h.1 (omega arith) e
+
+abbrev cell_below : Cell → ℕ
+cell_below null_cell = 0
+cell_below (truth_cell b) = 0
+cell_below (string_cell s) = 0
+cell_below (number_cell v) = 0
+cell_below (closed k n m) = m
+cell_below (opened k n m) = 0
+
+body-cell_below : (arena : List ℕ) (l : ℕ) (b : Body) → IsBelow l b → l ≡ cell_below (cell_of arena l b)
+body-cell_below arena l Null h = h
+body-cell_below arena l (Truth b) h = h
+body-cell_below arena l (Text s) h = h
+body-cell_below arena l (Numeral s) h = h
+body-cell_below arena l (Closed k n m) h = refl
+body-cell_below arena l (Opened k n m) h = h
+
+head-cell_below : (t : Tree) → cell_below (head_cell t) ≡ below t
+head-cell_below null = refl
+head-cell_below (truth b) = refl
+head-cell_below (string s) = refl
+head-cell_below (number v) = refl
+head-cell_below (array ts) = refl
+head-cell_below (object ms) = refl
+
+below-head : (arena : List ℕ) (l : ℕ) (b : Body) (t : Tree) → IsBelow l b → cell_of arena l b ≡ head_cell t → l ≡ below t
+below-head arena l b t h e = body-cell_below arena l b h ∙ ap cell_below e ∙ head-cell_below t
+
+links_at : (us : List ℕ) (ns : List Node) (i : ℕ) (n : Node) → AreLinks us ns → i < length ns → n ≡ get_or ns i n → IsLink (get_or us i 0) n.body
+links_at [] [] i n h l e = absurd (omega arith)
+links_at [] (m ∷ ns) i n h l e = absurd h
+links_at (u ∷ us) [] i n h l e = absurd h
+links_at (u ∷ us) (m ∷ ns) zero n h l e = subst (λ (x : Node). IsLink u x.body) (sym e) h.0
+links_at (u ∷ us) (m ∷ ns) (suc i) n h l e = links_at us ns i n h.1 (omega arith) e
+
 -- the tree t, the nodes that lay it out
 module _ (arena : List ℕ) (nodes : List Node) (t : Tree) (doc : IsDoc arena nodes) (view : tree_of (entries arena nodes) ≡ t) where
   pub laid_as : entries arena nodes ≡ layout None t
@@ -59,16 +98,20 @@ module _ (arena : List ℕ) (nodes : List Node) (t : Tree) (doc : IsDoc arena no
       ∙ ap (λ j. get_or (entries arena nodes) j d) (sym (add-zero i)) ∙ sym (get_or-drop i (entries arena nodes) 0 d)
       ∙ ap (λ cs. get_or cs 0 d) (at.2 ∙ ap (λ cs. cs ++ at.1) (layout-cons at.0 (subtree t i)))
 
-  pub cell_at : (i : ℕ) (n : Node) → i < node_count t → n ≡ get_or nodes i n → cell_of arena n.body ≡ head_cell (subtree t i)
+  pub cell_at : (i : ℕ) (n : Node) → i < node_count t → n ≡ get_or nodes i n → cell_of arena n.below n.body ≡ head_cell (subtree t i)
   cell_at i n h e = ap (λ x. x.1) (entry_at i n h e)
 
   pub node_key_at : (i : ℕ) (n : Node) → (h : i < node_count t) → n ≡ get_or nodes i n → option_map (text_in arena) n.key ≡ (lies_here i h).0
   node_key_at i n h e = ap (λ x. x.0) (entry_at i n h e)
 
-  pub link_at : (i : ℕ) (n : Node) → i < node_count t → n ≡ get_or nodes i n → n.up ≡ get_or (ups 0 t) i 0
-  link_at i n h e =
-      let within : i < length nodes = omega (arith, count) in
-      ap (λ (x : Node). x.up) e ∙ sym (get_or-map (λ (x : Node). x.up) nodes i n) ∙ get_or_default (links nodes) i n.up 0 (omega (arith, length-map nodes (λ (x : Node). x.up))) ∙ ap (λ (x : List ℕ). get_or x i 0) (doc.linked ∙ ap (ups 0) view)
+  within : (i : ℕ) → i < node_count t → i < length nodes
+  within i h = omega (arith, count)
+
+  pub link_at : (i : ℕ) (n : Node) → i < node_count t → n ≡ get_or nodes i n → IsLink (get_or (ups 0 t) i 0) n.body
+  link_at i n h e = links_at (ups 0 t) nodes i n (subst (λ (u : Tree). AreLinks (ups 0 u) nodes) view doc.linked) (within i h) e
+
+  pub below_at : (i : ℕ) (n : Node) → i < node_count t → n ≡ get_or nodes i n → n.below ≡ below (subtree t i)
+  below_at i n h e = below-head arena n.below n.body (subtree t i) (all_at (IsNode arena) nodes i n doc.fits (within i h) e).2 (cell_at i n h e)
 
 abbrev cell_kind : Cell → Kind
 cell_kind null_cell = kinds.Null
@@ -79,14 +122,14 @@ cell_kind (closed false n m) = kinds.Array
 cell_kind (closed true n m) = kinds.Object
 cell_kind (opened k n m) = kinds.Null
 
-body-cell_kind : (arena : List ℕ) (b : Body) → body_kind b ≡ cell_kind (cell_of arena b)
-body-cell_kind arena Null = refl
-body-cell_kind arena (Truth b) = refl
-body-cell_kind arena (Text s) = refl
-body-cell_kind arena (Numeral s) = refl
-body-cell_kind arena (Closed false n m) = refl
-body-cell_kind arena (Closed true n m) = refl
-body-cell_kind arena (Opened k n m) = refl
+body-cell_kind : (arena : List ℕ) (l : ℕ) (b : Body) → body_kind b ≡ cell_kind (cell_of arena l b)
+body-cell_kind arena l Null = refl
+body-cell_kind arena l (Truth b) = refl
+body-cell_kind arena l (Text s) = refl
+body-cell_kind arena l (Numeral s) = refl
+body-cell_kind arena l (Closed false n m) = refl
+body-cell_kind arena l (Closed true n m) = refl
+body-cell_kind arena l (Opened k n m) = refl
 
 head-cell_kind : (t : Tree) → cell_kind (head_cell t) ≡ kind_of t
 head-cell_kind null = refl
@@ -96,8 +139,8 @@ head-cell_kind (number v) = refl
 head-cell_kind (array ts) = refl
 head-cell_kind (object ms) = refl
 
-pub kind-head : (arena : List ℕ) (b : Body) (t : Tree) → cell_of arena b ≡ head_cell t → body_kind b ≡ kind_of t
-kind-head arena b t e = body-cell_kind arena b ∙ ap cell_kind e ∙ head-cell_kind t
+pub kind-head : (arena : List ℕ) (l : ℕ) (b : Body) (t : Tree) → cell_of arena l b ≡ head_cell t → body_kind b ≡ kind_of t
+kind-head arena l b t e = body-cell_kind arena l b ∙ ap cell_kind e ∙ head-cell_kind t
 
 abbrev cell_count : Cell → ℕ
 cell_count null_cell = 0
@@ -107,13 +150,13 @@ cell_count (number_cell v) = 0
 cell_count (closed k n m) = n
 cell_count (opened k n m) = 0
 
-body-cell_count : (arena : List ℕ) (b : Body) → body_count b ≡ cell_count (cell_of arena b)
-body-cell_count arena Null = refl
-body-cell_count arena (Truth b) = refl
-body-cell_count arena (Text s) = refl
-body-cell_count arena (Numeral s) = refl
-body-cell_count arena (Closed k n m) = refl
-body-cell_count arena (Opened k n m) = refl
+body-cell_count : (arena : List ℕ) (l : ℕ) (b : Body) → body_count b ≡ cell_count (cell_of arena l b)
+body-cell_count arena l Null = refl
+body-cell_count arena l (Truth b) = refl
+body-cell_count arena l (Text s) = refl
+body-cell_count arena l (Numeral s) = refl
+body-cell_count arena l (Closed k n m) = refl
+body-cell_count arena l (Opened k n m) = refl
 
 head-cell_count : (t : Tree) → cell_count (head_cell t) ≡ length (children t)
 head-cell_count null = refl
@@ -123,35 +166,8 @@ head-cell_count (number v) = refl
 head-cell_count (array ts) = refl
 head-cell_count (object ms) = refl
 
-pub count-head : (arena : List ℕ) (b : Body) (t : Tree) → cell_of arena b ≡ head_cell t → body_count b ≡ length (children t)
-count-head arena b t e = body-cell_count arena b ∙ ap cell_count e ∙ head-cell_count t
-
-abbrev cell_below : Cell → ℕ
-cell_below null_cell = 0
-cell_below (truth_cell b) = 0
-cell_below (string_cell s) = 0
-cell_below (number_cell v) = 0
-cell_below (closed k n m) = m
-cell_below (opened k n m) = 0
-
-body-cell_below : (arena : List ℕ) (b : Body) → body_below b ≡ cell_below (cell_of arena b)
-body-cell_below arena Null = refl
-body-cell_below arena (Truth b) = refl
-body-cell_below arena (Text s) = refl
-body-cell_below arena (Numeral s) = refl
-body-cell_below arena (Closed k n m) = refl
-body-cell_below arena (Opened k n m) = refl
-
-head-cell_below : (t : Tree) → cell_below (head_cell t) ≡ below t
-head-cell_below null = refl
-head-cell_below (truth b) = refl
-head-cell_below (string s) = refl
-head-cell_below (number v) = refl
-head-cell_below (array ts) = refl
-head-cell_below (object ms) = refl
-
-pub below-head : (arena : List ℕ) (b : Body) (t : Tree) → cell_of arena b ≡ head_cell t → body_below b ≡ below t
-below-head arena b t e = body-cell_below arena b ∙ ap cell_below e ∙ head-cell_below t
+pub count-head : (arena : List ℕ) (l : ℕ) (b : Body) (t : Tree) → cell_of arena l b ≡ head_cell t → body_count b ≡ length (children t)
+count-head arena l b t e = body-cell_count arena l b ∙ ap cell_count e ∙ head-cell_count t
 
 pub string-head : (s : List ℕ) (t : Tree) → string_cell s ≡ head_cell t → t ≡ string s
 string-head s null e = cc
@@ -176,11 +192,6 @@ number-head v (string x) e = cc
 number-head v (number w) e = cc
 number-head v (array ts) e = cc
 number-head v (object ms) e = cc
-
-pub all_at : {X : Type 0} (P : X → Type 0) (xs : List X) (i : ℕ) (x : X) → AllByRecursion P xs → i < length xs → x ≡ get_or xs i x → P x
-all_at P [] i x h l e = absurd (omega arith)
-all_at P (y ∷ ys) zero x h l e = subst P (sym e) h.0
-all_at P (y ∷ ys) (suc i) x h l e = all_at P ys i x h.1 (omega arith) e
 
 pub is_text : (b : Body) → body_kind b ≡ kinds.String → (s : Span) × (b ≡ Text s)
 is_text Null e = cc
@@ -208,6 +219,22 @@ is_truth (Numeral s) e = cc
 is_truth (Closed false n m) e = cc
 is_truth (Closed true n m) e = cc
 is_truth (Opened k n m) e = cc
+
+closed_body : (arena : List ℕ) (l : ℕ) (b : Body) (kind : Bool) (m size : ℕ) → cell_of arena l b ≡ closed kind m size → (k : Bool) × (n : ℕ) × (up : ℕ) × (b ≡ Closed k n up)
+closed_body arena l Null kind m size e = cc
+closed_body arena l (Truth x) kind m size e = cc
+closed_body arena l (Text s) kind m size e = cc
+closed_body arena l (Numeral s) kind m size e = cc
+closed_body arena l (Closed k n up) kind m size e = (k, n, up, refl)
+closed_body arena l (Opened k n up) kind m size e = cc
+
+pub is_closed : (arena : List ℕ) (l : ℕ) (b : Body) (t : Tree) → cell_of arena l b ≡ head_cell t → IsContainer t → (k : Bool) × (n : ℕ) × (up : ℕ) × (b ≡ Closed k n up)
+is_closed arena l b null e h = absurd h
+is_closed arena l b (truth x) e h = absurd h
+is_closed arena l b (string s) e h = absurd h
+is_closed arena l b (number v) e h = absurd h
+is_closed arena l b (array ts) e h = closed_body arena l b false (length (item_list ts)) (below (array ts)) e
+is_closed arena l b (object ms) e h = closed_body arena l b true (length (member_list ms)) (below (object ms)) e
 
 -- the tree of the number 0 is the whole
 pub whole : (t : Tree) → subtree t 0 ≡ t

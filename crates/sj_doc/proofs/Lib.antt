@@ -20,7 +20,7 @@ mod Searching
 pub mod Distinct
 -- for the lemmas of `Touring`
 pub mod Stops
--- for `NodeRef::tour` and `Tour::advance`, and for other lemmas
+-- for `Tour::advance`, and for other lemmas
 pub mod ParentLinks
 -- for `Doc::end_of`, `Doc::key_at`, `NodeRef::tour` and `Tour::advance`, and for other lemmas
 pub mod Touring

@@ -9,8 +9,7 @@ use Rattle.sj_doc.specs.Children.{first_kids, kids_at, children_left, layout_kid
 use Rattle.sj_json.specs.Cells.{tree_of}
 use Rattle.sj_doc.specs.declared.node.Node.{Node}
 use Rattle.sj_doc.specs.Nodes.{text_in, entries, IsDoc, IsNode}
-use Rattle.sj_doc.specs.Kinds.{body_below}
-use Rattle.sj_doc.proofs.Docs.{layout_below, layout-cons, laid_as, count, lies_here, entry_at, cell_at, below-head, all_at}
+use Rattle.sj_doc.proofs.Docs.{layout_below, layout-cons, laid_as, count, lies_here, entry_at, below_at, all_at}
 
 items-kids : (ts : Items) → layout_items ts ≡ layout_kids (item_list ts)
 items-kids no_items = refl
@@ -119,8 +118,8 @@ module _ (arena : List ℕ) (nodes : List Node) (t : Tree) (doc : IsDoc arena no
       ap (λ (x : Entry). x.0) (entry_at arena nodes t doc view i node next.within read)
       ∙ ap (λ (x : Child). x.0) (same_laid at.0 next.kid.0 (subtree t i) next.kid.1 at.1 next.rest (sym at.2 ∙ ap (drop i) (laid_as arena nodes t doc view) ∙ next.lie))
 
-  pub node_below : body_below node.body ≡ below next.kid.1
-  node_below = below-head arena node.body (subtree t i) (cell_at arena nodes t doc view i node next.within read) ∙ ap below next.tree
+  pub node_below : node.below ≡ below next.kid.1
+  node_below = below_at arena nodes t doc view i node next.within read ∙ ap below next.tree
 
   pub node_in : i < length nodes
   node_in = omega (arith, count arena nodes t doc view, next.within)

@@ -15,11 +15,11 @@ mutual
   length-ups n (array ts) = omega (arith, length-item_ups 1 ts)
   length-ups n (object ms) = omega (arith, length-member_ups 1 ms)
 
-  length-item_ups : (n : ℕ) (ts : Items) → length (item_ups n ts) ≡ items_size ts
+  pub length-item_ups : (n : ℕ) (ts : Items) → length (item_ups n ts) ≡ items_size ts
   length-item_ups n no_items = refl
   length-item_ups n (item t ts) = omega (arith, length-append (ups n t) (item_ups (n + 1 + below t) ts), length-ups n t, length-item_ups (n + 1 + below t) ts)
 
-  length-member_ups : (n : ℕ) (ms : Members) → length (member_ups n ms) ≡ members_size ms
+  pub length-member_ups : (n : ℕ) (ms : Members) → length (member_ups n ms) ≡ members_size ms
   length-member_ups n no_members = refl
   length-member_ups n (member k t ms) = omega (arith, length-append (ups n t) (member_ups (n + 1 + below t) ms), length-ups n t, length-member_ups (n + 1 + below t) ms)
 

@@ -13,7 +13,7 @@ use Rattle.sj_doc.specs.declared.builder.Innermost.{Innermost}
 use Rattle.sj_doc.specs.declared.builder.Innermost.TheVariants.{Top, Array, Object}
 use Rattle.sj_json.specs.Links.{laid_ups}
 use Rattle.sj_doc.specs.Kinds.{opens_object}
-use Rattle.sj_doc.specs.Nodes.{text_in, entries, links, IsSpan, IsNode}
+use Rattle.sj_doc.specs.Nodes.{text_in, entries, AreLinks, IsSpan, IsNode}
 
 -- the document so far, and the line with the line feeds behind it
 abbrev pub Building : Type 0
@@ -52,7 +52,7 @@ pub record IsBuilder (arena : List ℕ) (nodes : List Node) (key : Option Span) 
   pub outer : List Part
   pub shape : IsState part outer
   pub laid_out : entries arena nodes ≡ laid part outer
-  pub linked : links nodes ≡ laid_ups part outer
+  pub linked : AreLinks (laid_ups part outer) nodes
   pub keyed : option_map (text_in arena) key ≡ part_key part
   pub inner_is : inner ≡ place part outer
   pub count_is : count ≡ length (part_kids part)
@@ -110,7 +110,6 @@ pub record IsBetween (from : ℕ) (to : ℕ) (s : Span) : Type 0 where
 -- there is room for a node
 pub record HasRoom (t : OpenTree) : Type 0 where
   pub few : length t.nodes.items < most_nodes
-  pub within : t.inner ≤ length t.nodes.items
   pub counted : t.count ≤ length t.nodes.items
 
 -- no node, and nothing is open
@@ -124,7 +123,7 @@ pub record IsEmpty (nodes : List Node) (t : OpenTree) : Type 0 where
 
 -- the node comes last, under the key that was given, and is one more child of the innermost container
 pub record Adds (t : OpenTree) (body : Body) (u : OpenTree) : Type 0 where
-  pub nodes_are : u.nodes.items ≡ t.nodes.items ++ record { key = t.key; up = length t.nodes.items - t.inner; body = body } ∷ []
+  pub nodes_are : u.nodes.items ≡ t.nodes.items ++ record { key = t.key; below = 0; body = body } ∷ []
   pub key_is : u.key ≡ None
   pub innermost_is : u.innermost ≡ t.innermost
   pub inner_is : u.inner ≡ t.inner

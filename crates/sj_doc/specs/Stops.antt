@@ -1,5 +1,5 @@
 -- The visits of a tour, each with the position that it is made from. A `Tour` keeps such a position alone.
-use Rattle.std.specs.Prelude.{◌≡◌, ℕ, ◌+◌, ◌-◌, ◌<◌, List, [], ◌∷◌, ◌++◌, map, get_or, nat_lt, cond, ◌==◌, ◌&&◌, Option, None, Some}
+use Rattle.std.specs.Prelude.{◌≡◌, ℕ, ◌+◌, ◌<◌, List, [], ◌∷◌, ◌++◌, map, get_or, nat_lt, cond, ◌==◌, ◌&&◌, Option, None, Some}
 use Rattle.sj_json.specs.Tree.{Tree, null, truth, string, number, array, object, Items, no_items, item, Members, no_members, member, below, items_size, members_size, subtree, node_count}
 use Rattle.sj_json.specs.Cells.{null_cell, layout}
 use Rattle.sj_json.specs.Links.{ups}
@@ -7,7 +7,7 @@ use Rattle.sj_doc.specs.Tours.{Visited, enter, leave, leaf, Touring}
 use Rattle.sj_doc.specs.declared.node.Kind.{Kind}
 use Rattle.sj_doc.specs.declared.node.Kind.TheVariants as kinds
 
--- the next node, how many containers are open in the tour, and the innermost of them
+-- the next node, how many containers are open in the tour, and the innermost of them, 0 where none is open
 abbrev pub TourPosition : Type 0
 TourPosition = ℕ × ℕ × ℕ
 
@@ -83,7 +83,7 @@ abbrev pub key_in : Tree → ℕ → Option (List ℕ)
 key_in t i = (get_or (layout None t) i (None, null_cell)).0
 
 abbrev pub stops_of : Tree → ℕ → List Stop
-stops_of t first = stops 0 (first - up_of t first) None first (subtree t first)
+stops_of t first = stops 0 0 None first (subtree t first)
 
 abbrev pub tour_left : Tree → ℕ → ℕ → ℕ → Touring
 tour_left t first at depth = (nat_lt first at, visits_from at depth (stops_of t first))
@@ -93,4 +93,7 @@ pub record IsTour (t : Tree) (first : ℕ) (at : ℕ) (inner : ℕ) (depth : ℕ
   pub before : List Stop
   pub after : List Stop
   pub splits : stops_of t first ≡ before ++ after
-  pub leads : Leads (at, depth, inner) after (first + 1 + below (subtree t first), 0, first - up_of t first)
+  -- the innermost open container, which is `inner` where one is open; where none is, `inner` may be anything
+  pub innermost : ℕ
+  pub is_inner : 0 < depth → innermost ≡ inner
+  pub leads : Leads (at, depth, innermost) after (first + 1 + below (subtree t first), 0, 0)

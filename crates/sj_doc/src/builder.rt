@@ -161,9 +161,15 @@ impl OpenTree {
         requires { HasRoom self.old }
         ensures { MatchResult result (λ _. Adds self.old body self.new) (λ _. Stays self.old self.new) }
     {
-        let up = self.nodes.len() as u32 - self.inner;
         let key = self.key;
-        push_in(&mut self.nodes, Node { key, up, body })?;
+        push_in(
+            &mut self.nodes,
+            Node {
+                key,
+                below: 0,
+                body,
+            },
+        )?;
         self.key = None;
         self.count += 1;
         Ok(())
@@ -450,11 +456,11 @@ impl DocBuilder {
             } => {
                 self.tree.nodes[at] = Node {
                     key: node.key,
-                    up: node.up,
+                    below,
                     body: Body::Closed {
                         is_object,
                         count: self.tree.count,
-                        below,
+                        up: self.tree.inner - parent,
                     },
                 };
                 self.tree.inner = parent;

@@ -164,7 +164,7 @@ impl<'d> Children<'d> {
             doc: self.doc,
             at: self.at,
         };
-        self.at += 1 + node.body.below();
+        self.at += 1 + node.below;
         self.left -= 1;
         Some(Member { key, node: child })
     }

@@ -4,7 +4,7 @@ ghost use Rattle.sj_json.specs.Tree.{node_count, subtree, below, children, numbe
 ghost use Rattle.sj_json.specs.Printing.{IsTree};
 ghost use Rattle.sj_json.specs.Building.{fresh};
 ghost use Rattle.sj_doc.specs.Limits.{most_nodes};
-ghost use Rattle.sj_doc.specs.Kinds.{kind_of};
+ghost use Rattle.sj_doc.specs.Kinds.{kind_of, IsContainer};
 ghost use Rattle.sj_doc.specs.Nodes.{text_in, IsSpan, IsNumeral, spelled};
 ghost use Rattle.sj_doc.specs.Numbers.{number_in};
 ghost use Rattle.sj_doc.specs.Stops.{key_in, up_of};
@@ -140,16 +140,20 @@ impl Doc {
         requires { at < node_count self.now }
         ensures { result ≡ at + 1 + below (subtree self.now at) }
     {
-        let below = self.nodes[at as usize].body.below();
+        let below = self.nodes[at as usize].below;
         at + 1 + below
     }
 
-    // How far a node lies behind its parent.
+    // How far a container lies behind its parent.
     pub(crate) fn up_at(&self, at: u32) -> u32
-        requires { at < node_count self.now }
+        requires within { at < node_count self.now }
+        requires container { IsContainer (subtree self.now at) }
         ensures { result ≡ up_of self.now at }
     {
-        self.nodes[at as usize].up
+        match self.nodes[at as usize].body {
+            Body::Closed { up, .. } => up,
+            _ => unreachable!(),
+        }
     }
 
     // The key of a node.
@@ -258,12 +262,11 @@ impl<'d> NodeRef<'d> {
     pub fn tour(self) -> Tour<'d>
         ensures { result ≡ (false, tour None (node_id self.entry) (node_tree self.entry)) }
     {
-        let up = self.doc.up_at(self.at);
         Tour {
             doc: self.doc,
             first: self.at,
             at: self.at,
-            inner: self.at - up,
+            inner: self.at,
             depth: 0,
         }
     }

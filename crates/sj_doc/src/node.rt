@@ -1,6 +1,6 @@
 // A node, and the range of text that it refers to.
 ghost use Rattle.std.specs.Prelude.{◌≡◌};
-ghost use Rattle.sj_doc.specs.Kinds.{body_kind, body_count, body_below, opens_object};
+ghost use Rattle.sj_doc.specs.Kinds.{body_kind, body_count, opens_object};
 
 /// What a value is (RFC 8259, section 3).
 #[derive(Clone, Copy, Debug, Drop, PartialEq, Eq)]
@@ -33,8 +33,9 @@ pub(crate) struct Span {
     pub(crate) len: u32,
 }
 
-// What a node is. A container that is complete has the number of its children and of all nodes below
-// it. While it is open it has the number of its parent, and how many children the parent had before.
+// What a node is. A container that is complete has the number of its children, and says how far it lies behind
+// its parent, 0 at the root. While it is open it has the number of its parent, and how many children the parent
+// had before.
 #[derive(Clone, Copy, Drop)]
 pub(crate) enum Body {
     Null,
@@ -45,7 +46,7 @@ pub(crate) enum Body {
     Closed {
         is_object: bool,
         count: u32,
-        below: u32,
+        up: u32,
     },
     Opened {
         is_object: bool,
@@ -54,11 +55,11 @@ pub(crate) enum Body {
     },
 }
 
-// A node under its key. `up` is how far it lies behind its parent, 0 at the root.
+// A node under its key. `below` is the number of nodes below it: 0 at a scalar, and while a container is open.
 #[derive(Clone, Copy, Drop)]
 pub(crate) struct Node {
     pub(crate) key: Option<Span>,
-    pub(crate) up: u32,
+    pub(crate) below: u32,
     pub(crate) body: Body,
 }
 
@@ -90,16 +91,6 @@ impl Body {
     {
         match self {
             Body::Closed { count, .. } => count,
-            _ => 0,
-        }
-    }
-
-    // The number of nodes below.
-    pub(crate) fn below(self) -> u32
-        ensures { result ≡ body_below self }
-    {
-        match self {
-            Body::Closed { below, .. } => below,
             _ => 0,
         }
     }

@@ -29,7 +29,7 @@ pub struct Tour<'d> {
     pub(crate) first: u32,
     // the next node
     pub(crate) at: u32,
-    // the innermost container that is open in the tour; where none is, the parent of the first node
+    // the innermost container that is open in the tour; where none is, it says nothing
     pub(crate) inner: u32,
     // how many are open
     pub(crate) depth: u32,

@@ -20,7 +20,7 @@ counted c =
     let d = c.doc.inside in
     let n = c.index.result.now in
     let t = c.args.self.doc.now in
-    c.count-left.ensures ∙ count-head d.arena.items n.body (subtree t c.args.self.at) (cell_at d.arena.items d.nodes.items t c.doc.invariant c.doc.view_is c.args.self.at n c.args.self.in_range c.index.ensures)
+    c.count-left.ensures ∙ count-head d.arena.items n.below n.body (subtree t c.args.self.at) (cell_at d.arena.items d.nodes.items t c.doc.invariant c.doc.view_is c.args.self.at n c.args.self.in_range c.index.ensures)
 
 pub invariant_of-result : goal.invariant_of-result
 invariant_of-result c = (begins c.args.self.doc.now c.args.self.at c.args.self.in_range c.count-left.result (counted (goal.at.invariant_of-result c).After-count-left)).0

@@ -13,4 +13,4 @@ returns c =
     let d = c.doc.inside in
     let n = c.index.result.now in
     let t = c.args.self.doc.now in
-    c.kind.ensures ∙ kind-head d.arena.items n.body (subtree t c.args.self.at) (cell_at d.arena.items d.nodes.items t c.doc.invariant c.doc.view_is c.args.self.at n c.args.self.in_range c.index.ensures)
+    c.kind.ensures ∙ kind-head d.arena.items n.below n.body (subtree t c.args.self.at) (cell_at d.arena.items d.nodes.items t c.doc.invariant c.doc.view_is c.args.self.at n c.args.self.in_range c.index.ensures)

@@ -16,7 +16,7 @@ within c =
 pub index-requires : goal.index-requires
 index-requires c = omega (arith, within (goal.at.index-requires c).After-doc, c.doc.inside.nodes.ok.0)
 
-here : (c : After-index) → cell_of c.doc.inside.arena.items c.index.result.now.body ≡ head_cell (subtree c.args.self.doc.now c.args.self.at)
+here : (c : After-index) → cell_of c.doc.inside.arena.items c.index.result.now.below c.index.result.now.body ≡ head_cell (subtree c.args.self.doc.now c.args.self.at)
 here c =
     let d = c.doc.inside in
     cell_at d.arena.items d.nodes.items c.args.self.doc.now c.doc.invariant c.doc.view_is c.args.self.at c.index.result.now c.args.self.in_range c.index.ensures
@@ -36,7 +36,7 @@ text_at-requires c =
 pub returns-clause-tree : goal.returns-clause-tree
 returns-clause-tree c =
     let text : c.text_at.result.now ≡ text_in c.doc.inside.arena.items c.in-Numeral.span = c.text_at.ensures ∙ ap (λ (a : List ℕ). text_in a c.in-Numeral.span) c.deref.ensures.value in
-    number-head (spelled c.text_at.result.now) _ (ap number_cell (ap spelled text) ∙ ap (cell_of c.doc.inside.arena.items) (sym c.in-Numeral.is) ∙ here (goal.at.returns-clause-tree c).After-index)
+    number-head (spelled c.text_at.result.now) _ (ap number_cell (ap spelled text) ∙ ap (cell_of c.doc.inside.arena.items c.index.result.now.below) (sym c.in-Numeral.is) ∙ here (goal.at.returns-clause-tree c).After-index)
 
 pub returns-clause-kept : goal.returns-clause-kept
 returns-clause-kept c =
@@ -44,5 +44,5 @@ returns-clause-kept c =
 
 pub unreachable-requires : goal.unreachable-requires
 unreachable-requires c =
-    let e = is_numeral c.index.result.now.body (kind-head c.doc.inside.arena.items _ _ (here (goal.at.unreachable-requires c).After-index) ∙ c.requires) in
+    let e = is_numeral c.index.result.now.body (kind-head c.doc.inside.arena.items _ _ _ (here (goal.at.unreachable-requires c).After-index) ∙ c.requires) in
     c.in_default.not-Numeral e.0 e.1

@@ -13,7 +13,7 @@ within c =
 pub index-requires : goal.index-requires
 index-requires c = omega (arith, within (goal.at.index-requires c).After-doc, c.doc.inside.nodes.ok.0)
 
-here : (c : After-index) → cell_of c.doc.inside.arena.items c.index.result.now.body ≡ head_cell (subtree c.args.self.doc.now c.args.self.at)
+here : (c : After-index) → cell_of c.doc.inside.arena.items c.index.result.now.below c.index.result.now.body ≡ head_cell (subtree c.args.self.doc.now c.args.self.at)
 here c =
     let d = c.doc.inside in
     cell_at d.arena.items d.nodes.items c.args.self.doc.now c.doc.invariant c.doc.view_is c.args.self.at c.index.result.now c.args.self.in_range c.index.ensures
@@ -27,9 +27,9 @@ text_at-requires c =
 
 pub returns : goal.returns
 returns c =
-    string-head c.text_at.result.now _ (ap (λ s. Rattle.sj_json.specs.Cells.string_cell s) (c.text_at.ensures ∙ ap (λ (a : List ℕ). text_in a c.in-Text.span) c.deref.ensures.value) ∙ ap (cell_of c.doc.inside.arena.items) (sym c.in-Text.is) ∙ here (goal.at.returns c).After-index)
+    string-head c.text_at.result.now _ (ap (λ s. Rattle.sj_json.specs.Cells.string_cell s) (c.text_at.ensures ∙ ap (λ (a : List ℕ). text_in a c.in-Text.span) c.deref.ensures.value) ∙ ap (cell_of c.doc.inside.arena.items c.index.result.now.below) (sym c.in-Text.is) ∙ here (goal.at.returns c).After-index)
 
 pub unreachable-requires : goal.unreachable-requires
 unreachable-requires c =
-    let e = is_text c.index.result.now.body (kind-head c.doc.inside.arena.items _ _ (here (goal.at.unreachable-requires c).After-index) ∙ c.requires) in
+    let e = is_text c.index.result.now.body (kind-head c.doc.inside.arena.items _ _ _ (here (goal.at.unreachable-requires c).After-index) ∙ c.requires) in
     c.in_default.not-Text e.0 e.1

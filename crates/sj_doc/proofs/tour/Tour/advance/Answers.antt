@@ -24,6 +24,16 @@ node_at-requires c =
     let f = c.self.inside in
     (is_open f.doc.now f.first f.at f.inner f.depth c.self.invariant (omega (arith, c.if-self-eq0.false))).within
 
+pub up_at-requires-clause-within : goal.up_at-requires-clause-within
+up_at-requires-clause-within c =
+    let f = c.self.inside in
+    (is_open f.doc.now f.first f.at f.inner f.depth c.self.invariant (omega (arith, c.if-self-eq0.false))).within
+
+pub up_at-requires-clause-container : goal.up_at-requires-clause-container
+up_at-requires-clause-container c =
+    let f = c.self.inside in
+    (is_open f.doc.now f.first f.at f.inner f.depth c.self.invariant (omega (arith, c.if-self-eq0.false))).container
+
 pub overflow_sub-self : goal.overflow_sub-self
 overflow_sub-self c = omega (arith, c.up_at.ensures, link_le c.self.inside.doc.now c.self.inside.inner)
 
