@@ -1,11 +1,12 @@
 -- What the calls of a builder keep.
 use Rattle.std.proofs.Common.{◌≡◌, ℕ, suc, zero, ◌+◌, ◌-◌, ◌<◌, ◌≤◌, List, [], ◌∷◌, ◌++◌, length, take, drop, get_or, set, replicate, Bool, true, false, Option, Some, None, option_map, IfSome, Result, Ok, Err, OnOk, OnErr, MatchResult, refl, sym, ap, ap₂, ◌∙◌, subst, length-append, ⊎_elim, arith}
 use Rattle.std.specs.List.{AllByRecursion}
-use Rattle.std.specs.Str.{IsUtf8}
+use Rattle.std.specs.Str.{IsUtf8, IsAscii}
 use Rattle.std.proofs.Math.ListN.{get_or-map}
 use Rattle.std.proofs.lemmas.Option.{same_Some}
 use Rattle.std.proofs.lemmas.Bool.{cases_lt}
-use Rattle.std.proofs.lemmas.Str.{IsUtf8-append, IsUtf8-nil}
+use Rattle.std.proofs.lemmas.Str.{IsUtf8-append, IsUtf8-from_ascii, IsUtf8-nil}
+use Rattle.std.proofs.lemmas.Str.Ascii.{IsAscii-nil, IsAscii-cons}
 use Rattle.std.proofs.lemmas.List.{get_or-append_right, get_or-replicate, length-replicate, append-nil, length-map, map-append, map-set, set_at, get_or_at, take-append-drop, take-append-le, length-take-le, drop-append-le, take_at, drop_at, length-set, length-drop}
 use Rattle.sj_decimal.specs.Shorts.{between}
 use Rattle.sj_json.specs.Tree.{Tree, null, truth, string, number}
@@ -29,7 +30,7 @@ use Rattle.sj_doc.specs.Nodes.{spelled, text_in, cell_of, entry_of, entries, IsL
 use Rattle.sj_doc.specs.declared.builder.OpenTree.{OpenTree}
 use Rattle.sj_doc.specs.declared.builder.Innermost.{Innermost}
 use Rattle.sj_doc.specs.declared.builder.Innermost.TheVariants as innermost
-use Rattle.sj_doc.specs.Builders.{feeds_behind, held, EndsInFeeds, IsLine, Building, built, node_total, IsBuilder, IsOpenTree, built_tree, innermost_of, innermost_opened, IsInside, Opens, Tells, HasRoom, IsBetween, IsEmpty, Adds, Stays}
+use Rattle.sj_doc.specs.Builders.{feeds_behind, held, line_in, IsCopied, EndsInFeeds, IsLine, Building, built, node_total, IsBuilder, IsOpenTree, built_tree, innermost_of, innermost_opened, IsInside, Opens, Tells, HasRoom, IsBetween, IsEmpty, Adds, Stays}
 
 pub all_push : {X : Type 0} (P : X → Type 0) (xs : List X) (x : X) → AllByRecursion P xs → P x → AllByRecursion P (xs ++ x ∷ [])
 all_push P [] x h p = (p, tt)
@@ -445,11 +446,26 @@ fed line i within other =
     (λ far. absurd (other (get_or-append_right line (replicate feeds_behind 10) (length line) i 0 refl far ∙ get_or-replicate feeds_behind (i - length line) 10 0 (omega (arith, within, far, all)))))
     (cases_lt i (length line))
 
--- a line is held, with the line feeds
-pub line_held : (line a : List ℕ) (k : ℕ) → IsUtf8 line → IsUtf8 (replicate feeds_behind 10) → a ≡ held line → k ≡ length a → IsLine a k × (take k a ≡ held line)
-line_held line a k good feeds is all =
-    let whole : take k a ≡ held line = ap (λ (n : ℕ). take n a) all ∙ take_all a ∙ is in
-    (record { within = omega (arith, all); utf8 = subst IsUtf8 (sym whole) (IsUtf8-append line (replicate feeds_behind 10) good feeds); feeds = subst EndsInFeeds (sym whole) (fed line) }, whole)
+-- a text that ends in line feeds is held as a whole
+pub line_held : (a : List ℕ) (k : ℕ) → IsUtf8 a → EndsInFeeds a → k ≡ length a → IsLine a k × (take k a ≡ a)
+line_held a k good feeds all =
+    let whole : take k a ≡ a = ap (λ (n : ℕ). take n a) all ∙ take_all a in
+    (record { within = omega (arith, all); utf8 = subst IsUtf8 (sym whole) good; feeds = subst EndsInFeeds (sym whole) feeds }, whole)
+
+feeds_ascii : (n : ℕ) → IsAscii (replicate n 10)
+feeds_ascii zero = IsAscii-nil
+feeds_ascii (suc n) = IsAscii-cons 10 (replicate n 10) (omega arith) (feeds_ascii n)
+
+-- a line that was copied is a text, and so it is with the line feeds
+module _ (a : List ℕ) (ns : List Node) (c : IsCopied a ns) (line : List ℕ) (view : line_in a ≡ line) where
+  pub line_whole : a ≡ held line
+  line_whole = c.whole ∙ ap held view
+
+  pub text_whole : IsUtf8 line → IsUtf8 a × EndsInFeeds a
+  text_whole good = (
+    subst IsUtf8 (sym line_whole) (IsUtf8-append line (replicate feeds_behind 10) good (IsUtf8-from_ascii (replicate feeds_behind 10) (feeds_ascii feeds_behind))),
+    subst EndsInFeeds (sym line_whole) (fed line),
+  )
 
 pub starts : (a : List ℕ) (ns : List Node) (t : OpenTree) → IsEmpty ns t → ns ≡ [] → length a < text_bound → IsOpenTree a t × (built_tree a t ≡ fresh) × IsInside a t
 starts a ns t h e small =

@@ -7,10 +7,10 @@ pub mod Numerals
 pub mod Docs
 -- for `Doc::root`
 pub mod NumbersOfNodes
--- for `DocBuilder::begin`, `DocBuilder::close`, `DocBuilder::depth`, `DocBuilder::finish`, `DocBuilder::holding`,
+-- for `CopiedLine::hold`, `DocBuilder::begin`, `DocBuilder::close`, `DocBuilder::depth`, `DocBuilder::finish`,
 -- `DocBuilder::key_at`, `DocBuilder::key_bytes`, `DocBuilder::null`, `DocBuilder::number`, `DocBuilder::number_at`,
--- `DocBuilder::over`, `DocBuilder::text_at`, `DocBuilder::text_bytes`, `DocBuilder::truth`, `DocBuilder::wants` and
--- `store`
+-- `DocBuilder::over`, `DocBuilder::over_line`, `DocBuilder::text_at`, `DocBuilder::text_bytes`, `DocBuilder::truth`,
+-- `DocBuilder::wants` and `store`
 pub mod Builders
 -- for `Children::advance` and `NodeRef::children`, and for other lemmas
 pub mod Listing

@@ -30,6 +30,16 @@ feeds_behind = 16
 abbrev pub held : List ℕ → List ℕ
 held line = line ++ replicate feeds_behind 10
 
+-- the line of a text that is held
+abbrev pub line_in : List ℕ → List ℕ
+line_in text = take (length text - feeds_behind) text
+
+-- a line that was copied, with the line feeds, and no node
+pub record IsCopied (arena : List ℕ) (nodes : List Node) : Type 0 where
+  pub whole : arena ≡ held (line_in arena)
+  pub narrow : length arena < text_bound
+  pub empty : nodes ≡ []
+
 -- so many bytes stand behind each byte that is no line feed
 abbrev pub EndsInFeeds : List ℕ → Type 0
 EndsInFeeds text = (i : ℕ) → i < length text → slice_index text i ≢ 10 → i + 1 + feeds_behind ≤ length text

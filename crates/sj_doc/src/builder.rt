@@ -5,19 +5,17 @@ ghost use Rattle.sj_decimal.specs.Shorts.{between};
 ghost use Rattle.sj_json.specs.Tree.{null, truth, string, number, exact, wide};
 ghost use Rattle.sj_json.specs.Building.{fresh, TakesValue, TakesKey, TakesClose, with_value, with_key, with_open, with_close, IsComplete, top};
 ghost use Rattle.sj_doc.specs.Limits.{most_nodes, text_bound};
-ghost use Rattle.sj_doc.specs.Builders.{held, EndsInFeeds, node_total, IsBetween, Stores, HasRoom, IsEmpty, Adds, Stays, Tells, innermost_opened};
+ghost use Rattle.sj_doc.specs.Builders.{EndsInFeeds, node_total, IsBetween, Stores, HasRoom, IsEmpty, Adds, Stays, Tells, innermost_opened};
 ghost use Rattle.sj_doc.specs.Nodes.{IsNumeral, spelled};
 ghost use Rattle.sj_doc.specs.Kinds.{want_of};
 
+use crate::copied::CopiedLine;
 use crate::doc::{Doc, text_at};
 use crate::node::{Body, Node, Span, Want};
 use sj_base::Memory;
 use sj_decimal::Decimal;
 use std::alloc::Global;
 use std::marker::Model;
-
-// What stands behind a line that a builder holds.
-const LINE_FEEDS: &str = "\n\n\n\n\n\n\n\n\n\n\n\n\n\n\n\n";
 
 // What the innermost open container is.
 #[derive(Clone, Copy, Drop)]
@@ -209,29 +207,34 @@ impl DocBuilder {
         }
     }
 
-    /// An empty builder over the memory of this one, which holds the line, and 16 line feeds behind it. Strings, keys and numbers
-    /// that stand in the line are then given by their places, and are not copied one by one.
+    // The same, which holds the text of the first vector.
+    #[inline(always)]
+    pub(crate) fn over_line(arena: Vec<u8>, nodes: Vec<Node>) -> DocBuilder
+        requires narrow { length arena.items < text_bound }
+        requires utf8 { IsUtf8 arena.items }
+        requires feeds { EndsInFeeds arena.items }
+        requires no_nodes { nodes.items ≡ [] }
+        ensures { result ≡ (fresh, arena.items) }
+    {
+        let line = arena.len() as u32;
+        DocBuilder {
+            arena,
+            line,
+            tree: OpenTree::over(nodes),
+        }
+    }
+
+    /// The memory of this builder, into which the line is copied, with 16 line feeds behind it. The line need not be
+    /// UTF-8.
     ///
     /// # Errors
-    /// [`Memory`] where memory runs out.
-    pub fn holding(self, line: &str) -> Result<DocBuilder, Memory>
-        ensures { IfOk result (λ builder. builder ≡ (fresh, held line.now)) }
+    /// [`Memory`] where memory runs out. The memory of the builder is given back to the allocator then.
+    #[inline(always)]
+    pub fn copying(self, line: &[u8]) -> Result<CopiedLine, Memory>
+        ensures { IfOk result (λ copied. copied ≡ line.now) }
     {
-        let DocBuilder {
-            mut arena,
-            mut tree,
-            ..
-        } = self;
-        arena.clear();
-        tree.nodes.clear();
-        store(&mut arena, line.as_bytes())?;
-        store(&mut arena, LINE_FEEDS.as_bytes())?;
-        let held = arena.len() as u32;
-        Ok(DocBuilder {
-            arena,
-            line: held,
-            tree: OpenTree::over(tree.nodes),
-        })
+        let DocBuilder { arena, tree, .. } = self;
+        CopiedLine::over(arena, tree.nodes, line)
     }
 
     /// What it holds: the line and the line feeds behind it, or nothing. At a byte that is no line feed, the 16 bytes behind it

@@ -6,8 +6,8 @@
 //!
 //! Every contract sees a `Doc` as one tree, a `NodeRef` as its number in preorder and the tree that begins
 //! there, `Children` as the list of the children that are left, a `Tour` as the list of the visits that are
-//! left, and a `DocBuilder` as the containers that are open and the line that it holds. The words over a `NodeRef` are in
-//! `specs/Listed.antt`: `node_tree`, `node_id`, `node_key` and `member_of`.
+//! left, a `DocBuilder` as the containers that are open and the line that it holds, and a `CopiedLine` as the bytes of
+//! the line. The words over a `NodeRef` are in `specs/Listed.antt`: `node_tree`, `node_id`, `node_key` and `member_of`.
 //!
 //! `Children::next`, `Children::next_under` and `Tour::next` alone hand out the children of a node, and raise
 //! the counter by one for each.
@@ -15,6 +15,7 @@
 
 mod builder;
 mod children;
+mod copied;
 mod doc;
 mod keys;
 mod node;
@@ -22,6 +23,7 @@ mod tour;
 
 pub use builder::DocBuilder;
 pub use children::Children;
+pub use copied::CopiedLine;
 pub use doc::{Doc, Member, NodeRef, Num};
 pub use node::{Kind, Want};
 pub use tour::{Tour, Visit};

@@ -67,9 +67,11 @@ fn builds_and_walks(rt: HostRuntime) -> Result<(), Fail> {
 fn holds_a_line_with_line_feeds_behind_it(rt: HostRuntime) -> Result<(), Fail> {
     let builder = DocBuilder::new(rt.alloc());
     expect(&rt, builder.line(), "", "no line");
-    let builder = builder.holding("[1]")?;
+    let builder = builder.copying("[1]".as_bytes())?.hold();
     let want = "[1]\n\n\n\n\n\n\n\n\n\n\n\n\n\n\n\n";
     expect(&rt, builder.line(), want, "a line");
+    let builder = builder.copying(b"\xff")?.give_up();
+    expect(&rt, builder.line(), "", "no line again");
     Ok(())
 }
 

@@ -7,10 +7,10 @@
 //!
 //! # How a line is read
 //!
-//! First the line as a whole is looked at (`line.rt`): it is not too long, and it is UTF-8 (`utf8.rt`). It is copied once
-//! into the document, which keeps it as its text, and the copy is what is read. Behind it stand 16 line feeds. They are
-//! white space, and no token of a line goes on into them. So behind a byte of a token 16 bytes can be looked at together,
-//! and one byte at least, without asking for the end.
+//! A line that is not too long is copied once into the memory of the document, which keeps it as its text (`line.rt`).
+//! Then it is looked at as a whole: it is UTF-8 (`utf8.rt`). The copy is what is read, and the look at the line gives it
+//! time to be there. Behind it stand 16 line feeds. They are white space, and no token of a line goes on into them. So
+//! behind a byte of a token 16 bytes can be looked at together, and one byte at least, without asking for the end.
 //!
 //! Keys, strings and numbers are places in that text, so a node is made without a copy. Only a string with an escape is
 //! written out, into a buffer that all of them share, and from there behind the line's text (`unescape.rt`, `escape.rt`).

@@ -1,5 +1,5 @@
 // A line as a whole: its document, or why it has none.
-ghost use Rattle.std.specs.Prelude.{◌≡◌, ◌≤◌, length, IsUtf8, MatchOption, IfOk, Err};
+ghost use Rattle.std.specs.Prelude.{◌≡◌, ◌≤◌, length, IfOk, Err};
 ghost use Rattle.sj_json.specs.Building.{fresh};
 ghost use Rattle.sj_json.specs.Spelling.{SpellsText, IsJson};
 ghost use Rattle.sj_doc.specs.Builders.{held};
@@ -8,7 +8,7 @@ ghost use Rattle.sj_read.specs.LinesRead.{IsReadAs, HasRead};
 use crate::reader::{MAX_LENGTH, Mode, ReadRefusal, turn};
 use crate::utf8::text_of;
 use sj_base::Memory;
-use sj_doc::{Doc, DocBuilder, Want};
+use sj_doc::{CopiedLine, Doc, DocBuilder, Want};
 use std::alloc::Global;
 
 /// The most bytes of a buffer that are kept for the next line.
@@ -59,12 +59,31 @@ pub fn read_over(
     ensures read { IfOk result (IsReadAs line.now) }
     ensures short { length buffer.old.items ≤ MOST_BUFFERED → length buffer.new.items ≤ MOST_BUFFERED }
 {
-    let Some(text) = text_within(line) else {
+    if line.len() > MAX_LENGTH {
         return Ok(LineRead::NotJson(builder));
-    };
-    match builder.holding(text) {
-        Ok(builder) => read_held(alloc, builder, buffer, text),
+    }
+    match builder.copying(line) {
+        Ok(copied) => read_copied(alloc, copied, buffer, line),
         Err(memory) => Err(memory),
+    }
+}
+
+// The same of a line that was copied. It is checked first, so the copy is there when it is read.
+#[inline(always)]
+fn read_copied(
+    alloc: Global,
+    copied: CopiedLine,
+    buffer: &mut Vec<u8>,
+    line: &[u8],
+) -> Result<LineRead, Memory>
+    requires copied { copied ≡ line.now }
+    requires short { length line.now ≤ MAX_LENGTH }
+    ensures read { IfOk result (IsReadAs line.now) }
+    ensures short { length buffer.old.items ≤ MOST_BUFFERED → length buffer.new.items ≤ MOST_BUFFERED }
+{
+    match text_of(line) {
+        Some(text) => read_held(alloc, copied.hold(), buffer, text),
+        None => Ok(LineRead::NotJson(copied.give_up())),
     }
 }
 
@@ -107,17 +126,6 @@ fn read_and_trim(
         *buffer = Vec::new(alloc);
     }
     read
-}
-
-// The text, if the line is one and not too long.
-#[inline(always)]
-fn text_within(line: &[u8]) -> Option<&str>
-    ensures { MatchOption result (IsJson line.now → ⊥) (λ text. (text.now ≡ line.now) × IsUtf8 line.now × (length line.now ≤ MAX_LENGTH)) }
-{
-    if line.len() > MAX_LENGTH {
-        return None;
-    }
-    text_of(line)
 }
 
 // Reads a text into a builder that holds it. Where that gives `Ok`, the document is complete.
