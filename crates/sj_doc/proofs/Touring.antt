@@ -1,5 +1,5 @@
 -- What stands in the document at each stop of a tour.
-use Rattle.std.proofs.Common.{◌≡◌, ◌≢◌, ℕ, ◌+◌, ◌-◌, ◌*◌, ◌<◌, ◌≤◌, ◌⊎◌, List, [], ◌∷◌, ◌++◌, length, map, drop, get_or, Bool, false, nat_lt, cond, ◌==◌, Option, Some, None, refl, sym, ap, ◌∙◌, subst, append_assoc, length-append, arith, inl, inr, add-zero}
+use Rattle.std.proofs.Common.{◌≡◌, ◌≢◌, ℕ, ◌+◌, ◌-◌, ◌*◌, ◌<◌, ◌≤◌, ◌⊎◌, List, [], ◌∷◌, ◌++◌, length, map, drop, get_or, Bool, true, false, nat_lt, cond, ◌==◌, Option, Some, None, option_map, IfSome, refl, sym, ap, ◌∙◌, subst, append_assoc, length-append, arith, inl, inr, add-zero}
 use Rattle.std.specs.List.{AllByRecursion}
 use Rattle.std.proofs.lemmas.Bool.Decides.{eqb_tells}
 use Rattle.std.proofs.lemmas.List.{length-drop, drop-drop, drop_at, get_or-drop}
@@ -193,6 +193,15 @@ beyond_alike a d p q (string s) same = (p, refl, same)
 beyond_alike a d p q (number v) same = (p, refl, same)
 beyond_alike a d p q (array ts) same = (a, refl, λ _. refl)
 beyond_alike a d p q (object ms) same = (a, refl, λ _. refl)
+
+key_shown : (hidden : Bool) (key : Option (List ℕ)) (k : List ℕ) → Some k ≡ cond hidden None key → key ≡ Some k
+key_shown true key k e = absurd (cc e)
+key_shown false key k e = sym e
+
+-- a key that is shown is the key
+pub shows_its_key : {X : Type 0} (now : X → List ℕ) (hidden : Bool) (key : Option (List ℕ)) (shown : Option X) → option_map now shown ≡ cond hidden None key → IfSome shown (λ s. key ≡ Some (now s))
+shows_its_key now hidden key None e = tt
+shows_its_key now hidden key (Some s) e = key_shown hidden key (now s) e
 
 module _ (t : Tree) (first : ℕ) (in_range : first < node_count t) where
   -- the view, from the stops that are left

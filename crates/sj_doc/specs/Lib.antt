@@ -8,6 +8,7 @@ pub mod FoundMembers
 pub mod Listed
 pub mod Numbers
 pub mod Slots
+pub mod StoredTexts
 pub mod Keys
 pub mod Tours
 pub mod Stops

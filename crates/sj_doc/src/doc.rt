@@ -13,6 +13,7 @@ ghost use Rattle.sj_doc.specs.Tours.{tour};
 use crate::builder::DocBuilder;
 use crate::children::Children;
 use crate::node::{Body, Kind, Node, Span};
+use crate::stored::{StoredText, stored_at};
 use crate::tour::Tour;
 use sj_decimal::{Decimal, Parsed};
 use std::marker::Model;
@@ -161,8 +162,20 @@ impl Doc {
         requires { at < node_count self.now }
         ensures { option_map (λ s. s.now) result ≡ key_in self.now at }
     {
+        match self.stored_key_at(at) {
+            Some(key) => Some(key.text),
+            None => None,
+        }
+    }
+
+    // The same, as the document stores it.
+    #[inline(always)]
+    pub(crate) fn stored_key_at(&self, at: u32) -> Option<StoredText<'_>>
+        requires { at < node_count self.now }
+        ensures { option_map (λ s. s.text.now) result ≡ key_in self.now at }
+    {
         match self.nodes[at as usize].key {
-            Some(span) => Some(text_at(&self.arena, span)),
+            Some(span) => Some(stored_at(&self.arena, span)),
             None => None,
         }
     }
@@ -196,6 +209,16 @@ impl<'d> NodeRef<'d> {
         doc.key_at(self.at)
     }
 
+    /// Its key, as the document stores it.
+    #[tactic(auto, unfolding(crate::specs::Listed::node_key))]
+    #[inline(always)]
+    pub fn stored_key(self) -> Option<StoredText<'d>>
+        ensures { option_map (λ s. s.text.now) result ≡ node_key self.entry }
+    {
+        let doc: &Doc = self.doc;
+        doc.stored_key_at(self.at)
+    }
+
     /// What it is.
     pub fn kind(self) -> Kind
         ensures { result ≡ kind_of (node_tree self.entry) }
@@ -209,9 +232,18 @@ impl<'d> NodeRef<'d> {
         requires { kind_of (node_tree self) ≡ Kind.String }
         ensures { node_tree self.entry ≡ string result.now }
     {
+        self.stored_text().text
+    }
+
+    /// The same, as the document stores it.
+    #[inline(always)]
+    pub fn stored_text(self) -> StoredText<'d>
+        requires { kind_of (node_tree self) ≡ Kind.String }
+        ensures { node_tree self.entry ≡ string result.text.now }
+    {
         let doc: &Doc = self.doc;
         match doc.nodes[self.at as usize].body {
-            Body::Text(span) => text_at(&doc.arena, span),
+            Body::Text(span) => stored_at(&doc.arena, span),
             _ => unreachable!(),
         }
     }
@@ -231,9 +263,19 @@ impl<'d> NodeRef<'d> {
         ensures tree { node_tree self.entry ≡ number (spelled result.now) }
         ensures kept { IsNumeral result.now }
     {
+        self.stored_numeral().text
+    }
+
+    /// The same, as the document stores it.
+    #[inline(always)]
+    pub fn stored_numeral(self) -> StoredText<'d>
+        requires { kind_of (node_tree self) ≡ Kind.Number }
+        ensures tree { node_tree self.entry ≡ number (spelled result.text.now) }
+        ensures kept { IsNumeral result.text.now }
+    {
         let doc: &Doc = self.doc;
         match doc.nodes[self.at as usize].body {
-            Body::Numeral(span) => text_at(&doc.arena, span),
+            Body::Numeral(span) => stored_at(&doc.arena, span),
             _ => unreachable!(),
         }
     }

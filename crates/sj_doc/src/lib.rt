@@ -19,6 +19,7 @@ mod copied;
 mod doc;
 mod keys;
 mod node;
+mod stored;
 mod tour;
 
 pub use builder::DocBuilder;
@@ -26,4 +27,5 @@ pub use children::Children;
 pub use copied::CopiedLine;
 pub use doc::{Doc, Member, NodeRef, Num};
 pub use node::{Kind, Want};
+pub use stored::{StoredText, WINDOW};
 pub use tour::{Tour, Visit};

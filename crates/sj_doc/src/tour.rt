@@ -1,9 +1,9 @@
 // A walk over a node and all nodes below it, without memory.
-ghost use Rattle.std.specs.Prelude.{◌≡◌, ◌<◌, ◌==◌, [], ◌∷◌, true, ◌&&◌, Some, None, option_map, MatchOption, if◌then◌else◌};
+ghost use Rattle.std.specs.Prelude.{◌≡◌, ◌<◌, ◌==◌, [], ◌∷◌, true, ◌&&◌, Some, None, option_map, MatchOption, IfSome, if◌then◌else◌};
 ghost use Rattle.sj_json.specs.Tree.{node_count};
 ghost use Rattle.sj_doc.specs.Stops.{key_in};
 ghost use Rattle.sj_base.specs.Count.{raised};
-ghost use Rattle.sj_doc.specs.Visits.{visited, hands_out_some};
+ghost use Rattle.sj_doc.specs.Visits.{visited, hands_out_some, ShowsKey};
 
 use crate::doc::{Doc, Member};
 use crate::node::Kind;
@@ -64,6 +64,7 @@ impl<'d> Tour<'d> {
     pub fn next(&mut self, steps: &mut Steps) -> Option<Visit<'d>>
         ensures visit { MatchOption result ((self.old.1 ≡ []) × (self.new ≡ self.old))
             (λ v. (self.old.1 ≡ visited v ∷ self.new.1) × (self.new.0 ≡ true)) }
+        ensures key { IfSome result ShowsKey }
         ensures step { steps.new ≡ (if self.old.0 && hands_out_some result then raised steps.old 1 else steps.old) }
     {
         let begun = self.has_begun();
@@ -81,8 +82,9 @@ impl<'d> Tour<'d> {
     }
 
     fn advance(&mut self) -> Option<Visit<'d>>
-        ensures { MatchOption result ((self.old.1 ≡ []) × (self.new ≡ self.old))
+        ensures visit { MatchOption result ((self.old.1 ≡ []) × (self.new ≡ self.old))
             (λ v. (self.old.1 ≡ visited v ∷ self.new.1) × (self.new.0 ≡ true)) }
+        ensures key { IfSome result ShowsKey }
     {
         if self.depth == 0 {
             if self.at != self.first {

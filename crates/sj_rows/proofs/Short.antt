@@ -9,7 +9,7 @@ use lib.Lanes.{chunk, mask_l}
 stands_alone : (b : ℕ) → has_escape b ≡ false → escaped_byte b ≡ b ∷ []
 stands_alone b h = grind (arith, nat_tests)
 
-all_stand : (bs : List ℕ) → ((k : ℕ) → k < length bs → has_escape (get_or bs k 0) ≡ false) → escaped bs ≡ bs
+pub all_stand : (bs : List ℕ) → ((k : ℕ) → k < length bs → has_escape (get_or bs k 0) ≡ false) → escaped bs ≡ bs
 all_stand [] h = refl
 all_stand (b ∷ bs) h = ap₂ (λ (x y : List ℕ). x ++ y) (stands_alone b (h 0 (omega arith))) (all_stand bs (λ k within. h (suc k) (omega (arith, within))))
 

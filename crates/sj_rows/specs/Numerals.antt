@@ -41,3 +41,11 @@ pub record IsFieldOf (cast : Cast) (numeral window : List ℕ) : Type 0 where
   pub is : cast ≡ Ok value
   pub fits : length numeral + 1 ≤ length window
   pub front : take (length numeral + 1) window ≡ tabbed value
+
+-- the cast gives a value whose field so many bytes at the front of the window are, with room for a TAB
+pub record StandsAsField (cast : Cast) (len : ℕ) (window : List ℕ) : Type 0 where
+  pub value : SqlValue
+  pub is : cast ≡ Ok value
+  pub whole : length window ≡ 16
+  pub short : len < 16
+  pub front : take len window ≡ field value

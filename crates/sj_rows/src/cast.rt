@@ -2,19 +2,23 @@
 ghost use Rattle.std.specs.Prelude.{◌≡◌, ◌<◌, length, IfSome};
 ghost use Rattle.sj_json.specs.Tree.{string, number};
 ghost use Rattle.sj_doc.specs.Nodes.{spelled};
+ghost use Rattle.sj_doc.specs.Listed.{node_tree};
 ghost use Rattle.sj_item.specs.Items.{item_value};
 ghost use Rattle.sj_value.specs.Casts.{cast_of, tree_cast};
 ghost use Rattle.sj_value.specs.Types.{IsCastType};
 ghost use Rattle.sj_value.specs.declared.value.SqlValue.TheVariants.{Text};
 ghost use Rattle.sj_rows.specs.RowText.{AppendsCast};
-ghost use Rattle.sj_rows.specs.Numerals.{room, HasDigits, GivesField, IsFieldOf};
+ghost use Rattle.sj_rows.specs.Numerals.{room, HasDigits, GivesField, IsFieldOf, StandsAsField};
 
 use crate::field::{tabbed_bytes, tabbed_text};
-use crate::numeral::{MOST_DIGITS, ROOM, fixed_point, plain_point, tabbed_digits, whole_end};
+use crate::numeral::{
+    MOST_DIGITS, ROOM, fixed_point, has_digits, plain_point, tabbed_digits, whole_end,
+};
+use crate::plain::is_plain;
 use sj_base::Bytes;
-use sj_doc::Kind;
+use sj_doc::{Kind, NodeRef, StoredText, WINDOW};
 use sj_item::Item;
-use sj_text::push_front;
+use sj_text::{led, push_front};
 use sj_value::{CastRefusal, SqlType, cast};
 use std::alloc::Global;
 
@@ -32,7 +36,29 @@ pub fn tabbed_cast<'d>(
     requires { IsCastType ty }
     ensures { AppendsCast (cast_of (item_value item.entry) ty) result out.old out.new }
 {
-    // The bytes of most fields stand in the document, and are copied from there.
+    // Most fields are short, and stand in the document as they are printed.
+    if let Item::Node(node) = item {
+        if let Some(field) = short_field(node, ty) {
+            return match push_front(out, &led(b'\t', field.window), field.len + 1) {
+                Ok(()) => Ok(()),
+                Err(_) => Err(CastRefusal::Memory),
+            };
+        }
+    }
+    anew(tabbed_longer(alloc, out, item, ty))
+}
+
+// The same for every item. A longer text is copied too.
+#[inline(never)]
+fn tabbed_longer<'d>(
+    alloc: Global,
+    out: &mut Bytes,
+    item: Item<'d>,
+    ty: SqlType,
+) -> Result<(), CastRefusal>
+    requires { IsCastType ty }
+    ensures { AppendsCast (cast_of (item_value item.entry) ty) result out.old out.new }
+{
     if let Item::Node(node) = item {
         match node.kind() {
             Kind::String => {
@@ -51,29 +77,22 @@ pub fn tabbed_cast<'d>(
             _ => {}
         }
     }
-    rare_value(alloc, out, item, ty)
+    tabbed_value(alloc, out, item, ty)
 }
 
-// `tabbed_value`, from where it is rarely called. The place in memory for its answer is cleared here, and not on the other ways.
-// Put together anew, the answer leaves those of the other ways in registers.
+// What a call answers that is not inlined lies in memory. Put together anew, it leaves the answers of the other ways in registers.
 #[inline(always)]
-fn rare_value<'d>(
-    alloc: Global,
-    out: &mut Bytes,
-    item: Item<'d>,
-    ty: SqlType,
-) -> Result<(), CastRefusal>
-    requires { IsCastType ty }
-    ensures { AppendsCast (cast_of (item_value item.entry) ty) result out.old out.new }
+fn anew(done: Result<(), CastRefusal>) -> Result<(), CastRefusal>
+    ensures { result ≡ done }
 {
-    match tabbed_value(alloc, out, item, ty) {
+    match done {
         Ok(()) => Ok(()),
         Err(CastRefusal::State(state)) => Err(CastRefusal::State(state)),
         Err(CastRefusal::Memory) => Err(CastRefusal::Memory),
     }
 }
 
-// The same for every item, over the value that the cast makes.
+// The same, over the value that the cast makes.
 #[inline(never)]
 fn tabbed_value<'d>(
     alloc: Global,
@@ -92,7 +111,8 @@ fn tabbed_value<'d>(
 // The bytes of a string, where the type takes its text as it stands.
 #[inline(always)]
 fn whole_text(text: &str, ty: SqlType) -> Option<&[u8]>
-    ensures { IfSome result (λ bytes. tree_cast (string text.now) ty ≡ Ok (Text bytes.now)) }
+    ensures cast { IfSome result (λ bytes. tree_cast (string text.now) ty ≡ Ok (Text bytes.now)) }
+    ensures same { IfSome result (λ bytes. bytes.now ≡ text.now) }
 {
     let bytes = text.as_bytes();
     match ty {
@@ -129,5 +149,53 @@ fn numeral_point(numeral: &[u8], ty: SqlType) -> Option<usize>
         SqlType::VarcharMax(n) if numeral.len() <= n as usize => Some(plain_point(numeral)?),
         SqlType::NumericFixed(digits, places) => fixed_point(numeral, digits, places),
         _ => None,
+    }
+}
+
+// A field that stands at the front of a window.
+#[derive(Clone, Copy, Drop)]
+struct ShortField<'d> {
+    window: &'d [u8],
+    len: usize,
+}
+
+// The field of a node as a value of a type, where it stands in the document and a TAB fits into a window before it.
+#[inline(always)]
+fn short_field<'d>(node: NodeRef<'d>, ty: SqlType) -> Option<ShortField<'d>>
+    requires { IsCastType ty }
+    ensures { IfSome result (λ f. StandsAsField (tree_cast (node_tree node.entry) ty) f.len f.window.now) }
+{
+    match node.kind() {
+        Kind::String => short_text(node.stored_text(), ty),
+        Kind::Number => short_numeral(node.stored_numeral(), ty),
+        _ => None,
+    }
+}
+
+#[inline(always)]
+fn short_text<'d>(stored: StoredText<'d>, ty: SqlType) -> Option<ShortField<'d>>
+    ensures { IfSome result (λ f. StandsAsField (tree_cast (string stored.entry.text.now) ty) f.len f.window.now) }
+{
+    let window = stored.window?;
+    let len = whole_text(stored.text, ty)?.len();
+    if len < WINDOW && is_plain(stored.text, window) {
+        Some(ShortField { window, len })
+    } else {
+        None
+    }
+}
+
+#[inline(always)]
+fn short_numeral<'d>(stored: StoredText<'d>, ty: SqlType) -> Option<ShortField<'d>>
+    requires { IsCastType ty }
+    ensures { IfSome result (λ f. StandsAsField (tree_cast (number (spelled stored.entry.text.now)) ty) f.len f.window.now) }
+{
+    let window = stored.window?;
+    let point = numeral_point(stored.text.as_bytes(), ty)?;
+    let len = stored.text.len();
+    if len < WINDOW && has_digits(stored.text, window, point) {
+        Some(ShortField { window, len })
+    } else {
+        None
     }
 }

@@ -1,8 +1,13 @@
 // Numerals that are the fields of their numbers.
-ghost use Rattle.std.specs.Prelude.{◌≡◌, ◌+◌, ◌<◌, ◌≤◌, length, slice_index, IfSome};
+ghost use Rattle.std.specs.Prelude.{◌≡◌, ◌+◌, ◌<◌, ◌≤◌, length, map, not, true, slice_index, IfSome};
+ghost use Rattle.std.specs.Char.{is_ascii_digit};
+ghost use Rattle.std.specs.Simd.Lanes.{mask_l};
+ghost use Rattle.sj_doc.specs.StoredTexts.{IsWindow};
 ghost use Rattle.sj_text.specs.Numerals.{IsDecimalText};
 ghost use Rattle.sj_value.specs.Types.{AreDigits};
 ghost use Rattle.sj_rows.specs.Numerals.{room, most_digits, HasFront, HasDigits, IsTextOf};
+
+use std::simd::prelude::*;
 
 /// Room for a TAB and a numeral that is copied.
 pub(crate) const ROOM: usize = 24;
@@ -103,4 +108,31 @@ pub(crate) fn tabbed_digits(bytes: &[u8], point: usize) -> Option<[u8; ROOM]>
         window[at + 1] = *byte;
     }
     Some(window)
+}
+
+/// Whether each byte of a numeral is a digit, but for the one at the point. The numeral stands at the front of the window.
+#[inline(always)]
+pub(crate) fn has_digits(numeral: &str, window: &[u8], point: usize) -> bool
+    requires { IsWindow numeral.now window.now }
+    ensures { result ≡ true → HasDigits point numeral.now }
+{
+    let len = numeral.len();
+    let others = others_in_16(u8x16::from_slice(window));
+    let first = others.trailing_zeros();
+    if len <= first as usize {
+        return true;
+    }
+    if first as usize != point {
+        return false;
+    }
+    let between = (others >> (first + 1)).trailing_zeros() as usize;
+    len <= point + 1 + between
+}
+
+// The bytes that are no digits.
+#[inline(always)]
+fn others_in_16(v: u8x16) -> u64
+    ensures { result ≡ mask_l (map (λ x. not (is_ascii_digit x)) v) }
+{
+    (v.simd_lt(u8x16::splat(b'0')) | v.simd_gt(u8x16::splat(b'9'))).to_bitmask()
 }

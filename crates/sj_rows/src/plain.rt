@@ -1,8 +1,9 @@
 // Passing over the bytes of a field that stand for themselves, many at a step.
-ghost use Rattle.std.specs.Prelude.{◌≡◌, ◌+◌, ◌≤◌, length, drop, map};
+ghost use Rattle.std.specs.Prelude.{◌≡◌, ◌+◌, ◌≤◌, length, drop, map, true};
 ghost use Rattle.std.specs.List.{prefix_len};
 ghost use Rattle.std.specs.Simd.Lanes.{mask_l};
-ghost use Rattle.sj_rows.specs.RowText.{has_escape, stands};
+ghost use Rattle.sj_rows.specs.RowText.{has_escape, escaped, stands};
+ghost use Rattle.sj_doc.specs.StoredTexts.{IsWindow};
 
 use std::simd::prelude::*;
 
@@ -15,6 +16,15 @@ pub(crate) fn escapes_in_16(v: u8x16) -> u64
         | v.simd_eq(u8x16::splat(b'\t'))
         | v.simd_eq(u8x16::splat(b'\n'))
         | v.simd_eq(u8x16::splat(b'\r'))).to_bitmask()
+}
+
+// Whether no byte of a text has an escape. It stands at the front of the window.
+#[inline(always)]
+pub(crate) fn is_plain(text: &str, window: &[u8]) -> bool
+    requires { IsWindow text.now window.now }
+    ensures { result ≡ true → escaped text.now ≡ text.now }
+{
+    text.len() <= escapes_in_16(u8x16::from_slice(window)).trailing_zeros() as usize
 }
 
 #[inline(always)]

@@ -12,5 +12,7 @@ pub mod PairTexts
 pub mod Numerals
 -- for `stops_in_16`, and for crates above
 pub mod Lanes
--- for `key_text`, `put_ends`, `quote` and `string_text`
+-- for `put_ends` and `quote`, and for the lemmas of `StoredTexts`
 pub mod Windows
+-- for `key_text`, `stands_quoted` and `stored_string_text`
+pub mod StoredTexts

@@ -1,6 +1,6 @@
 -- Short texts in a window.
-use Rattle.std.proofs.Common.{◌≡◌, ℕ, suc, ◌+◌, ◌-◌, ◌<◌, ◌≤◌, Bool, true, false, not, List, [], ◌∷◌, ◌++◌, length, take, drop, get_or, map, refl, sym, ap, ap₂, ◌∙◌, arith, append_assoc, take-append-drop}
-use Rattle.std.proofs.lemmas.List.{take-take, take_at, take_all, length-append, length-drop, length-take-le, get_or-take, get_or-append-add, drop-take}
+use Rattle.std.proofs.Common.{◌≡◌, ℕ, suc, ◌+◌, ◌<◌, ◌≤◌, Bool, true, false, not, List, [], ◌∷◌, ◌++◌, length, take, drop, get_or, map, refl, sym, ap, ap₂, ◌∙◌, arith, append_assoc, take-append-drop}
+use Rattle.std.proofs.lemmas.List.{take-take, length-drop, length-take-le, get_or-take, get_or-append-add}
 use Rattle.std.proofs.lemmas.Simd.{none_from_empty_mask}
 use Rattle.std.proofs.lemmas.Bool.Decides.{nat_tests}
 use Rattle.std.proofs.Math.Seq.{take-append-add}
@@ -15,7 +15,7 @@ use lib.Lanes.{chunk, mask_l}
 printed_plain : (b : ℕ) → is_plain b ≡ true → printed_byte b ≡ b ∷ []
 printed_plain b h = grind (arith, nat_tests)
 
-all_plain : (bs : List ℕ) → ((k : ℕ) → k < length bs → is_plain (get_or bs k 0) ≡ true) → flat_map printed_byte bs ≡ bs
+pub all_plain : (bs : List ℕ) → ((k : ℕ) → k < length bs → is_plain (get_or bs k 0) ≡ true) → flat_map printed_byte bs ≡ bs
 all_plain [] h = refl
 all_plain (b ∷ bs) h = ap₂ (λ (x y : List ℕ). x ++ y) (printed_plain b (h 0 (omega arith))) (all_plain bs (λ k within. h (suc k) (omega (arith, within))))
 
@@ -23,15 +23,14 @@ opposite : (b : Bool) → not b ≡ false → b ≡ true
 opposite true h = refl
 opposite false h = cc
 
--- none of 16 bytes behind the first two of a window is one that has an escape
-no_stops : (bytes window : List ℕ) → length bytes ≤ 16 → 18 ≤ length window → take (2 + length bytes) window ≡ 44 ∷ 34 ∷ bytes → mask_l (map (λ (x : ℕ). not (is_plain x)) (chunk 2 16 window)) ≡ 0
-    → flat_map printed_byte bytes ≡ bytes
+-- none of 16 bytes behind the first of a window is one that has an escape
+no_stops : (bytes window : List ℕ) → length bytes ≤ 16 → 17 ≤ length window → take (1 + length bytes) window ≡ 34 ∷ bytes → mask_l (map (λ (x : ℕ). not (is_plain x)) (chunk 1 16 window)) ≡ 0 → flat_map printed_byte bytes ≡ bytes
 no_stops bytes window short room whole none =
     all_plain bytes
     (λ k within.
-    let same : get_or bytes k 0 ≡ get_or window (2 + k) 0 =
-    sym (get_or-append-add (44 ∷ 34 ∷ []) bytes k 0) ∙ ap (λ (l : List ℕ). get_or l (2 + k) 0) (sym whole) ∙ get_or-take (2 + length bytes) window (2 + k) 0 (omega (arith, within)) in
-    ap is_plain same ∙ opposite _ (none_from_empty_mask (λ (x : ℕ). not (is_plain x)) window 2 16 0 room none (2 + k) (omega arith) (omega (arith, within, short))))
+    let same : get_or bytes k 0 ≡ get_or window (1 + k) 0 =
+    sym (get_or-append-add (34 ∷ []) bytes k 0) ∙ ap (λ (l : List ℕ). get_or l (1 + k) 0) (sym whole) ∙ get_or-take (1 + length bytes) window (1 + k) 0 (omega (arith, within)) in
+    ap is_plain same ∙ opposite _ (none_from_empty_mask (λ (x : ℕ). not (is_plain x)) window 1 16 0 room none (1 + k) (omega arith) (omega (arith, within, short))))
 
 -- ---- two moves that may overlap
 
@@ -56,49 +55,17 @@ both_ends old middle new bytes front back at size last room all few is_front is_
 
 -- ---- a string between quotation marks
 
--- the comma and the first mark were written, then the bytes, then the last mark and the colon
-pub is_quoted : (bytes first second last : List ℕ) → length bytes ≤ 16 → 18 ≤ length second → take 2 first ≡ 44 ∷ 34 ∷ [] → take (2 + length bytes) second ≡ take 2 first ++ bytes
-    → mask_l (map (λ (x : ℕ). not (is_plain x)) (chunk 2 16 second)) ≡ 0 → take (length bytes + 2 + 2) last ≡ take (length bytes + 2) second ++ 34 ∷ 58 ∷ [] → IsQuoted bytes last
+pub printed_as_it_stands : (bytes : List ℕ) → flat_map printed_byte bytes ≡ bytes → printed_string bytes ≡ 34 ∷ bytes ++ 34 ∷ []
+printed_as_it_stands bytes plain = ap (λ (l : List ℕ). 34 ∷ l ++ 34 ∷ []) plain
+
+-- the first mark was written, then the bytes, then the last mark
+pub is_quoted : (bytes first second last : List ℕ) → length bytes ≤ 16 → 17 ≤ length second → take 1 first ≡ 34 ∷ [] → take (1 + length bytes) second ≡ take 1 first ++ bytes
+    → mask_l (map (λ (x : ℕ). not (is_plain x)) (chunk 1 16 second)) ≡ 0 → take (length bytes + 1 + 1) last ≡ take (length bytes + 1) second ++ 34 ∷ [] → IsQuoted bytes last
 is_quoted bytes first second last short room begins goes_on none ends =
-    let whole : take (2 + length bytes) second ≡ 44 ∷ 34 ∷ bytes = goes_on ∙ ap (λ (l : List ℕ). l ++ bytes) begins in
-    let turned : length bytes + 2 ≡ 2 + length bytes = omega arith in
-    let four : length bytes + 4 ≡ length bytes + 2 + 2 = omega arith in
+    let whole : take (1 + length bytes) second ≡ 34 ∷ bytes = goes_on ∙ ap (λ (l : List ℕ). l ++ bytes) begins in
+    let turned : length bytes + 1 ≡ 1 + length bytes = omega arith in
+    let two : length bytes + 2 ≡ length bytes + 1 + 1 = omega arith in
     record {
       short = short;
-      plain = no_stops bytes second short room whole none;
-      front = ap (λ (n : ℕ). take n last) four ∙ ends ∙ ap (λ (l : List ℕ). l ++ 34 ∷ 58 ∷ []) (ap (λ (n : ℕ). take n second) turned ∙ whole);
+      front = ap (λ (n : ℕ). take n last) two ∙ ends ∙ ap (λ (l : List ℕ). l ++ 34 ∷ []) (ap (λ (n : ℕ). take n second) turned ∙ whole) ∙ sym (printed_as_it_stands bytes (no_stops bytes second short room whole none));
     }
-
--- what is cut from a window is cut from the text at its front
-cut : (text window : List ℕ) (from count size all : ℕ) → take all window ≡ text → from + count ≤ all → count ≤ size → take count (take size (drop from window)) ≡ take count (drop from text)
-cut text window from count size all front within few =
-    let rest : ℕ = all - from in
-    let same : from + rest ≡ all = omega (arith, within) in
-    take-take count size (drop from window) few
-    ∙ sym (take-take count rest (drop from window) (omega (arith, within)))
-    ∙ ap (take count) (sym (drop-take from rest window) ∙ ap (λ (n : ℕ). drop from (take n window)) same ∙ ap (drop from) front)
-
-module _ (bytes window : List ℕ) (q : IsQuoted bytes window) where
-  printed_same : printed_string bytes ≡ 34 ∷ bytes ++ 34 ∷ []
-  printed_same = ap (λ (l : List ℕ). 34 ∷ l ++ 34 ∷ []) q.plain
-
-  key_same : printed_string bytes ++ 58 ∷ [] ≡ 34 ∷ bytes ++ 34 ∷ 58 ∷ []
-  key_same = ap (λ (l : List ℕ). l ++ 58 ∷ []) printed_same ∙ ap (λ (l : List ℕ). 34 ∷ l) (append_assoc bytes (34 ∷ []) (58 ∷ []))
-
-  pub string_front : take (length bytes + 2) (take 20 (drop 1 window)) ≡ printed_string bytes
-  string_front =
-      let quoted : List ℕ = 34 ∷ bytes ++ 34 ∷ [] in
-      let long : length quoted ≡ length bytes + 2 = omega (arith, length-append bytes (34 ∷ [])) in
-      cut _ window 1 (length bytes + 2) 20 (length bytes + 4) q.front (omega arith) (omega (arith, q.short))
-      ∙ ap (λ (l : List ℕ). take (length bytes + 2) (34 ∷ l)) (sym (append_assoc bytes (34 ∷ []) (58 ∷ [])))
-      ∙ take_at quoted (58 ∷ []) (length bytes + 2) long
-      ∙ sym printed_same
-
-  pub first_key : take (length bytes + 3) (take 20 (drop 1 window)) ≡ printed_string bytes ++ 58 ∷ []
-  first_key =
-      cut _ window 1 (length bytes + 3) 20 (length bytes + 4) q.front (omega arith) (omega (arith, q.short))
-      ∙ take_all (length bytes + 3) (34 ∷ bytes ++ 34 ∷ 58 ∷ []) (omega (arith, length-append bytes (34 ∷ 58 ∷ [])))
-      ∙ sym key_same
-
-  pub later_key : take (length bytes + 4) (take 20 window) ≡ 44 ∷ printed_string bytes ++ 58 ∷ []
-  later_key = take-take (length bytes + 4) 20 window (omega (arith, q.short)) ∙ q.front ∙ ap (λ (l : List ℕ). 44 ∷ l) (sym key_same)

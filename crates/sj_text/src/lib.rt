@@ -15,10 +15,12 @@ mod node;
 mod numeral;
 mod place;
 mod scalar;
+mod stored;
 mod string;
 mod window;
 
 pub use item::item_text;
 pub use place::Place;
+pub use stored::led;
 pub use string::string_text;
 pub use window::{MOST_SHORT, push_front, put_short};

@@ -7,7 +7,7 @@ ghost use Rattle.sj_doc.specs.Kinds.{kind_of};
 ghost use Rattle.sj_doc.specs.Listed.{node_tree};
 
 use crate::numeral::is_decimal_text;
-use crate::window::push_short;
+use crate::window::push_front;
 use sj_base::{Bytes, Memory};
 use sj_decimal::Decimal;
 use sj_doc::{Kind, NodeRef, Num};
@@ -30,11 +30,14 @@ pub(crate) fn number_text(node: NodeRef<'_>, out: &mut Bytes) -> Result<(), Memo
     ensures ok { OnOk result (out.new ≡ out.old ++ printed (node_tree node.entry)) }
     ensures err { OnErr result (out.new ≡ out.old) }
 {
-    let numeral = node.numeral().as_bytes();
-    if is_decimal_text(numeral) {
-        return push_short(out, numeral);
+    let numeral = node.stored_numeral();
+    if !is_decimal_text(numeral.text.as_bytes()) {
+        return value_text(node, out);
     }
-    value_text(node, out)
+    match numeral.window {
+        Some(window) => push_front(out, window, numeral.text.len()),
+        None => out.push(numeral.text.as_bytes()),
+    }
 }
 
 // The text of a number by its value. Few need it.

@@ -6,7 +6,7 @@ ghost use Rattle.sj_base.specs.ByteClasses.{is_plain};
 ghost use Rattle.sj_json.specs.Printing.{printed_byte, printed_string};
 ghost use Rattle.sj_text.specs.Prefixes.{AppendsPrefix};
 
-use crate::window::{MOST_QUOTED, ROOM, push_front, quote};
+use crate::window::{MOST_QUOTED, push_front, quote};
 use sj_base::{Bytes, Memory};
 
 /// Appends a string between quotation marks (RFC 8259, section 7).
@@ -19,9 +19,9 @@ pub fn string_text(s: &str, out: &mut Bytes) -> Result<(), Memory>
     ensures ok { OnOk result (out.new ≡ out.old ++ printed_string s.now) }
     ensures err { OnErr result (AppendsPrefix out.old (printed_string s.now) out.new) }
 {
-    let mut window = [b' '; ROOM];
+    let mut window = [b' '; MOST_QUOTED];
     if quote(&mut window, s.as_bytes()) {
-        return push_front(out, &window[1..1 + MOST_QUOTED], s.len() + 2);
+        return push_front(out, &window, s.len() + 2);
     }
     any_text(s, out)
 }

@@ -2,7 +2,7 @@
 ghost use Rattle.std.specs.Prelude.{◌≡◌, ◌≤◌, ◌+◌, ◌++◌, length, take, map, not, true, OnOk, OnErr};
 ghost use Rattle.std.specs.Simd.Lanes.{mask_l};
 ghost use Rattle.sj_base.specs.ByteClasses.{is_plain};
-ghost use Rattle.sj_text.specs.Windows.{most_short, room, IsQuoted};
+ghost use Rattle.sj_text.specs.Windows.{most_short, most_quoted, IsQuoted};
 
 use sj_base::{Bytes, Memory};
 use std::simd::prelude::*;
@@ -10,11 +10,8 @@ use std::simd::prelude::*;
 /// The most bytes of a text that is short.
 pub const MOST_SHORT: usize = 16;
 
-/// The most bytes of a comma, a short string between quotation marks, and a colon.
-pub(crate) const MOST_QUOTED: usize = MOST_SHORT + 4;
-
-/// Room for that many bytes from the comma on, and from behind it.
-pub(crate) const ROOM: usize = 24;
+/// The most bytes of a short string between quotation marks.
+pub(crate) const MOST_QUOTED: usize = MOST_SHORT + 2;
 
 /// Appends the first bytes of a window. Where its size is known when the program is built, it comes by a few moves, and
 /// what is behind the first bytes is cut off again.
@@ -33,43 +30,29 @@ pub fn push_front(out: &mut Bytes, window: &[u8], count: usize) -> Result<(), Me
     Ok(())
 }
 
-// Appends bytes that are few most often.
-#[inline(always)]
-pub(crate) fn push_short(out: &mut Bytes, bytes: &[u8]) -> Result<(), Memory>
-    ensures ok { OnOk result (out.new ≡ out.old ++ bytes.now) }
-    ensures err { OnErr result (out.new ≡ out.old) }
-{
-    if bytes.len() > MOST_SHORT {
-        return out.push(bytes);
-    }
-    let mut window = [b' '; MOST_SHORT];
-    put_short(&mut window, 0, bytes);
-    push_front(out, &window, bytes.len())
-}
-
-// Writes a comma, the bytes between quotation marks, and a colon at the front of a window, if the bytes are few and stand
-// for themselves. Otherwise anything stands there.
+// Writes the bytes between quotation marks at the front of a window, if they are few and stand for themselves. Otherwise
+// anything stands there.
 #[inline(always)]
 pub(crate) fn quote(window: &mut [u8], bytes: &[u8]) -> bool
-    requires { length window.old ≡ room }
+    requires { length window.old ≡ most_quoted }
     ensures same { length window.new ≡ length window.old }
     ensures quoted { result ≡ true → IsQuoted bytes.now window.new }
 {
     if bytes.len() > MOST_SHORT {
         return false;
     }
-    put_at(window, 0, b",\"");
-    put_short(window, 2, bytes);
-    if stops_in_16(u8x16::from_slice(&window[2..])) != 0 {
+    put_at(window, 0, b"\"");
+    put_short(window, 1, bytes);
+    if stops_in_16(u8x16::from_slice(&window[1..])) != 0 {
         return false;
     }
-    put_at(window, bytes.len() + 2, b"\":");
+    put_at(window, bytes.len() + 1, b"\"");
     true
 }
 
 // The bytes that do not stand for themselves.
 #[inline(always)]
-fn stops_in_16(v: u8x16) -> u64
+pub(crate) fn stops_in_16(v: u8x16) -> u64
     ensures { result ≡ mask_l (map (λ x. not (is_plain x)) v) }
 {
     (v.simd_eq(u8x16::splat(b'"'))

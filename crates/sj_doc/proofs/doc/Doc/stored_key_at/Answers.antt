@@ -4,16 +4,16 @@ use Rattle.sj_doc.specs.Nodes.{text_in, IsSpan, IsNode}
 use Rattle.sj_doc.specs.Stops.{key_in}
 use Rattle.sj_doc.proofs.Docs.{count, all_at, node_key_at, lies_here, laid_as}
 use Rattle.sj_doc.proofs.Touring.{key_read}
-use Rattle.sj_doc.proofs.doc.Doc.key_at.Goals as goal
-use Rattle.sj_doc.proofs.doc.Doc.key_at.Goals.{After-index}
+use Rattle.sj_doc.proofs.doc.Doc.stored_key_at.Goals as goal
+use Rattle.sj_doc.proofs.doc.Doc.stored_key_at.Goals.{After-index}
 
 pub index-requires : goal.index-requires
 index-requires c =
     let d = c.self.inside in
     omega (arith, count d.arena.items d.nodes.items c.args.self.now c.self.invariant c.self.view_is, d.nodes.ok.0, c.requires)
 
-pub text_at-requires : goal.text_at-requires
-text_at-requires c =
+pub stored_at-requires : goal.stored_at-requires
+stored_at-requires c =
     let d = c.self.inside in
     let within : c.args.at < length d.nodes.items = omega (arith, count d.arena.items d.nodes.items c.args.self.now c.self.invariant c.self.view_is, c.requires) in
     let fits = all_at (IsNode d.arena.items) d.nodes.items c.args.at c.index.result.now c.self.invariant.fits within c.index.ensures in
@@ -30,7 +30,7 @@ key_is c =
 
 pub returns-in-Some : goal.returns-in-Some
 returns-in-Some c =
-    ap Some (c.text_at.ensures ∙ ap (λ (x : List ℕ). text_in x c.in-Some.span) c.deref.ensures.value) ∙ ap (option_map (text_in c.self.inside.arena.items)) (sym c.in-Some.is) ∙ key_is (goal.at.returns-in-Some c).After-index
+    ap Some (c.stored_at.ensures ∙ ap (λ (x : List ℕ). text_in x c.in-Some.span) c.deref.ensures.value) ∙ ap (option_map (text_in c.self.inside.arena.items)) (sym c.in-Some.is) ∙ key_is (goal.at.returns-in-Some c).After-index
 
 pub returns-in-None : goal.returns-in-None
 returns-in-None c = ap (option_map (text_in c.self.inside.arena.items)) (sym c.in-None.is) ∙ key_is (goal.at.returns-in-None c).After-index

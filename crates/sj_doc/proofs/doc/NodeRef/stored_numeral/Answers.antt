@@ -5,8 +5,8 @@ use Rattle.sj_doc.specs.declared.node.Span.{Span}
 use Rattle.sj_doc.specs.declared.node.Body.TheVariants.{Numeral}
 use Rattle.sj_doc.specs.Nodes.{cell_of, spelled, IsNumeral, IsNode, IsBody, IsSpan, text_in}
 use Rattle.sj_doc.proofs.Docs.{count, cell_at, head_cell, kind-head, number-head, is_numeral, all_at}
-use Rattle.sj_doc.proofs.doc.NodeRef.numeral.Goals as goal
-use Rattle.sj_doc.proofs.doc.NodeRef.numeral.Goals.{After-doc, After-index}
+use Rattle.sj_doc.proofs.doc.NodeRef.stored_numeral.Goals as goal
+use Rattle.sj_doc.proofs.doc.NodeRef.stored_numeral.Goals.{After-doc, After-index}
 
 within : (c : After-doc) → c.args.self.at < length c.doc.inside.nodes.items
 within c =
@@ -29,18 +29,18 @@ fits c =
 span_fits : (c : After-index) (span : Span) → c.index.result.now.body ≡ Numeral span → IsBody c.doc.inside.arena.items (Numeral span)
 span_fits c span is = subst (IsBody c.doc.inside.arena.items) is (fits c)
 
-pub text_at-requires : goal.text_at-requires
-text_at-requires c =
-    subst (λ (a : List ℕ). IsSpan a c.in-Numeral.span) (sym c.deref.ensures.value) (span_fits (goal.at.text_at-requires c).After-index c.in-Numeral.span c.in-Numeral.is).0
+pub stored_at-requires : goal.stored_at-requires
+stored_at-requires c =
+    subst (λ (a : List ℕ). IsSpan a c.in-Numeral.span) (sym c.deref.ensures.value) (span_fits (goal.at.stored_at-requires c).After-index c.in-Numeral.span c.in-Numeral.is).0
 
 pub returns-clause-tree : goal.returns-clause-tree
 returns-clause-tree c =
-    let text : c.text_at.result.now ≡ text_in c.doc.inside.arena.items c.in-Numeral.span = c.text_at.ensures ∙ ap (λ (a : List ℕ). text_in a c.in-Numeral.span) c.deref.ensures.value in
-    number-head (spelled c.text_at.result.now) _ (ap number_cell (ap spelled text) ∙ ap (cell_of c.doc.inside.arena.items c.index.result.now.below) (sym c.in-Numeral.is) ∙ here (goal.at.returns-clause-tree c).After-index)
+    let text : c.stored_at.result.text.now ≡ text_in c.doc.inside.arena.items c.in-Numeral.span = c.stored_at.ensures ∙ ap (λ (a : List ℕ). text_in a c.in-Numeral.span) c.deref.ensures.value in
+    number-head (spelled c.stored_at.result.text.now) _ (ap number_cell (ap spelled text) ∙ ap (cell_of c.doc.inside.arena.items c.index.result.now.below) (sym c.in-Numeral.is) ∙ here (goal.at.returns-clause-tree c).After-index)
 
 pub returns-clause-kept : goal.returns-clause-kept
 returns-clause-kept c =
-    subst IsNumeral (ap (λ (a : List ℕ). text_in a c.in-Numeral.span) (sym c.deref.ensures.value) ∙ sym c.text_at.ensures) (span_fits (goal.at.returns-clause-kept c).After-index c.in-Numeral.span c.in-Numeral.is).1
+    subst IsNumeral (ap (λ (a : List ℕ). text_in a c.in-Numeral.span) (sym c.deref.ensures.value) ∙ sym c.stored_at.ensures) (span_fits (goal.at.returns-clause-kept c).After-index c.in-Numeral.span c.in-Numeral.is).1
 
 pub unreachable-requires : goal.unreachable-requires
 unreachable-requires c =
