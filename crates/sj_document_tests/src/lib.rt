@@ -15,3 +15,5 @@ mod documents;
 mod examples;
 #[cfg(test)]
 mod reading;
+#[cfg(test)]
+mod stored;
