@@ -1,9 +1,10 @@
 // The members of a made pair.
-ghost use Rattle.std.specs.Prelude.{◌≡◌};
-ghost use Rattle.sj_item.specs.Items.{item_value, pair_held, pair_id};
+ghost use Rattle.std.specs.Prelude.{◌≡◌, false, MatchOption};
+ghost use Rattle.sj_item.specs.Items.{item_value, pair_held, pair_id, pair_item};
+ghost use Rattle.sj_path_tree.specs.declared.parts.Mode.{Mode as PathMode};
 ghost use Rattle.sj_step.specs.Answers.{answer_value};
-ghost use Rattle.sj_step.specs.Reach.{id_item};
-ghost use Rattle.sj_step.specs.Trace.{first, rest};
+ghost use Rattle.sj_step.specs.Reach.{id_item, members_end, members_under};
+ghost use Rattle.sj_step.specs.Trace.{first, only, rest};
 ghost use Rattle.sj_walk.specs.Walk.{parts_left};
 
 use sj_item::{Item, Pair, PairValue};
@@ -14,6 +15,22 @@ use sj_step::{Answer, PairPart, whole_number};
 pub(crate) struct Parts<'d> {
     pub(crate) pair: Pair<'d>,
     pub(crate) part: PairPart,
+}
+
+/// The member of a made pair under a key, `name`, `value` or `id`. It hands out no node.
+pub fn part_under<'d>(key: &str, pair: Pair<'d>) -> Option<Item<'d>>
+    ensures { (mode : PathMode) → MatchOption result (members_under mode key.now (pair_item pair.entry) ≡ members_end mode false) (λ x. members_under mode key.now (pair_item pair.entry) ≡ only (item_value x)) }
+{
+    if "name" == key {
+        return Some(Item::Text(pair.name()));
+    }
+    if "value" == key {
+        return Some(value_of(pair));
+    }
+    if "id" == key {
+        return Some(id_of(pair));
+    }
+    None
 }
 
 /// The value of a pair, as an item.

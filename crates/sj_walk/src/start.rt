@@ -10,7 +10,7 @@ ghost use Rattle.sj_walk.specs.Walk.{walk_left};
 
 use crate::elements::Elements;
 use crate::members::Members;
-use crate::parts::{Parts, id_of, value_of};
+use crate::parts::{Parts, part_under};
 use crate::walk::{Left, Walk};
 use sj_base::State;
 use sj_doc::{Kind, NodeRef};
@@ -217,16 +217,10 @@ impl<'d> Walk<'d> {
     fn part(key: &'d str, pair: Pair<'d>, mode: Mode) -> Walk<'d>
         ensures { walk_left result ≡ members_under mode key.entry.now (pair_item pair.entry) }
     {
-        if "name" == key {
-            return Walk::of_item(Item::Text(pair.name()));
+        match part_under(key, pair) {
+            Some(item) => Walk::of_item(item),
+            None => Walk::structural_error(State::S2203A, mode),
         }
-        if "value" == key {
-            return Walk::of_item(value_of(pair));
-        }
-        if "id" == key {
-            return Walk::of_item(id_of(pair));
-        }
-        Walk::structural_error(State::S2203A, mode)
     }
 }
 
