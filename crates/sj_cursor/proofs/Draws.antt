@@ -74,10 +74,10 @@ left_end t t' a b d = d.leaves ∙ ap rest (draw_end t t' a b d) ∙ rest-after_
 pub left_fault : (t t' : Trace) (s : State) (a b : ℕ) → Draws t (faults s) t' a b → t' ≡ fail s
 left_fault t t' s a b d = d.leaves ∙ ap rest (draw_fault t t' s a b d) ∙ rest-after_visits (visits_to_first t) (fail s)
 
-item_drawn : (n : ℕ) (t : Trace) (x : ItemValue) (a b : ℕ) → b ≤ raised a n → Draws (after_visits n (give x t)) (gives x) t a b
+pub item_drawn : (n : ℕ) (t : Trace) (x : ItemValue) (a b : ℕ) → b ≤ raised a n → Draws (after_visits n (give x t)) (gives x) t a b
 item_drawn n t x a b h = record { answers = sym (first-after_visits n (give x t)); leaves = sym (rest-after_visits n (give x t)); costs = omega (arith, visits_to_first-after_visits n (give x t), h) }
 
-end_drawn : (n a b : ℕ) → b ≤ raised a n → Draws (after_visits n stop) ends stop a b
+pub end_drawn : (n a b : ℕ) → b ≤ raised a n → Draws (after_visits n stop) ends stop a b
 end_drawn n a b h = record { answers = sym (first-after_visits n stop); leaves = sym (rest-after_visits n stop); costs = omega (arith, visits_to_first-after_visits n stop, h) }
 
 fault_drawn : (n : ℕ) (s : State) (a b : ℕ) → b ≤ raised a n → Draws (after_visits n (fail s)) (faults s) (fail s) a b

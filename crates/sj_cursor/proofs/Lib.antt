@@ -9,7 +9,7 @@ mod Looks
 -- for `next`
 mod Pairs
 -- for `Cursor::put_next`
-mod CellsAtTheBeginning
+mod Standing
 -- for `build`, `next` and `rewind`
 mod Operators
 -- for `key_values`
@@ -26,3 +26,9 @@ mod Connectives
 mod SingleItems
 -- for `Cursor::look` and `Operand::keyed`
 mod PlainPaths
+-- for `collect` and `add` of moves
+mod PathMoves
+-- for the ways of moves, and for trails
+mod Trails
+-- for moves on items that are no nodes
+mod MadeItems

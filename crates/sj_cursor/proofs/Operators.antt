@@ -50,6 +50,17 @@ doing_below (Acts (simples.Method m)) e = omega arith
 doing_below (Keeps p) e = omega arith
 doing_below (Picks s) e = omega arith
 
+pub expr_some : (e : t.Expr) → 1 ≤ expr_nodes e
+expr_some t.Root = omega arith
+expr_some (t.Var name) = omega arith
+expr_some t.Context = omega arith
+expr_some t.Last = omega arith
+expr_some (t.Lit literal) = omega arith
+expr_some (t.Access e s) = omega arith
+expr_some (t.Plus e) = omega arith
+expr_some (t.Minus e) = omega arith
+expr_some (t.Binary op a b) = omega arith
+
 pub sub_some : (s : t.Sub) → 1 ≤ sub_nodes s
 sub_some (t.One e) = omega arith
 sub_some (t.Range e f) = omega arith

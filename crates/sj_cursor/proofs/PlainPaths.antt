@@ -78,7 +78,7 @@ plain_trace path vars x chain h =
     ∙ join-stop (below AsItIs chain.links.items x)
 
 -- what an accessor gives of a single item
-link_below : (how : Opening) (e : t.Expr) (l : Link) (x : ItemValue) (env : Env) → env.mode ≡ Lax → meaning e env ≡ only x
+pub link_below : (how : Opening) (e : t.Expr) (l : Link) (x : ItemValue) (env : Env) → env.mode ≡ Lax → meaning e env ≡ only x
     → operand_whole how (t.Access e (accessor l)) env ≡ below how (l ∷ []) x
 link_below how e l x env lax is =
     accessed_on how e (l ∷ []) env lax

@@ -1,5 +1,5 @@
 -- A comparison of the items of two traces. It looks at the pairs of a left and a right item that stand before any fault.
-use Rattle.std.specs.Prelude.{ℕ, suc, ◌+◌, ◌*◌, max, Bool, true, ◌||◌, if◌then◌else◌, List, [], ◌∷◌, Option, Some, None}
+use Rattle.std.specs.Prelude.{ℕ, suc, ◌+◌, ◌*◌, max, Bool, ◌||◌, if◌then◌else◌, List, [], ◌∷◌, Option, Some, None}
 use Rattle.std.specs.List.{list_any}
 use Rattle.sj_path_tree.specs.declared.parts.Mode.{Mode}
 use Rattle.sj_path_tree.specs.declared.parts.Mode.TheVariants.{Lax, Strict}

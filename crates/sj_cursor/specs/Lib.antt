@@ -16,3 +16,5 @@ pub mod Ends
 pub mod LaxNodes
 pub mod Standing
 pub mod Sequel
+pub mod Moves
+pub mod Trails

@@ -7,11 +7,14 @@ ghost use Rattle.sj_cursor.specs.Draws.{Draws};
 ghost use Rattle.sj_cursor.specs.Left.{core, left};
 ghost use Rattle.sj_cursor.specs.Meaning.{meaning, start_env};
 ghost use Rattle.sj_cursor.specs.Cells.{env_value};
-ghost use Rattle.sj_cursor.specs.Standing.{standing_left};
+ghost use Rattle.sj_cursor.specs.Moves.{walked};
+ghost use Rattle.sj_cursor.specs.Standing.{standing_left, IsMeansOf};
+ghost use Rattle.sj_cursor.specs.Trails.{IsTrail, stack_left};
 
 use crate::build::expr_cell;
 use crate::cells::Cell;
 use crate::env::Env;
+use crate::trail::Trail;
 use sj_base::{Memory, Steps};
 use sj_item::{Item, Pull};
 use sj_path_tree::{Mode, Path, Vars};
@@ -30,10 +33,19 @@ pub struct Cursor<'d> {
     path: &'d Path,
     vars: &'d Vars,
     pub(crate) root: Item<'d>,
-    cell: Box<Cell<'d>>,
+    by: Means<'d>,
     // the accessors of the path, where it is plain
     pub(crate) chain: Option<Chain<'d>>,
     pub(crate) stands: Stands,
+}
+
+/// By what a cursor goes from item to item.
+#[derive(Drop)]
+pub(crate) enum Means<'d> {
+    /// A trail, which few paths in lax mode do not have.
+    Trail(Trail<'d>),
+    /// The cells of the path.
+    Cells(Box<Cell<'d>>),
 }
 
 impl<'d> Drop for Cursor<'d> {
@@ -42,7 +54,7 @@ impl<'d> Drop for Cursor<'d> {
             path: _path,
             vars: _vars,
             root: _root,
-            cell: _cell,
+            by: _by,
             chain: _chain,
             stands: _stands,
         } = self;
@@ -52,10 +64,10 @@ impl<'d> Drop for Cursor<'d> {
 /// Where a cursor stands.
 #[derive(Clone, Copy)]
 pub(crate) enum Stands {
-    /// At the beginning. The cells may stand anywhere, and are rewound when they are first asked.
+    /// At the beginning. Its trail or its cells may stand anywhere, and go back when they are first asked.
     AtTheBeginning,
-    /// Where its cells do.
-    WithItsCells,
+    /// Where its trail or its cells do.
+    OnTheWay,
 }
 
 impl<'d> Model for Cursor<'d> {
@@ -69,11 +81,21 @@ impl<'d> Model for Cursor<'d> {
     ghost use Rattle.sj_path_tree.specs.View.{path_of};
     ghost use Rattle.sj_cursor.specs.Left.{left};
     ghost use Rattle.sj_cursor.specs.Meaning.{start_env, path_trace};
-    ghost use Rattle.sj_cursor.specs.Standing.{standing_left, IsCursor};
+    ghost use Rattle.sj_cursor.specs.Standing.{standing_left, means_left, IsCursor};
 
-    ghost view = { λ c. record { path = c.path.now; vars = c.vars.now; root = item_value c.root; left = standing_left c.stands (path_trace (path_of c.path.now) c.vars.now (item_value c.root)) (left c.cell.value (start_env (path_of c.path.now) c.vars.now (item_value c.root))) } };
+    ghost view = { λ c. record { path = c.path.now; vars = c.vars.now; root = item_value c.root; left = standing_left c.stands (path_trace (path_of c.path.now) c.vars.now (item_value c.root)) (means_left c.by (start_env (path_of c.path.now) c.vars.now (item_value c.root))) } };
 
-    ghost invariant = { λ c. IsCursor (path_of c.path.now) c.cell.value c.chain };
+    ghost invariant = { λ c. IsCursor (path_of c.path.now) c.by c.chain };
+}
+
+// A trail, where the path has moves alone, and else its cells.
+fn means_of<'d>(alloc: Global, path: &'d Path) -> Result<Means<'d>, Memory>
+    ensures { IfOk result (IsMeansOf (path_of path.now)) }
+{
+    match Trail::of_path(alloc, path)? {
+        Some(trail) => Ok(Means::Trail(trail)),
+        None => Ok(Means::Cells(expr_cell(alloc, &path.expr)?)),
+    }
 }
 
 // Where a cursor stands at its beginning, its cells go back, wherever they stood.
@@ -81,14 +103,14 @@ impl<'d> Model for Cursor<'d> {
 fn rewind_at_the_beginning<'d>(stands: &mut Stands, cell: &mut Cell<'d>, env: &Env<'_, 'd>)
     ensures left { left cell.new (env_value env.now) ≡ standing_left stands.old (meaning (core cell.old) (env_value env.now)) (left cell.old (env_value env.now)) }
     ensures same { core cell.new ≡ core cell.old }
-    ensures stands { stands.new ≡ Stands.WithItsCells }
+    ensures stands { stands.new ≡ Stands.OnTheWay }
 {
     match *stands {
         Stands::AtTheBeginning => {
             cell.rewind(env);
-            *stands = Stands::WithItsCells;
+            *stands = Stands::OnTheWay;
         }
-        Stands::WithItsCells => {}
+        Stands::OnTheWay => {}
     }
 }
 
@@ -105,7 +127,7 @@ fn next_of<'d>(
 ) -> Answer
     ensures answers { Draws (standing_left stands.old (meaning (core cell.old) (start_env (path_of path.now) vars.now (item_value root.now))) (left cell.old (start_env (path_of path.now) vars.now (item_value root.now)))) (answer_value result place.new) (left cell.new (start_env (path_of path.now) vars.now (item_value root.now))) steps.old steps.new }
     ensures same { core cell.new ≡ core cell.old }
-    ensures stands { stands.new ≡ Stands.WithItsCells }
+    ensures stands { stands.new ≡ Stands.OnTheWay }
 {
     let env = Env {
         mode: path.mode,
@@ -116,6 +138,30 @@ fn next_of<'d>(
     };
     rewind_at_the_beginning(stands, cell, &env);
     cell.next(&env, steps, place)
+}
+
+// The next item of a trail, which goes back first where the cursor stands at its beginning.
+#[inline(always)]
+fn next_on<'d>(
+    trail: &mut Trail<'d>,
+    root: &Item<'d>,
+    stands: &mut Stands,
+    steps: &mut Steps,
+    place: &mut Item<'d>,
+) -> Answer
+    requires { IsTrail trail.old }
+    ensures answers { Draws (standing_left stands.old (walked trail.old.moves.items (item_value root.now)) (stack_left trail.old.moves.items trail.old.frames.items)) (answer_value result place.new) (stack_left trail.new.moves.items trail.new.frames.items) steps.old steps.new }
+    ensures same { trail.new.moves ≡ trail.old.moves }
+    ensures trail { IsTrail trail.new }
+    ensures stands { stands.new ≡ Stands.OnTheWay }
+{
+    match *stands {
+        Stands::AtTheBeginning => {
+            *stands = Stands::OnTheWay;
+            trail.put_first(root, steps, place)
+        }
+        Stands::OnTheWay => trail.put_next(steps, place),
+    }
 }
 
 impl<'d> Cursor<'d> {
@@ -143,12 +189,12 @@ impl<'d> Cursor<'d> {
         ensures left { IfOk result (λ c. c.left ≡ path_trace (path_of path.now) vars.now (item_value root.entry)) }
     {
         let chain = Chain::of_path(alloc, path)?;
-        let cell = expr_cell(alloc, &path.expr)?;
+        let by = means_of(alloc, path)?;
         Ok(Cursor {
             path,
             vars,
             root,
-            cell,
+            by,
             chain,
             stands: Stands::AtTheBeginning,
         })
@@ -174,15 +220,18 @@ impl<'d> Cursor<'d> {
         ensures vars { self.new.vars ≡ self.old.vars }
         ensures root { self.new.root ≡ self.old.root }
     {
-        next_of(
-            self.path,
-            self.vars,
-            &self.root,
-            &mut self.stands,
-            &mut self.cell,
-            steps,
-            place,
-        )
+        match &mut self.by {
+            Means::Trail(trail) => next_on(trail, &self.root, &mut self.stands, steps, place),
+            Means::Cells(cell) => next_of(
+                self.path,
+                self.vars,
+                &self.root,
+                &mut self.stands,
+                cell,
+                steps,
+                place,
+            ),
+        }
     }
 
     /// From the beginning, on another root, wherever the cursor stood. It takes no memory.
@@ -196,13 +245,17 @@ impl<'d> Cursor<'d> {
         self.stands = Stands::AtTheBeginning;
     }
 
-    /// How many items the cursor's cells hold, with the root. It is at most three for each node of the path.
+    /// How many items the cursor holds, with the root. It is at most three for each node of the path. A trail holds none: its frames are
+    /// places in the document.
     ///
     /// The program does not call this; its tests do, and a host may.
     pub fn held(&self) -> u64
         ensures { result ≤ 3 * nodes (path_of self.now.path) }
     {
-        self.cell.held().saturating_add(1)
+        match &self.by {
+            Means::Trail(_) => 1,
+            Means::Cells(cell) => cell.held().saturating_add(1),
+        }
     }
 
     /// The mode of the path.

@@ -5,20 +5,25 @@
 //! predicates are, and what finding their truth may take; `specs/Single.antt` and `specs/Numbers.antt` what operands and
 //! subscripts are.
 //!
-//! A [`Cursor`] has a cell for each part of its path, made in `Cursor::new`, which takes all memory. A cell asks the cells
-//! below it for one item at a time and holds where it stands, and no list. `specs/Left.antt` says which expression a cell is
-//! of, and which trace it has left.
+//! A [`Cursor`] goes by a trail where its path has one, and else by cells. Both are made in `Cursor::new`, which takes all memory. Each
+//! is asked for one item at a time and holds where it stands, and no list. `specs/Trails.antt` says what a trail has left, and
+//! `specs/Left.antt` which expression a cell is of, and which trace it has left.
 //!
 //! # How a path is evaluated
 //!
-//! A path is a chain: a beginning such as `$`, and behind it accessors, filters and methods. Each of its parts becomes a
-//! cell that owns the cell before it. The cells of `lax $.lines[*] ? (@.qty > 3).sku` are
+//! **A trail** (`trail.rt`) serves most paths in lax mode: `$` and behind it accessors of members, `[*]`, and filters that compare a
+//! member of `@` with a literal, as `lax $.lines[*] ? (@.qty > 3).sku`. It goes down the document by moves, and has a frame for each array
+//! or object of which children are still to come. The next item is found from the next child of the innermost one. `specs/Moves.antt`
+//! says what moves give. An item that the method `keyvalue` made has one item at most behind each move, until a node is reached.
+//!
+//! **Cells** serve all other paths. A path is a chain: a beginning such as `$`, and behind it accessors, filters and methods. Each of its
+//! parts becomes a cell that owns the cell before it. The cells of `lax $.lines[*] ? (@.qty > @.min).sku` are
 //!
 //! ```text
 //! Each(.sku) ── asks ──▶ Each(? filter) ──▶ Each([*]) ──▶ Each(.lines) ──▶ One($)
 //!                            │ tests each item by
 //!                            ▼
-//!                        Compare(>): Each(.qty) ──▶ One(@)     and     One(3)
+//!                        Compare(>): Each(.qty) ──▶ One(@)     and     Each(.min) ──▶ One(@)
 //! ```
 //!
 //! **One call of `next`** asks the last cell for an item. A cell first gives what it still has of the item at hand: the
@@ -29,20 +34,21 @@
 //!
 //! **A filter** takes an item in hand, rewinds the cells of its predicate, and evaluates these with the item as their `@`.
 //! It gives the item if the predicate is True and asks for the next one if it is False or Unknown. On
-//! `{"lines":[{"qty":2,"sku":"a"},{"qty":5,"sku":"b"}]}` the first call of `next` goes down to `$`, `.lines` finds the
+//! `{"lines":[{"qty":2,"min":3,"sku":"a"},{"qty":5,"min":3,"sku":"b"}]}` the first call of `next` goes down to `$`, `.lines` finds the
 //! array, `[*]` gives its first element, the filter rejects it (2 > 3 is False), `[*]` gives the second element, the filter
 //! keeps it, and `.sku` gives `"b"`. The second call finds nothing left in any cell, and ends.
 //!
 //! **A fault** (a missing member in strict mode, say) passes through all cells to the caller and ends the path. Inside a
 //! predicate it makes the truth Unknown instead, and the path goes on.
 //!
-//! **A rewind** sends each cell back to its beginning: no item is at hand, and nothing was given. An accessor of a member behind `$`, as
+//! **A rewind** forgets the frames of a trail, and sends each cell back to its beginning: no item is at hand, and nothing was given. An accessor of a member behind `$`, as
 //! `.lines` above, takes `$` in hand at once where this is no array, and a method does so too. It takes no memory, so one
-//! cursor serves the items of one row after another, of one line after another. The cells go back when they are first asked.
+//! cursor serves the items of one row after another, of one line after another. Both go back when they are first asked.
 //!
 //! **A plain path**, `lax $` and behind it accessors of members, `[*]` and subscripts such as `[0]`, needs no cells where a cursor is
 //! asked at its beginning whether there is an item, or which is the only one. A `Chain` of `sj_plain_path` then goes down the document from
 //! accessor to accessor.
+//!
 //! An operand that is one member of `@` or `$`, as `@.qty` above, is read in the same way for each item that the filter tests: its
 //! cells are asked in strict mode and where the item is no node.
 //!
@@ -60,6 +66,7 @@ mod env;
 mod held;
 mod keyed;
 mod look;
+mod moves;
 mod next;
 mod one;
 mod pairing;
@@ -67,5 +74,6 @@ mod predicates;
 mod rewind;
 mod simple;
 mod subscripts;
+mod trail;
 
 pub use cursor::Cursor;

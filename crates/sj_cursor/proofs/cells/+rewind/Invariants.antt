@@ -1,4 +1,4 @@
-use Rattle.std.proofs.Common.{ℕ, ◌+◌, ◌*◌}
+use Rattle.std.proofs.Common.{◌+◌, ◌*◌}
 use Rattle.sj_path_tree.specs.Nodes.{expr_nodes}
 use Rattle.sj_cursor.specs.Left.{core, operand_core, each_core}
 use Rattle.sj_cursor.proofs.cells.+rewind.Given as goal

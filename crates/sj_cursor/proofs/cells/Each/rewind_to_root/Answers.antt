@@ -1,4 +1,4 @@
-use Rattle.std.proofs.Common.{◌≡◌, sym, ◌∙◌, ap}
+use Rattle.std.proofs.Common.{sym}
 use Rattle.sj_cursor.specs.Left.{operand_core, doing}
 use Rattle.sj_cursor.proofs.Operators.{begun_is}
 use Rattle.sj_cursor.proofs.cells.Each.rewind_to_root.Goals as goal

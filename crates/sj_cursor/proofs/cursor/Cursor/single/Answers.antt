@@ -1,4 +1,4 @@
-use Rattle.std.proofs.Common.{◌≡◌, ◌∙◌}
+use Rattle.std.proofs.Common.{◌∙◌}
 use Rattle.sj_plain_path.specs.Looks.{Finds, nodes_look}
 use Rattle.sj_cursor.proofs.Looks.{single_answer, single_price}
 use Rattle.sj_cursor.proofs.PlainPaths.{plain_finds}
