@@ -1,12 +1,11 @@
 -- What is asked of lines that are read together.
-use Rattle.std.proofs.Common.{◌≡◌, ◌≢◌, ◌↔◌, IsTrue, ℕ, ◌+◌, ◌<◌, List, [], ◌∷◌, ◌++◌, length, take, drop, set, map, get_or, ◌≤◌, Bool, true, false, Option, None, Some, refl, sym, ◌∙◌, ap, arith, append_assoc, length-append}
+use Rattle.std.proofs.Common.{◌≡◌, ◌≢◌, ◌↔◌, IsTrue, ℕ, ◌+◌, ◌<◌, List, [], ◌∷◌, ◌++◌, length, take, drop, set, map, get_or, Bool, true, false, Option, None, Some, refl, sym, ◌∙◌, ap, arith, append_assoc, length-append}
 use Rattle.std.proofs.lemmas.List.{append-nil, map-append, take_more, take_at, drop_more, drop-map}
 use Rattle.std.proofs.Math.Seq.{map-set_same}
 use Rattle.std.specs.Bool.{one_answer}
 use Rattle.std.specs.List.{list_all}
 use Rattle.sj_rows.specs.Lines.{is_blank_byte}
 use Rattle.sj_rows.specs.HeldLines.{HeldLines, gives, drained}
-use Rattle.sj_base.specs.Count.{raised}
 use Rattle.sj_json.specs.Tree.{Tree}
 use Rattle.sj_json.specs.Document.{document}
 use Rattle.sj_json.specs.Keys.{HasUniqueKeys}
@@ -189,6 +188,13 @@ rows_first xs P i d x within same is =
     ap (drop i) (sym same) ∙ drop-map (λ (s : Seen). bound_of s.bound) i xs ∙ ap bounds_in (drop_more xs i d within)
     ∙ ap (λ (l : List Bound). bound_of (get_or xs i d).bound ∷ l) (sym (drop-map (λ (s : Seen). bound_of s.bound) (i + 1) xs) ∙ ap (drop (i + 1)) same)
     ∙ ap (λ (s : Seen). bound_of s.bound ∷ drop (i + 1) P) (sym is)
+
+-- the same of statements
+pub statement_at : (xs : List BoundHeld) (i : ℕ) (x b : BoundHeld) → i < length xs → x ≡ get_or xs i x → b ≡ x → drop i (map bound_of xs) ≡ bound_of b ∷ drop (i + 1) (map bound_of xs)
+statement_at xs i x b within is same =
+    drop-map bound_of i xs ∙ ap (map bound_of) (drop_more xs i x within)
+    ∙ ap (λ (y : BoundHeld). bound_of y ∷ map bound_of (drop (i + 1) xs)) (sym is ∙ sym same)
+    ∙ ap (λ (l : List Bound). bound_of b ∷ l) (sym (drop-map bound_of (i + 1) xs))
 
 -- rows that were asked keep their statement
 pub rows_asked : (xs : List Seen) (i : ℕ) (d y : Seen) → y.bound ≡ (get_or xs i d).bound → bounds_in (set xs i y) ≡ bounds_in xs

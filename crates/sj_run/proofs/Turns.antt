@@ -1,5 +1,5 @@
 -- Printing the rows of a statement one by one.
-use Rattle.std.proofs.Common.{◌≡◌, ℕ, ◌+◌, ◌-◌, ◌<◌, ◌≤◌, List, [], ◌∷◌, ◌++◌, Result, drop, refl, sym, ◌∙◌, ap, subst, arith}
+use Rattle.std.proofs.Common.{◌≡◌, ℕ, ◌+◌, ◌<◌, ◌≤◌, List, [], ◌∷◌, ◌++◌, Result, drop, refl, sym, ◌∙◌, ap, subst, arith}
 use Rattle.std.proofs.lemmas.List.{append-nil}
 use Rattle.sj_base.specs.Count.{raised}
 use Rattle.sj_base.specs.declared.state.State.{State}
@@ -12,7 +12,7 @@ use Rattle.sj_select.specs.Rows.{statement_rows, statement_cost}
 use Rattle.sj_select.specs.Seen.{Seen, turn_of, next_text, Gives}
 use Rattle.sj_select.specs.declared.rows.Turn.{Turn}
 use Rattle.sj_select.specs.declared.rows.Turn.TheVariants as turn
-use Rattle.sj_rows.specs.RowText.{row_bytes, error_bytes}
+use Rattle.sj_rows.specs.RowText.{row_bytes}
 use Rattle.sj_page.specs.Pages.{Print, PrintState, Prints, Stopped, nothing, followed_by, one_row, row_print, error_print}
 use Rattle.sj_page.specs.declared.stop.Stop.{Stop}
 use Rattle.sj_page.specs.declared.stop.Stop.TheVariants.{Memory}

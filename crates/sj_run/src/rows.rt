@@ -45,6 +45,7 @@ fn rows_of<'a>(alloc: Global, statements: &'a [Bound]) -> Result<Vec<RowsOf<'a>>
 }
 
 /// Prints what a statement gives for a line. Each row is made on the page.
+#[inline(always)]
 fn print_statement<'a, O: Sink>(
     out: &mut O,
     page: &mut Page,
@@ -115,7 +116,50 @@ fn print_rows<'a, O: Sink>(
     Ok(())
 }
 
-/// Prints the rows of lines that were read. The cursors of the statements are made for all of them together.
+/// Prints the rows of the statements for a line that is read alone, as from small packets. The cursors of a statement are given up
+/// before those of the next one are made, so the same memory serves all statements, and is at hand. It stands out of the way of a
+/// batch.
+#[inline(never)]
+fn print_alone<O: Sink>(
+    alloc: Global,
+    out: &mut O,
+    page: &mut Page,
+    statements: &[Bound],
+    line: &ReadLine,
+    steps: &mut Steps,
+) -> Result<(), Stop>
+    requires sound { AreSound statements.now }
+    requires few { length statements.now < statement_limit }
+    ensures prints { Prints (prints (asked_from 1 (map bound_of statements.now) line.now.number (line_read line.now.reading)))
+        (print_state O.taken O.size O.faults out.old page.old) (print_state O.taken O.size O.faults out.new page.new) result }
+    ensures costs { steps.new ≤ raised steps.old (cost (asked_from 1 (map bound_of statements.now) line.now.number (line_read line.now.reading))) }
+{
+    let mut number: u64 = 1;
+    for statement in statements {
+        let seen = line_of_reading(&line.reading);
+        let mut rows = match RowsOf::new(alloc, statement, seen) {
+            Ok(rows) => rows,
+            Err(_) => return Err(Stop::Memory),
+        };
+        match print_statement(
+            out,
+            page,
+            line.number,
+            number as u32,
+            &mut rows,
+            seen,
+            steps,
+        ) {
+            Ok(()) => {}
+            Err(stop) => return Err(stop),
+        }
+        number += 1;
+    }
+    Ok(())
+}
+
+/// Prints the rows of lines that were read. The cursors of the statements are made for all of them together, and for a line that is
+/// alone by one statement after the other.
 fn print_batch<O: Sink>(
     alloc: Global,
     out: &mut O,
@@ -132,6 +176,9 @@ fn print_batch<O: Sink>(
     // A piece without a line to print, as in small packets, costs no cursors.
     if lines.is_empty() {
         return Ok(());
+    }
+    if lines.len() == 1 {
+        return print_alone(alloc, out, page, &job.statements, &lines[0], steps);
     }
     let mut rows = match rows_of(alloc, &job.statements) {
         Ok(rows) => rows,

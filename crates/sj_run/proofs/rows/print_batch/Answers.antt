@@ -1,4 +1,4 @@
-use Rattle.std.proofs.Common.{rules, ◌≡◌, ◌+◌, ◌<◌, ◌≤◌, ◌∙◌, ap, subst, arith, List, length}
+use Rattle.std.proofs.Common.{rules, ◌≡◌, ◌<◌, ◌≤◌, ◌∙◌, ap, subst, arith, List, length}
 use Rattle.sj_base.specs.Count.{raised}
 use Rattle.sj_bound.specs.Bound.{Bound}
 use Rattle.sj_page.specs.Pages.{print_state, Printed, Stopped}

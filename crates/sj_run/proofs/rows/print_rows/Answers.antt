@@ -1,4 +1,4 @@
-use Rattle.std.proofs.Common.{rules, ◌≡◌, ◌+◌, ◌<◌, ◌≤◌, ◌∙◌, ap, arith, length, get_or, refl}
+use Rattle.std.proofs.Common.{◌+◌, ◌<◌, ◌≤◌, ◌∙◌, ap, arith, length, get_or, refl}
 use Rattle.sj_base.specs.Count.{raised}
 use Rattle.sj_bound.specs.View.{bound_of}
 use Rattle.sj_select_list.specs.Line.{line_of}

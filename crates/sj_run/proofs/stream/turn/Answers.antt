@@ -1,7 +1,6 @@
-use Rattle.std.proofs.Common.{◌≡◌, ◌⊎◌, ℕ, ◌+◌, ◌≤◌, List, [], ◌++◌, length, take, Some, refl, sym, ◌∙◌, ap, subst, arith}
+use Rattle.std.proofs.Common.{◌≡◌, ℕ, ◌+◌, ◌≤◌, List, [], ◌++◌, length, take, refl, sym, ◌∙◌, ap, subst, arith}
 use Rattle.std.proofs.lemmas.List.{append-nil, length-take}
 use Rattle.sj_rows.specs.HeldLines.{Fed}
-use Rattle.sj_page.specs.Sides.{OutputSide}
 use Rattle.sj_page.specs.Pages.{print_state}
 use Rattle.sj_page.specs.declared.stop.Stop.TheVariants.{Memory}
 use Rattle.sj_page.proofs.Printing.{stopped_before}
