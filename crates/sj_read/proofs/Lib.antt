@@ -1,9 +1,9 @@
 -- for `ascii_end`, `ascii_end_of_31`, `ascii_end_of_7`, `is_text_from` and `text_of`
 pub mod Ascii
--- for `far_string_end`, `string_end` and `unescape`, and for other lemmas
+-- for `far_string_end`, `key_end`, `string_end` and `unescape`, and for other lemmas
 pub mod Scanned
--- for `any_number`, `behind_scalar`, `colon_and_value`, `escaped_key`, `escaped_value`, `plain_number`, `quoted_key`,
--- `scalar`, `scalar_and_separator`, `separator`, `turn` and `value`, and for other lemmas
+-- for `any_number`, `behind_scalar`, `colon_and_value`, `escaped_key`, `escaped_value`, `members`, `plain_number`,
+-- `quoted_key`, `scalar`, `scalar_and_separator`, `separator`, `turn` and `value`, and for other lemmas
 pub mod Steps
 -- for `any_number` and `plain_number`
 pub mod Numerals
@@ -20,3 +20,7 @@ pub mod Lanes
 pub mod Runs
 -- for `read_text`
 pub mod Feeds
+-- for `is_one_digit` and `plain_number_end`
+mod Unsigned
+-- for `key_text_end` and `text_end`
+mod Quoted

@@ -1,7 +1,7 @@
 -- The plain text that a run passes over, and the byte where it stops.
 use Rattle.std.proofs.Common.{◌≡◌, ℕ, suc, ◌+◌, ◌-◌, ◌<◌, ◌≤◌, List, [], ◌∷◌, length, take, drop, get_or, Bool, true, false, cond, refl, sym, ap, ◌∙◌, subst, arith}
 use Rattle.std.specs.List.{AllByRecursion, prefix_len}
-use Rattle.std.proofs.lemmas.List.{get_or-drop, length-drop}
+use Rattle.std.proofs.lemmas.List.{drop_more, get_or-drop, length-drop}
 use Rattle.sj_base.specs.ByteClasses.{is_plain}
 use Rattle.sj_json.specs.Strings.{IsPlain}
 use Rattle.sj_read.specs.Scans.{EndsPlain}
@@ -45,3 +45,13 @@ module _ (xs : List ℕ) (from end : ℕ) (within : from ≤ length xs) (run : e
 
   pub ends_there : end < length xs → get_or xs end 0 ≡ 34 → EndsPlain xs from end
   ends_there h quote = record { later = omega (arith, run); within = h; plain = plain_run; quote = quote }
+
+pub one_plain : (xs : List ℕ) (from : ℕ) → from + 1 < length xs → is_plain (get_or xs from 0) ≡ true → get_or xs (from + 1) 0 ≡ 34 → EndsPlain xs from (from + 1)
+one_plain xs from within plain quote =
+    let one : from + 1 - from ≡ 1 = omega arith in
+    record {
+      later = omega arith;
+      within = within;
+      plain = rw (one, drop_more xs from 0 (omega (arith, within))) (plain, tt);
+      quote = quote;
+    }

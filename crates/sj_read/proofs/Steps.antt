@@ -376,6 +376,10 @@ moved limit m n s text at c h e f k (Ok x) new w = record { same = same_run limi
 moved limit m n s text at c h e f k (Err NotJson) new w = same_run limit m n s text at c h e f ∙ w
 moved limit m n s text at c h e f k (Err Memory) new w = tt
 
+-- where a quotation mark stands right behind the bracket that opens an object, a key comes as behind a comma
+pub first_key_run : (limit : ℕ) (s : State) (text : List ℕ) (at : ℕ) → at + feeds_behind < length text → get_or text at 0 ≡ 34 → run limit key_or_close s (drop at text) ≡ run limit key s (drop at text)
+first_key_run limit s text at h e = same_run limit key_or_close key s text at 34 h e refl
+
 pub colon_turn : (limit : ℕ) (s : State) (c : ℕ) → c ≡ 58 → turn limit colon s c ≡ Some (value, s)
 colon_turn limit s c e = subst (λ (x : ℕ). turn limit colon s x ≡ Some (value, s)) (sym e) refl
 

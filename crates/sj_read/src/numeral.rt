@@ -186,3 +186,21 @@ pub(crate) fn plain_number_end(bytes: &[u8], at: usize, c: u8) -> Option<usize>
         None => Some(far_number_end(bytes, from)?),
     }
 }
+
+// Whether a byte may stand behind a value, and none of a number is it.
+#[inline(always)]
+fn ends_value(c: u8) -> bool
+    ensures { result ≡ true → number_byte c ≡ false }
+{
+    c == b',' || c == b'}' || c == b']'
+}
+
+// Whether the byte c at the place is a number of one digit. The byte behind it tells that.
+#[inline(always)]
+pub(crate) fn is_one_digit(bytes: &[u8], at: usize, c: u8) -> bool
+    requires within { at + feeds_behind < length bytes.now }
+    requires here { slice_index bytes.now at ≡ c }
+    ensures { result ≡ true → IsPlainNumber bytes.now at c (at + 1) }
+{
+    c.is_ascii_digit() && ends_value(bytes[at + 1])
+}

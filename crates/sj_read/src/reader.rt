@@ -9,8 +9,8 @@ ghost use Rattle.sj_read.specs.Numerals.{IsPlainNumber};
 ghost use Rattle.sj_read.specs.Scans.{EndsPlain};
 ghost use Rattle.sj_read.specs.Turns.{most_held, mode_of, closes_at, Ready, StandsIn, StoodIn, HasTaken, Turns};
 
-use crate::numeral::{Numeral, judged, plain_number_end};
-use crate::scan::{begins_number, follows, number_end, string_end, token_at};
+use crate::numeral::{Numeral, is_one_digit, judged, plain_number_end};
+use crate::scan::{begins_number, follows, key_end, number_end, string_end, token_at};
 use crate::unescape::unescape;
 use sj_base::{Memory, is_blank};
 use sj_doc::{DocBuilder, Want};
@@ -96,6 +96,17 @@ fn text_end(text: &str, from: usize) -> Option<usize>
     ensures { IfSome result (λ end. EndsPlain text.now from end × IsUtf8 (between text.now from end)) }
 {
     string_end(text.as_bytes(), from)
+}
+
+// The same of a key.
+#[inline(always)]
+fn key_text_end(text: &str, from: usize) -> Option<usize>
+    requires within { (0 < from) × (from + feeds_behind ≤ length text.now) }
+    requires feeds { EndsInFeeds text.now }
+    requires quote { slice_index text.now (from - 1) ≡ 34 }
+    ensures { IfSome result (λ end. EndsPlain text.now from end × IsUtf8 (between text.now from end)) }
+{
+    key_end(text.as_bytes(), from)
 }
 
 // The string that begins with the byte c at the place, where it may have escapes.
@@ -261,6 +272,10 @@ fn scalar(builder: &mut DocBuilder, buffer: &mut Vec<u8>, at: usize, c: u8) -> A
             after(builder.truth(false), at + 5)
         }
         _ => {
+            // A number of one digit has a way of its own, on which nothing behind it waits for a search.
+            if is_one_digit(bytes(builder), at, c) {
+                return plain_number(builder, at, c, at + 1);
+            }
             if let Some(end) = plain_number_end(bytes(builder), at, c) {
                 return plain_number(builder, at, c, end);
             }
@@ -387,7 +402,7 @@ fn quoted_key(builder: &mut DocBuilder, buffer: &mut Vec<u8>, at: usize, c: u8) 
     if c != b'"' {
         return Err(ReadRefusal::NotJson);
     }
-    match text_end(builder.line(), at + 1) {
+    match key_text_end(builder.line(), at + 1) {
         Some(end) => {
             builder.key_at(at + 1, end);
             Ok(end + 1)
@@ -449,9 +464,11 @@ fn member(
     }
 }
 
-// Members one right behind another, the first of which begins with the byte c at the place. What comes next is known where
-// the code stands, so one turn for all of them is faster than one for each.
+// Members one right behind another, the first of which begins with the byte c at the place. Behind the bracket that opens an
+// object as the value of a member, those of that object come next. What comes next is known where the code stands, so one
+// turn for all of them is faster than one for each.
 #[inline(always)]
+#[tactic(auto, using(crate::proofs::Steps::first_key_run))]
 fn members(
     builder: &mut DocBuilder,
     buffer: &mut Vec<u8>,
@@ -481,6 +498,14 @@ fn members(
                     first = next;
                 }
                 None => return Ok(to),
+            },
+            // An object was opened. Where a key stands right behind the bracket, it comes next, too.
+            Mode::KeyOrClose => match token_at(bytes(builder), to) {
+                Some(b'"') => {
+                    from = to;
+                    first = b'"';
+                }
+                _ => return Ok(to),
             },
             _ => return Ok(to),
         }

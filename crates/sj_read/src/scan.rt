@@ -2,7 +2,7 @@
 ghost use Rattle.std.specs.Prelude.{◌≡◌, ℕ, List, ◌++◌, ◌+◌, ◌-◌, ◌<◌, ◌≤◌, length, take, drop, slice_index, false, IfSome};
 ghost use Rattle.std.specs.Bool.{MatchBool};
 ghost use Rattle.std.specs.List.{prefix_len};
-ghost use Rattle.sj_base.specs.ByteClasses.{is_blank as blank_byte};
+ghost use Rattle.sj_base.specs.ByteClasses.{is_blank as blank_byte, is_plain as plain_byte};
 ghost use Rattle.sj_decimal.specs.Number.{begins_number as beginning_byte, is_number_byte as number_byte};
 ghost use Rattle.sj_doc.specs.Builders.{feeds_behind, EndsInFeeds};
 ghost use Rattle.sj_read.specs.Scans.{EndsPlain};
@@ -85,4 +85,25 @@ fn far_string_end(bytes: &[u8], from: usize) -> Option<usize>
 {
     let end = far_end(bytes, from);
     if bytes[end] == b'"' { Some(end) } else { None }
+}
+
+// Whether a byte of a string stands for itself.
+#[inline(always)]
+fn is_plain(c: u8) -> bool
+    ensures { result ≡ plain_byte c }
+{
+    !(c == b'"' || (c == b'\\' || c < b' '))
+}
+
+// Where a key ends whose text begins at `from`, if it has no escape. One of a single byte is told by the byte behind it, so that nothing behind it waits for a search.
+#[inline(always)]
+pub(crate) fn key_end(bytes: &[u8], from: usize) -> Option<usize>
+    requires within { from + feeds_behind ≤ length bytes.now }
+    requires feeds { EndsInFeeds bytes.now }
+    ensures { IfSome result (EndsPlain bytes.now from) }
+{
+    if bytes[from + 1] == b'"' && is_plain(bytes[from]) {
+        return Some(from + 1);
+    }
+    string_end(bytes, from)
 }
