@@ -32,3 +32,5 @@ mod PathMoves
 mod Trails
 -- for moves on items that are no nodes
 mod MadeItems
+-- for `Inquiry::exists`, `Inquiry::single` and `Inquiry::single_on`
+mod Inquiries

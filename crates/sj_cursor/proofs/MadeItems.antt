@@ -1,8 +1,11 @@
--- Moves on an item that is no node.
+-- Moves, and the accessors of a plain path, on an item that is no node.
+use Rattle.std.specs.Borrow.{Bor}
 use Rattle.std.specs.Prelude.{MatchOption}
+use Rattle.sj_doc.specs.Kinds.{kind_of}
+use Rattle.sj_doc.specs.declared.node.Kind.TheVariants as kinds
 use Rattle.std.proofs.Common.{◌≡◌, ℕ, List, [], ◌∷◌, Bool, true, false, Option, Some, None, ap, sym, ◌∙◌, refl, arith}
 use Rattle.sj_path_tree.specs.declared.parts.Mode.TheVariants.{Lax}
-use Rattle.sj_item.specs.Items.{ItemValue, item_value, pair_item}
+use Rattle.sj_item.specs.Items.{ItemValue, item_value, item_tree, pair_item}
 use Rattle.sj_item.specs.Pairs.{items_compare}
 use Rattle.sj_item.specs.declared.item.Item.{Item}
 use Rattle.sj_item.specs.declared.item.Item.TheVariants as items
@@ -13,9 +16,15 @@ use Rattle.sj_step.specs.Literals.{literal_item}
 use Rattle.sj_step.specs.Reach.{reach, by_key, unwrap, members_under, members_end}
 use Rattle.sj_step.specs.Trace.{Trace, stop, only, each}
 use Rattle.sj_step.proofs.Traces.{join-stop}
-use Rattle.sj_plain_path.specs.Chains.{below, member_under}
+use Rattle.sj_plain_path.specs.Chains.{below, linked, member_under}
+use Rattle.sj_plain_path.specs.Looks.{Finds, none_found, one_found}
+use Rattle.sj_plain_path.specs.declared.chain.Link.{Link}
+use Rattle.sj_plain_path.specs.declared.chain.Link.TheVariants as links
+use Rattle.sj_plain_path.specs.declared.look.Limit.{Limit}
+use Rattle.sj_plain_path.specs.declared.look.Limit.TheVariants as limits
+use Rattle.sj_plain_path.proofs.Chains.{all_itself, first_itself, none_behind_first}
 use Rattle.sj_plain_path.specs.Pairings.{PairingSeen, ItemTruth, pairing_truth}
-use Rattle.sj_plain_path.specs.declared.opening.Opening.TheVariants.{Unwrapped}
+use Rattle.sj_plain_path.specs.declared.opening.Opening.TheVariants.{AsItIs, Unwrapped}
 use Rattle.sj_plain_path.proofs.NotUnwrapped.{made_unopened}
 use Rattle.sj_cursor.specs.Decides.{Decides}
 use Rattle.sj_cursor.specs.Moves.{moved, tested}
@@ -81,3 +90,41 @@ unwrap_made x within made = ap (λ u. each u within) (made_unopened Lax x made) 
 pub one_leads : (t : Trace) (o : Option Item) (within : ItemValue → Trace) (a : ℕ) → GivesOne t o → Leads (each t within) a (item_left within o) a
 one_leads t None within a h = leads_same _ _ a (ap (λ u. each u within) h)
 one_leads t (Some x) within a h = leads_same _ _ a (ap (λ u. each u within) h ∙ join-stop (within (item_value x)))
+
+-- ---- the accessors of a plain path
+
+no_array : (x : Item) → IsMade x → kind_of (item_tree (item_value x)) ≡ kinds.Array → ⊥
+no_array (items.Node n) made e = made n refl
+no_array (items.Num d) made e = cc
+no_array (items.Text s) made e = cc
+no_array (items.NumberText s) made e = cc
+no_array (items.Bool b) made e = cc
+no_array items.Null made e = cc
+no_array (items.Pair p) made e = cc
+
+pub member_gives : (x : Item) (key : Bor (List ℕ)) (o : Option Item) → IsMade x → GivesOne (reach (by_key key.now) Lax (item_value x)) o → GivesOne (linked (links.Member key) (item_value x)) o
+member_gives x key o made h =
+    rw (ap (λ u. each u (reach (by_key key.now) Lax)) (made_unopened Lax x made) ∙ join-stop (reach (by_key key.now) Lax (item_value x))) h
+
+pub all_gives : (x : Item) → IsMade x → linked links.AllElements (item_value x) ≡ only (item_value x)
+all_gives x made = all_itself (item_value x) (no_array x made)
+
+pub first_gives : (index : ℕ) (x : Item) → IsMade x → index ≡ 0 → linked (links.Element index) (item_value x) ≡ only (item_value x)
+first_gives index x made e = first_itself index (item_value x) (no_array x made) e
+
+pub behind_first_gives : (index : ℕ) (x : Item) → IsMade x → (index ≡ 0 → ⊥) → linked (links.Element index) (item_value x) ≡ stop
+behind_first_gives index x made some = none_behind_first index (item_value x) (no_array x made) some
+
+pub lands_on : (l : Link) (rest : List Link) (x y : Item) → GivesOne (linked l (item_value x)) (Some y) → below AsItIs (l ∷ rest) (item_value x) ≡ below AsItIs rest (item_value y)
+lands_on l rest x y h = ap (λ u. each u (below AsItIs rest)) h ∙ join-stop (below AsItIs rest (item_value y))
+
+pub lands_nowhere : (l : Link) (rest : List Link) (x : Item) → GivesOne (linked l (item_value x)) None → below AsItIs (l ∷ rest) (item_value x) ≡ stop
+lands_nowhere l rest x h = ap (λ u. each u (below AsItIs rest)) h
+
+pub finds_one : (limit : Limit) (x : ItemValue) (a : ℕ) → Finds limit (only x) (record { found = one_found x; fault = None }) a a
+finds_one limits.First x a = record { finds = refl; costs = omega arith }
+finds_one limits.Second x a = record { finds = refl; costs = omega arith }
+finds_one limits.End x a = record { finds = refl; costs = omega arith }
+
+pub finds_none : (limit : Limit) (a : ℕ) → Finds limit stop (record { found = none_found; fault = None }) a a
+finds_none limit a = record { finds = refl; costs = omega arith }

@@ -25,7 +25,7 @@ use Rattle.sj_cursor.specs.Decides.{Decides}
 use Rattle.sj_cursor.specs.Draws.{Draws}
 use Rattle.sj_cursor.specs.Verdicts.{Verdict, filtered, kept}
 use Rattle.sj_cursor.specs.Moves.{moved, walked}
-use Rattle.sj_cursor.specs.Trails.{Leads, Gives, left_by, children_of, opened_at, frame_left, frames_left, stack_left, Stacked, IsRoomy}
+use Rattle.sj_cursor.specs.Trails.{Leads, Gives, left_by, children_within, opened_at, frame_left, frames_left, stack_left, Stacked, IsRoomy}
 use Rattle.sj_cursor.specs.declared.moves.Move.{Move}
 use Rattle.sj_cursor.specs.declared.moves.Move.TheVariants as moves
 use Rattle.sj_cursor.specs.declared.trail.Frame.{Frame}
@@ -73,7 +73,7 @@ visits_led t u a b l = omega (arith, ap visits l.is, visits-after_visits l.spent
 kind_opened : (k : Kind) (x : ItemValue) → k ≡ kinds.Array → on_kind k unwrapped Lax x ≡ on_kind kinds.Array unwrapped Lax x
 kind_opened k x e = ap (λ z. on_kind z unwrapped Lax x) e
 
-pub unwrap_array : (n : NodeRef) (within : ItemValue → Trace) → kind_of (node_tree n) ≡ kinds.Array → each (moved moves.Unwrap (node_value n)) within ≡ left_by moves.Unwrap within (children_of n)
+pub unwrap_array : (n : NodeRef) (within : ItemValue → Trace) → kind_of (node_tree n) ≡ kinds.Array → each (moved moves.Unwrap (node_value n)) within ≡ left_by moves.Unwrap within (children_within n)
 unfolding reach
 unwrap_array n within e = ap (λ u. each u within) (kind_opened (kind_of (node_tree n)) (node_value n) e)
 
@@ -81,7 +81,7 @@ pub unwrap_other : (n : NodeRef) (within : ItemValue → Trace) → (kind_of (no
 unwrap_other n within other = ap (λ u. each u within) (unopened Lax (node_value n) other) ∙ join-stop (within (node_value n))
 
 pub member_object : (n : NodeRef) (key : List ℕ) (within : ItemValue → Trace) → kind_of (node_tree n) ≡ kinds.Object
-    → each (reach (by_key key) Lax (node_value n)) within ≡ each (under_key 1 Lax key false (map child_item (children_of n))) within
+    → each (reach (by_key key) Lax (node_value n)) within ≡ each (under_key 1 Lax key false (map child_item (children_within n))) within
 unfolding reach
 member_object n key within e = ap (λ z. each (on_kind z (by_key key) Lax (node_value n)) within) e
 

@@ -18,3 +18,5 @@ pub mod Standing
 pub mod Sequel
 pub mod Moves
 pub mod Trails
+pub mod Inquiries
+pub mod Arrivals

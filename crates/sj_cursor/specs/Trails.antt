@@ -37,8 +37,8 @@ pulled (Some n) = gives (node_value n)
 
 -- ---- children
 
-abbrev pub children_of : NodeRef → List NumberedChild
-children_of n = numbered (node_id n + 1) (children (node_tree n))
+abbrev pub children_within : NodeRef → List NumberedChild
+children_within n = numbered (node_id n + 1) (children (node_tree n))
 
 -- what a move goes on with of children that are left: all of them, or those under a key
 abbrev pub left_by : Move → (ItemValue → Trace) → List NumberedChild → Trace
@@ -56,7 +56,7 @@ Gives m (Some n) cs ds = (within : ItemValue → Trace) → left_by m within cs 
 abbrev pub way_left : Move → (ItemValue → Trace) → NodeRef → Way → Trace
 way_left m within n ways.Straight = within (node_value n)
 way_left m within n ways.Nowhere = stop
-way_left m within n ways.Down = left_by m within (children_of n)
+way_left m within n ways.Down = left_by m within (children_within n)
 
 abbrev pub opened_at : List Move → ℕ → List NumberedChild → Trace
 opened_at ms at cs = left_by (get_or ms at moves.Unwrap) (walked (drop (at + 1) ms)) cs
@@ -64,7 +64,7 @@ opened_at ms at cs = left_by (get_or ms at moves.Unwrap) (walked (drop (at + 1) 
 abbrev pub descent_left : List Move → NodeRef → Descent → Trace
 descent_left ms n descents.Item = only (node_value n)
 descent_left ms n descents.Nothing = stop
-descent_left ms n (descents.Children at) = opened_at ms at (children_of n)
+descent_left ms n (descents.Children at) = opened_at ms at (children_within n)
 
 -- a node comes to a move that is not before the one it began at
 abbrev pub StaysWithin : ℕ → ℕ → Descent → Type 0
@@ -93,8 +93,8 @@ landing_left ms landings.Nothing = stop
 landing_left ms (landings.Node n at) = walked (drop at ms) (node_value n)
 
 abbrev pub LandsWithin : ℕ → Landing → Type 0
-LandsWithin end (landings.Item x) = 0 ≤ end
-LandsWithin end landings.Nothing = 0 ≤ end
+LandsWithin end (landings.Item x) = Unit {0}
+LandsWithin end landings.Nothing = Unit {0}
 LandsWithin end (landings.Node n at) = at ≤ end
 
 -- ---- frames
@@ -112,7 +112,7 @@ stack_left ms fs = frames_left ms stop fs
 
 -- frames of a path with n moves, of which i stand before: none comes before the move of its own number
 abbrev pub Stacked : ℕ → ℕ → List Frame → Type 0
-Stacked n i [] = i ≤ i
+Stacked n i [] = Unit {0}
 Stacked n i (f ∷ fs) = (i ≤ f.at) × ((f.at < n) × Stacked n (i + 1) fs)
 
 -- there is room for one frame more, which lies within all others

@@ -136,8 +136,8 @@ impl<'d> Cursor<'d> {
     }
 }
 
-// Whether there is an item, unless a fault leaves that open.
-fn exists_or_fault(look: Look<'_>) -> Result<bool, State>
+/// Whether there is an item, unless a fault leaves that open.
+pub(crate) fn exists_or_fault(look: Look<'_>) -> Result<bool, State>
     ensures { result ≡ answer_in (look_value look.entry) }
 {
     match (look.fault, look.found) {
@@ -147,9 +147,12 @@ fn exists_or_fault(look: Look<'_>) -> Result<bool, State>
     }
 }
 
-// The only node as an item, unless there are several.
+/// The only node as an item, unless there are several.
 #[inline(always)]
-fn single_node<'d>(nodes: FoundNodes<'d>, several: State) -> Result<Option<Item<'d>>, State>
+pub(crate) fn single_node<'d>(
+    nodes: FoundNodes<'d>,
+    several: State,
+) -> Result<Option<Item<'d>>, State>
     ensures { single_value result ≡ single_in several (nodes_look nodes.entry) }
 {
     match nodes {
@@ -159,8 +162,8 @@ fn single_node<'d>(nodes: FoundNodes<'d>, several: State) -> Result<Option<Item<
     }
 }
 
-// The only item, unless there are several or a fault comes.
-fn single_or_fault<'d>(look: Look<'d>, several: State) -> Result<Option<Item<'d>>, State>
+/// The only item, unless there are several or a fault comes.
+pub(crate) fn single_or_fault<'d>(look: Look<'d>, several: State) -> Result<Option<Item<'d>>, State>
     ensures { single_value result ≡ single_in several (look_value look.entry) }
 {
     match (look.fault, look.found) {

@@ -42,7 +42,7 @@ pub struct Cursor<'d> {
 /// By what a cursor goes from item to item.
 #[derive(Drop)]
 pub(crate) enum Means<'d> {
-    /// A trail, which few paths in lax mode do not have.
+    /// A trail, which most paths in lax mode have.
     Trail(Trail<'d>),
     /// The cells of the path.
     Cells(Box<Cell<'d>>),

@@ -1,4 +1,5 @@
-//! Paths, evaluated lazily: what a path means on an item, and a cursor that gives it item by item.
+//! Paths, evaluated lazily: what a path means on an item, a cursor that gives it item by item, and an inquiry whether it has an item and
+//! which is its only one.
 //!
 //! `specs/Meaning.antt` says which trace a path has (ISO/IEC 9075-2, SQL/JSON path language): its items in order, how it
 //! ends, and which children of nodes are handed out on the way. `specs/Verdicts.antt` and `specs/Comparisons.antt` say what
@@ -8,6 +9,9 @@
 //! A [`Cursor`] goes by a trail where its path has one, and else by cells. Both are made in `Cursor::new`, which takes all memory. Each
 //! is asked for one item at a time and holds where it stands, and no list. `specs/Trails.antt` says what a trail has left, and
 //! `specs/Left.antt` which expression a cell is of, and which trace it has left.
+//!
+//! An [`Inquiry`] asks a path for no more than its first two items. Of a plain path (below) it has the accessors alone, and of any other
+//! path a cursor.
 //!
 //! # How a path is evaluated
 //!
@@ -45,25 +49,28 @@
 //! `.lines` above, takes `$` in hand at once where this is no array, and a method does so too. It takes no memory, so one
 //! cursor serves the items of one row after another, of one line after another. Both go back when they are first asked.
 //!
-//! **A plain path**, `lax $` and behind it accessors of members, `[*]` and subscripts such as `[0]`, needs no cells where a cursor is
-//! asked at its beginning whether there is an item, or which is the only one. A `Chain` of `sj_plain_path` then goes down the document from
-//! accessor to accessor.
+//! **A plain path**, `lax $` and behind it accessors of members, `[*]` and subscripts such as `[0]`, needs no cells where an inquiry, or
+//! a cursor at its beginning, is asked whether there is an item, or which is the only one. A `Chain` of `sj_plain_path` then goes down the
+//! document from accessor to accessor.
 //!
 //! An operand that is one member of `@` or `$`, as `@.qty` above, is read in the same way for each item that the filter tests: its
 //! cells are asked in strict mode and where the item is no node.
 //!
 //! The crate stands on `sj_path_tree` for paths and variables, on `sj_step` for traces, on `sj_walk` for accessors, on `sj_plain_path` for
 //! plain paths, and on `sj_method` for methods and arithmetic. It promises that each call of `Cursor::next` gives the first item that the meaning has left, or
-//! its end, takes no memory, and raises the counter by no more than the visits that stand before that item or end.
+//! its end, takes no memory, and raises the counter by no more than the visits that stand before that item or end, and that the calls of
+//! an inquiry answer as the meaning on the item says.
 #![tactic(auto)]
 
 mod arithmetic;
+mod arrival;
 mod ask;
 mod build;
 mod cells;
 mod cursor;
 mod env;
 mod held;
+mod inquiry;
 mod keyed;
 mod look;
 mod moves;
@@ -77,3 +84,4 @@ mod subscripts;
 mod trail;
 
 pub use cursor::Cursor;
+pub use inquiry::Inquiry;

@@ -116,8 +116,8 @@ impl<'d> MemberTest<'d> {
     }
 }
 
-// The member under a key of an item that is no node. There is one at most, and of a made pair alone.
-fn made_member<'d>(item: &Item<'d>, key: &str) -> Option<Item<'d>>
+/// The member under a key of an item that is no node. There is one at most, and of a made pair alone.
+pub(crate) fn made_member<'d>(item: &Item<'d>, key: &str) -> Option<Item<'d>>
     requires { IsMade item.now }
     ensures { GivesOne (reach (by_key key.now) Lax (item_value item.now)) result }
 {

@@ -16,7 +16,7 @@ use Rattle.sj_value.specs.declared.clauses.ValueAction.{ValueAction}
 use Rattle.sj_value.specs.declared.clauses.ValueSpec.{ValueSpec}
 use Rattle.sj_rows.specs.RowText.{HasField}
 use Rattle.sj_func.specs.Fields.{AppendsOutcome}
-use Rattle.sj_func.specs.Functions.{ContextValue, on_item, on_bad, answer_on, cost_on, exists_given, exists_outcome, exists_cost, single_on, value_cast, value_error, value_given, value_outcome, value_cost, single_below, query_one_cost, query_error, query_items, query_all, all_below, query_all_cost}
+use Rattle.sj_func.specs.Functions.{ContextValue, on_item, on_bad, answer_on, exists_given, exists_outcome, exists_cost, single_on, value_cast, value_error, value_given, value_outcome, value_cost, single_below, query_one_cost, query_error, query_items, query_all, all_below, query_all_cost}
 use Rattle.sj_func.specs.declared.context.Outcome.{Outcome}
 use Rattle.sj_func.specs.declared.context.Outcome.TheVariants.{Value}
 

@@ -1,5 +1,5 @@
 -- The text of an array, put together item by item, and closed.
-use Rattle.std.proofs.Common.{◌≡◌, ◌≤◌, ◌<◌, ℕ, zero, suc, ◌+◌, List, [], ◌∷◌, ◌++◌, Bool, true, false, cond, Option, None, Some, ap, sym, ◌∙◌, refl, arith, append_assoc, append-nil, subst, Result, IfOk}
+use Rattle.std.proofs.Common.{◌≡◌, ◌≤◌, ◌<◌, ℕ, ◌+◌, List, [], ◌∷◌, ◌++◌, Bool, true, false, cond, None, Some, ap, sym, ◌∙◌, refl, arith, append_assoc, append-nil, subst, Result, IfOk}
 use Rattle.std.specs.Prelude.{remove}
 use Rattle.sj_base.specs.Count.{raised}
 use Rattle.sj_base.specs.declared.memory.Memory.{Memory}

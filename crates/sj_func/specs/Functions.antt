@@ -14,7 +14,7 @@ use Rattle.sj_path_tree.specs.View.{path_of}
 use Rattle.sj_step.specs.Trace.{Trace, items, visits, fault_of}
 use Rattle.sj_cursor.specs.Answers.{exists_answer}
 use Rattle.sj_cursor.specs.Meaning.{path_trace}
-use Rattle.sj_cursor.specs.Sequel.{Sequel}
+use Rattle.sj_cursor.specs.Sequel.{Sequel, Inquired}
 use Rattle.sj_cursor.specs.Single.{need, Single, bad, zero_items, one_item, single}
 use Rattle.sj_value.specs.Casts.{Cast, cast_of}
 use Rattle.sj_value.specs.Values.{IsPrintable}
@@ -49,6 +49,10 @@ context_value (contexts.Bad s) = on_bad s
 -- the trace that the path of a cursor has on each item
 abbrev pub trace_on : Sequel → ItemValue → Trace
 trace_on cursor x = path_trace (path_of cursor.path) cursor.vars x
+
+-- the trace that the path of an inquiry has on each item
+abbrev pub trace_asked : Inquired → ItemValue → Trace
+trace_asked inquiry x = path_trace (path_of inquiry.path) inquiry.vars x
 
 -- what is answered of the item, and on a bad context its error
 abbrev pub answer_on : {A : Type 0} → ContextValue → (ItemValue → Result A State) → Result A State

@@ -3,12 +3,12 @@ ghost use Rattle.std.specs.Prelude.{◌≡◌, ◌≤◌};
 ghost use Rattle.sj_base.specs.Count.{raised};
 ghost use Rattle.sj_value.specs.Clauses.{GivesPrintable, IsValueSpec};
 ghost use Rattle.sj_func.specs.Fields.{AppendsOutcome};
-ghost use Rattle.sj_func.specs.Functions.{context_value, trace_on, value_error, value_cost, value_outcome, IsPrinted};
+ghost use Rattle.sj_func.specs.Functions.{context_value, trace_asked, value_error, value_cost, value_outcome, IsPrinted};
 
 use crate::context::{Context, Outcome};
-use crate::single::single_item;
+use crate::single::asked_item;
 use sj_base::{Bytes, Memory, State, Steps};
-use sj_cursor::Cursor;
+use sj_cursor::Inquiry;
 use sj_rows::{tabbed_cast, tabbed_text};
 use sj_value::{CastRefusal, SqlValue, ValueAction, ValueSpec};
 use std::alloc::Global;
@@ -34,26 +34,26 @@ pub fn outcome_field(out: &mut Bytes, outcome: &Outcome) -> Result<Option<State>
 /// JSON_VALUE as a field: appends a TAB and the field of the value that [`json_value`](crate::json_value) gives, or
 /// gives the state that it raises. No value is made on the way where the bytes of the field stand in the document.
 ///
-/// What is said there of the cursor and of the counter holds here too.
+/// What is said there of the inquiry and of the counter holds here too.
 ///
 /// # Errors
 /// [`Memory`] where memory runs out. What stood in `out` stays, and something may stand behind it.
 #[inline(always)]
 pub fn json_value_field<'d>(
     alloc: Global,
-    cursor: &mut Cursor<'d>,
+    inquiry: &mut Inquiry<'d>,
     context: Context<'d>,
     spec: &ValueSpec,
     out: &mut Bytes,
     steps: &mut Steps,
 ) -> Result<Option<State>, Memory>
     requires { IsValueSpec spec.now }
-    ensures appends { AppendsOutcome (value_outcome spec.now cursor.old.path.mode (context_value context.entry) (trace_on cursor.old)) result out.old out.new }
-    ensures costs { steps.new ≤ raised steps.old (value_cost cursor.old.path.mode (context_value context.entry) (trace_on cursor.old)) }
-    ensures path { cursor.new.path ≡ cursor.old.path }
-    ensures vars { cursor.new.vars ≡ cursor.old.vars }
+    ensures appends { AppendsOutcome (value_outcome spec.now inquiry.old.path.mode (context_value context.entry) (trace_asked inquiry.old)) result out.old out.new }
+    ensures costs { steps.new ≤ raised steps.old (value_cost inquiry.old.path.mode (context_value context.entry) (trace_asked inquiry.old)) }
+    ensures path { inquiry.new.path ≡ inquiry.old.path }
+    ensures vars { inquiry.new.vars ≡ inquiry.old.vars }
 {
-    match single_item(cursor, context, steps) {
+    match asked_item(inquiry, context, steps) {
         Ok(Some(item)) => match tabbed_cast(alloc, out, item, spec.ty) {
             Ok(()) => Ok(None),
             Err(CastRefusal::State(state)) => rare_field(out, &spec.on_error, state),

@@ -1,7 +1,8 @@
-//! The query functions of SQL/JSON over the cursor of a path (ISO/IEC 9075-2, SQL/JSON functions).
+//! The query functions of SQL/JSON over an inquiry or the cursor of a path (ISO/IEC 9075-2, SQL/JSON functions).
 //!
 //! `specs/Functions.antt` says what each function gives of the trace that its path has on an item, and what it may
-//! take. The calls here rewind a cursor on the item and ask it no further than they must.
+//! take. JSON_EXISTS and JSON_VALUE ask an inquiry about the item. JSON_QUERY rewinds a cursor on the item. Neither is asked further
+//! than it must.
 //!
 //! The crate stands on `sj_cursor` for paths on items, on `sj_value` for values, casts and the clauses of the
 //! functions, on `sj_text` for the texts of items, and on `sj_rows` for fields of rows. It promises that each call gives exactly the outcome of the

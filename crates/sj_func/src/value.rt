@@ -4,12 +4,12 @@ ghost use Rattle.sj_base.specs.Count.{raised};
 ghost use Rattle.sj_item.specs.Items.{item_value};
 ghost use Rattle.sj_value.specs.Casts.{cast_of};
 ghost use Rattle.sj_value.specs.Clauses.{GivesPrintable, IsValueSpec};
-ghost use Rattle.sj_func.specs.Functions.{context_value, trace_on, value_error, value_empty, value_cast, value_outcome, value_cost, IsPrinted};
+ghost use Rattle.sj_func.specs.Functions.{context_value, trace_asked, value_error, value_empty, value_cast, value_outcome, value_cost, IsPrinted};
 
 use crate::context::{Context, Outcome};
-use crate::single::single_item;
+use crate::single::asked_item;
 use sj_base::{Memory, State, Steps};
-use sj_cursor::Cursor;
+use sj_cursor::Inquiry;
 use sj_item::Item;
 use sj_value::{CastRefusal, SqlValue, ValueAction, ValueSpec, cast, copy};
 use std::alloc::Global;
@@ -22,31 +22,31 @@ use std::alloc::Global;
 /// mode a fault anywhere decides first. An error is ON ERROR. Each of the two gives NULL or a copy of its DEFAULT, or
 /// with ERROR raises a state: ON EMPTY raises 22035, which ON ERROR does not see, and ON ERROR that of the error.
 ///
-/// The cursor is rewound, wherever it stood, and then stands anywhere; its path and its variables stay. The counter
-/// rises by no more than the children of nodes that are handed out before the second item, in strict mode by no more
-/// than all of them, and not at all on a bad context. A value that is given can be printed.
+/// The path and the variables of the inquiry stay. The counter rises by no more than the children of nodes that are
+/// handed out before the second item, in strict mode by no more than all of them, and not at all on a bad context. A
+/// value that is given can be printed.
 ///
 /// Example: on `{"a":[1,2],"b":"x"}` the path `$.b` gives `x`, `$.c` is ON EMPTY, and `$.a[*]` is the error 22034
 /// (`sj_row_tests::examples::query_functions`).
 ///
 /// # Errors
-/// [`Memory`] where memory runs out. What is said of the cursor and of the counter holds then too.
+/// [`Memory`] where memory runs out. What is said of the inquiry and of the counter holds then too.
 #[inline(always)]
 pub fn json_value<'d>(
     alloc: Global,
-    cursor: &mut Cursor<'d>,
+    inquiry: &mut Inquiry<'d>,
     context: Context<'d>,
     spec: &ValueSpec,
     steps: &mut Steps,
 ) -> Result<Outcome, Memory>
     requires { IsValueSpec spec.now }
-    ensures outcome { IfOk result (λ o. o ≡ value_outcome spec.now cursor.old.path.mode (context_value context.entry) (trace_on cursor.old)) }
+    ensures outcome { IfOk result (λ o. o ≡ value_outcome spec.now inquiry.old.path.mode (context_value context.entry) (trace_asked inquiry.old)) }
     ensures printable { IfOk result IsPrinted }
-    ensures costs { steps.new ≤ raised steps.old (value_cost cursor.old.path.mode (context_value context.entry) (trace_on cursor.old)) }
-    ensures path { cursor.new.path ≡ cursor.old.path }
-    ensures vars { cursor.new.vars ≡ cursor.old.vars }
+    ensures costs { steps.new ≤ raised steps.old (value_cost inquiry.old.path.mode (context_value context.entry) (trace_asked inquiry.old)) }
+    ensures path { inquiry.new.path ≡ inquiry.old.path }
+    ensures vars { inquiry.new.vars ≡ inquiry.old.vars }
 {
-    match single_item(cursor, context, steps) {
+    match asked_item(inquiry, context, steps) {
         Ok(Some(item)) => cast_item(alloc, item, spec),
         Ok(None) => given(alloc, &spec.on_empty, State::S22035),
         Err(state) => given(alloc, &spec.on_error, state),

@@ -14,7 +14,7 @@ use Rattle.sj_doc.specs.declared.node.Kind.{Kind}
 use Rattle.sj_doc.specs.declared.node.Kind.TheVariants as kinds
 use Rattle.sj_path_tree.specs.Tree as t
 use Rattle.sj_path_tree.specs.declared.parts.Mode.TheVariants.{Lax}
-use Rattle.sj_item.specs.Items.{ItemValue, node}
+use Rattle.sj_item.specs.Items.{ItemValue, item_tree, node}
 use Rattle.sj_step.specs.Trace.{Trace, stop, visit, give, only, after_visits, join, each}
 use Rattle.sj_step.specs.Reach.{reach, on_kind, by_key, all_elements, by_range, unwrapped, unwrap, child_item, under_key, range_of_one}
 use Rattle.sj_step.proofs.Traces.{join-after_visits, join-stop, join_assoc, each-after_visits, each_assoc}
@@ -134,11 +134,14 @@ kind_itself kinds.String x other = refl
 kind_itself kinds.Array x other = absurd (other refl)
 kind_itself kinds.Object x other = refl
 
+pub all_itself : (x : ItemValue) → (kind_of (item_tree x) ≡ kinds.Array → ⊥) → reach all_elements Lax x ≡ only x
+unfolding reach
+all_itself x other = kind_itself (kind_of (item_tree x)) x other
+
 pub elements_other : (how : Opening) (rest : List Link) (i : ℕ) (tree : Tree) → (kind_of tree ≡ kinds.Array → ⊥)
     → below how (links.AllElements ∷ rest) (node i tree) ≡ below how rest (node i tree)
-unfolding reach
 elements_other how rest i tree other =
-    ap (λ u. each u (below how rest)) (kind_itself (kind_of tree) (node i tree) other) ∙ join-stop (below how rest (node i tree))
+    ap (λ u. each u (below how rest)) (all_itself (node i tree) other) ∙ join-stop (below how rest (node i tree))
 
 index_array : (index : ℕ) (i : ℕ) (tree : Tree) → kind_of tree ≡ kinds.Array
     → reach (by_range (pos index) (pos index)) Lax (node i tree) ≡ element index (numbered (i + 1) (children tree))
@@ -153,12 +156,14 @@ kind_at_first kinds.String x other = refl
 kind_at_first kinds.Array x other = absurd (other refl)
 kind_at_first kinds.Object x other = refl
 
+pub first_itself : (index : ℕ) (x : ItemValue) → (kind_of (item_tree x) ≡ kinds.Array → ⊥) → index ≡ 0 → reach (by_range (pos index) (pos index)) Lax x ≡ only x
+unfolding reach
+first_itself index x other e = ap (λ n. reach (by_range (pos n) (pos n)) Lax x) e ∙ kind_at_first (kind_of (item_tree x)) x other
+
 pub index_first : (how : Opening) (index : ℕ) (rest : List Link) (i : ℕ) (tree : Tree) → (kind_of tree ≡ kinds.Array → ⊥) → index ≡ 0
     → below how (links.Element index ∷ rest) (node i tree) ≡ below how rest (node i tree)
-unfolding reach
 index_first how index rest i tree other e =
-    ap (λ n. below how (links.Element n ∷ rest) (node i tree)) e
-    ∙ ap (λ u. each u (below how rest)) (kind_at_first (kind_of tree) (node i tree) other) ∙ join-stop (below how rest (node i tree))
+    ap (λ u. each u (below how rest)) (first_itself index (node i tree) other e) ∙ join-stop (below how rest (node i tree))
 
 not_first : (index : ℕ) (x : ItemValue) → (index ≡ 0 → ⊥) → range_of_one Lax (pos index) (pos index) x ≡ stop
 not_first index x some =
@@ -173,10 +178,13 @@ kind_behind_first kinds.String index x other some = not_first index x some
 kind_behind_first kinds.Array index x other some = absurd (other refl)
 kind_behind_first kinds.Object index x other some = not_first index x some
 
+pub none_behind_first : (index : ℕ) (x : ItemValue) → (kind_of (item_tree x) ≡ kinds.Array → ⊥) → (index ≡ 0 → ⊥) → reach (by_range (pos index) (pos index)) Lax x ≡ stop
+unfolding reach
+none_behind_first index x other some = kind_behind_first (kind_of (item_tree x)) index x other some
+
 pub index_none : (how : Opening) (index : ℕ) (rest : List Link) (i : ℕ) (tree : Tree) → (kind_of tree ≡ kinds.Array → ⊥) → (index ≡ 0 → ⊥)
     → below how (links.Element index ∷ rest) (node i tree) ≡ stop
-unfolding reach
-index_none how index rest i tree other some = ap (λ u. each u (below how rest)) (kind_behind_first (kind_of tree) index (node i tree) other some)
+index_none how index rest i tree other some = ap (λ u. each u (below how rest)) (none_behind_first index (node i tree) other some)
 
 pub opened_array : (how : Opening) (i : ℕ) (tree : Tree) → how ≡ Unwrapped → kind_of tree ≡ kinds.Array → opened how Lax (node i tree) ≡ elements_of (numbered (i + 1) (children tree))
 unfolding reach

@@ -61,6 +61,13 @@ impl<'d> Chain<'d> {
         }
     }
 
+    /// The accessors, in their order.
+    pub fn links(&self) -> &[Link<'d>]
+        ensures { result.now ≡ self.now.links.items }
+    {
+        &self.links
+    }
+
     /// The items of the path on a node, from the first one on until enough was found. The counter rises by no more than the children
     /// of nodes that are handed out before.
     #[inline(always)]

@@ -2,7 +2,7 @@
 
 use super::cases::expect;
 use sj_base::Steps;
-use sj_cursor::Cursor;
+use sj_cursor::{Cursor, Inquiry};
 use sj_doc::Doc;
 use sj_func::{Context, Outcome, is_json, json_exists, json_query, json_value};
 use sj_item::Item;
@@ -35,21 +35,22 @@ fn shown(outcome: &Outcome) -> &str {
 fn outcomes(alloc: Global, path: &Path, doc: &Doc) -> Result<String, Fail> {
     let (vars, mut steps) = (Vars::new(alloc), Steps::new());
     let root = Item::Node(doc.root());
-    let mut cursor = Cursor::new(alloc, path, &vars, root)?;
+    let mut inquiry = Inquiry::new(alloc, path, &vars)?;
     let context = Context::Item(root);
-    let exists = json_exists(&mut cursor, context, ExistsAction::False, &mut steps);
+    let exists = json_exists(&mut inquiry, context, ExistsAction::False, &mut steps);
     let spec = ValueSpec {
         ty: SqlType::Varchar,
         on_empty: ValueAction::Null,
         on_error: ValueAction::Error,
     };
-    let value = json_value(alloc, &mut cursor, context, &spec, &mut steps)?;
+    let value = json_value(alloc, &mut inquiry, context, &spec, &mut steps)?;
     let spec = QuerySpec {
         wrapper: Wrapper::Unconditional,
         omit_quotes: false,
         on_empty: QueryAction::Null,
         on_error: QueryAction::Null,
     };
+    let mut cursor = Cursor::new(alloc, path, &vars, root)?;
     let query = json_query(alloc, &mut cursor, context, &spec, &mut steps)?;
     Ok(format!(in alloc; "{} {} {}", shown(&exists), shown(&value), shown(&query))?)
 }

@@ -1,6 +1,6 @@
 -- How the columns of a table are held. Private clauses alone cite this.
 use Rattle.sj_value.specs.Clauses.{IsValueSpec}
-use Rattle.sj_select_list.specs.Operations.{path_with}
+use Rattle.sj_select_list.specs.Operations.{asked_path, path_with}
 use Rattle.sj_select.specs.Columns.{Column, ordinality, regular, formatted, existence}
 use Rattle.sj_select.specs.declared.columns.Column.{Column as ColumnHeld}
 use Rattle.sj_select.specs.declared.columns.Column.TheVariants as held
@@ -9,13 +9,13 @@ use Rattle.sj_select.specs.declared.columns.FormattedColumn.{FormattedColumn}
 use Rattle.sj_select.specs.declared.columns.RegularColumn.{RegularColumn}
 
 abbrev pub regular_column : RegularColumn → Column
-regular_column c = regular c.path (path_with c.call.cursor.value) c.call.clauses.now
+regular_column c = regular c.path (asked_path c.call.inquiry) c.call.clauses.now
 
 abbrev pub formatted_column : FormattedColumn → Column
 formatted_column c = formatted c.path (path_with c.call.cursor.value) c.call.clauses
 
 abbrev pub exists_column : ExistsColumn → Column
-exists_column c = existence c.path (path_with c.call.cursor.value) c.call.on_error
+exists_column c = existence c.path (asked_path c.call.inquiry) c.call.on_error
 
 -- a column without where its cursor stands
 abbrev pub column_of : ColumnHeld → Column

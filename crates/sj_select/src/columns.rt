@@ -14,7 +14,7 @@ use sj_bound::{BoundColumn, BoundTable};
 use sj_func::{Context, Outcome};
 use sj_item::Item;
 use sj_path_tree::Vars;
-use sj_select_list::{ExistsCall, QueryCall, ValueCall, boxed_cursor};
+use sj_select_list::{ExistsCall, QueryCall, ValueCall, boxed_cursor, inquiry_on};
 use sj_step::whole_number;
 use sj_table::TableCursor;
 use sj_value::SqlValue;
@@ -40,7 +40,7 @@ impl<'d> Drop for Column<'d> {
     }
 }
 
-/// JSON_VALUE on the items of the path of this number. The cursor takes its memory once and is moved from row to row.
+/// JSON_VALUE on the items of the path of this number. Its memory is taken once, and serves row after row.
 #[derive(Drop)]
 pub(crate) struct RegularColumn<'d> {
     pub(crate) path: u32,
@@ -151,7 +151,7 @@ fn ordinality(found: Option<(Item<'_>, u64)>) -> Outcome
     }
 }
 
-/// The columns of a table in their order. Their cursors take their memory here.
+/// The columns of a table in their order. Their inquiries and cursors take their memory here.
 pub(crate) fn columns_of<'d>(
     alloc: Global,
     table: &'d BoundTable,
@@ -177,8 +177,8 @@ fn push_column<'d>(
     match column {
         BoundColumn::Ordinality(path) => push(columns, Column::Ordinality(*path)),
         BoundColumn::Regular(number, path, clauses) => {
-            let cursor = boxed_cursor(alloc, path, vars)?;
-            let call = ValueCall { cursor, clauses };
+            let inquiry = inquiry_on(alloc, path, vars)?;
+            let call = ValueCall { inquiry, clauses };
             let path = *number;
             push(columns, Column::Regular(RegularColumn { path, call }))
         }
@@ -190,9 +190,9 @@ fn push_column<'d>(
             push(columns, Column::Formatted(FormattedColumn { path, call }))
         }
         BoundColumn::Exists(number, path, on_error) => {
-            let cursor = boxed_cursor(alloc, path, vars)?;
+            let inquiry = inquiry_on(alloc, path, vars)?;
             let on_error = *on_error;
-            let call = ExistsCall { cursor, on_error };
+            let call = ExistsCall { inquiry, on_error };
             let path = *number;
             push(columns, Column::Exists(ExistsColumn { path, call }))
         }

@@ -2,7 +2,7 @@
 use Rattle.std.specs.Prelude.{ℕ, ◌+◌, Bool as Logical, List, [], ◌∷◌, ◌++◌, map}
 use Rattle.sj_path_tree.specs.declared.parts.Literal.{Literal}
 use Rattle.sj_path_tree.specs.View.{path_of}
-use Rattle.sj_cursor.specs.Sequel.{Sequel}
+use Rattle.sj_cursor.specs.Sequel.{Sequel, Inquired}
 use Rattle.sj_sql_grammar.specs.declared.clauses.IsJsonCall.{IsJsonCall}
 use Rattle.sj_value.specs.declared.clauses.ExistsAction.{ExistsAction}
 use Rattle.sj_value.specs.declared.clauses.Nulls.{Nulls}
@@ -16,7 +16,7 @@ use Rattle.sj_select_list.specs.declared.operation.Operation.TheVariants as o
 use Rattle.sj_select_list.specs.declared.operation.QueryCall.{QueryCall}
 use Rattle.sj_select_list.specs.declared.operation.ValueCall.{ValueCall}
 
--- an operation without where its cursor stands
+-- an operation, with the path that it asks or goes along
 pub data OperationStep : Type 0 where
   literal : Literal → OperationStep
   column : ℕ → OperationStep
@@ -33,11 +33,14 @@ pub data OperationStep : Type 0 where
 abbrev pub path_with : Sequel → PathWith
 path_with c = record { path = path_of c.path; vars = c.vars }
 
+abbrev pub asked_path : Inquired → PathWith
+asked_path q = record { path = path_of q.path; vars = q.vars }
+
 abbrev pub exists_step : ExistsCall → OperationStep
-exists_step call = exists (path_with call.cursor.value) call.on_error
+exists_step call = exists (asked_path call.inquiry) call.on_error
 
 abbrev pub value_step : ValueCall → OperationStep
-value_step call = value (path_with call.cursor.value) call.clauses.now
+value_step call = value (asked_path call.inquiry) call.clauses.now
 
 abbrev pub query_step : QueryCall → OperationStep
 query_step call = query (path_with call.cursor.value) call.clauses

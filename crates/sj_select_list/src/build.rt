@@ -1,18 +1,18 @@
 // The operations of a statement.
 ghost use Rattle.std.specs.Prelude.{◌≡◌, ◌≤◌, ◌<◌, ◌+◌, ◌++◌, ◌∷◌, [], length, IfOk, OnOk};
 ghost use Rattle.sj_bound.specs.View.{bound_of, items_of, value_of, values_of, members_of, path_with_of};
-ghost use Rattle.sj_select_list.specs.Operations.{steps_of, steps_to, steps_to_values, steps_to_members, steps_to_all, value_count, member_count, path_with};
+ghost use Rattle.sj_select_list.specs.Operations.{steps_of, steps_to, steps_to_values, steps_to_members, steps_to_all, value_count, member_count, asked_path, path_with};
 ghost use Rattle.sj_select_list.specs.Values.{values_in};
 
 use crate::operation::{ExistsCall, Operation, QueryCall, ValueCall};
 use sj_base::{Memory, boxed, push};
 use sj_bound::{Bound, BoundItem, BoundMembers, BoundPath, BoundValue, BoundValues};
-use sj_cursor::Cursor;
+use sj_cursor::{Cursor, Inquiry};
 use sj_item::Item;
 use sj_path_tree::{Path, Vars};
 use std::alloc::Global;
 
-/// The operations that find the values of a statement's SELECT list. The cursors of its paths take their memory here.
+/// The operations that find the values of a statement's SELECT list. The inquiries and the cursors of its paths take their memory here.
 ///
 /// # Errors
 /// [`Memory`] where memory runs out.
@@ -49,6 +49,24 @@ fn operations_in<'d>(alloc: Global, items: &'d [BoundItem]) -> Result<Vec<Operat
         }
     }
     Ok(operations)
+}
+
+// An inquiry of the path.
+fn inquiry_of<'d>(alloc: Global, path: &'d BoundPath) -> Result<Inquiry<'d>, Memory>
+    ensures { IfOk result (λ inquiry. asked_path inquiry ≡ path_with_of path.now) }
+{
+    inquiry_on(alloc, &path.path, &path.vars)
+}
+
+/// An inquiry of a path with its variables.
+///
+/// # Errors
+/// [`Memory`] where memory runs out.
+pub fn inquiry_on<'d>(alloc: Global, path: &'d Path, vars: &'d Vars) -> Result<Inquiry<'d>, Memory>
+    ensures path { IfOk result (λ inquiry. inquiry.path ≡ path.now) }
+    ensures vars { IfOk result (λ inquiry. inquiry.vars ≡ vars.now) }
+{
+    Inquiry::new(alloc, path, vars)
 }
 
 // A cursor of the path, which is to be moved to a line.
@@ -89,11 +107,11 @@ fn push_value<'d>(
         BoundValue::Lit(literal) => Operation::Literal(literal),
         BoundValue::Column(number) => Operation::Column(*number),
         BoundValue::Exists(path, on_error) => Operation::Exists(ExistsCall {
-            cursor: cursor_of(alloc, path)?,
+            inquiry: inquiry_of(alloc, path)?,
             on_error: *on_error,
         }),
         BoundValue::Value(path, clauses) => Operation::Value(ValueCall {
-            cursor: cursor_of(alloc, path)?,
+            inquiry: inquiry_of(alloc, path)?,
             clauses,
         }),
         BoundValue::Query(path, clauses) => Operation::Query(QueryCall {

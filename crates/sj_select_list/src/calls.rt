@@ -6,7 +6,7 @@ ghost use Rattle.sj_func.specs.Functions.{context_value, exists_outcome, exists_
 ghost use Rattle.sj_value.specs.Clauses.{IsValueSpec};
 ghost use Rattle.sj_value.specs.Values.{IsPrintable};
 ghost use Rattle.sj_select_list.specs.Line.{line_of, context};
-ghost use Rattle.sj_select_list.specs.Operations.{exists_step, value_step, query_step, path_with};
+ghost use Rattle.sj_select_list.specs.Operations.{exists_step, value_step, query_step, asked_path, path_with};
 ghost use Rattle.sj_select_list.specs.Performing.{EndsIn, held, put as put_on};
 ghost use Rattle.sj_select_list.specs.Values.{trace_of};
 
@@ -24,12 +24,12 @@ impl<'d> ExistsCall<'d> {
     /// The outcome on a context item, or on the error in its place. The counter rises by no more than what it may take. It takes no memory.
     #[inline(always)]
     pub fn outcome(&mut self, context: Context<'d>, steps: &mut Steps) -> Outcome
-        ensures outcome { let x = path_with self.old.cursor.value in result ≡ exists_outcome self.old.on_error x.path.mode (context_value context.entry) (trace_of x) }
+        ensures outcome { let x = asked_path self.old.inquiry in result ≡ exists_outcome self.old.on_error x.path.mode (context_value context.entry) (trace_of x) }
         ensures printed { IsPrinted result }
-        ensures costs { let x = path_with self.old.cursor.value in steps.new ≤ raised steps.old (exists_cost x.path.mode (context_value context.entry) (trace_of x)) }
+        ensures costs { let x = asked_path self.old.inquiry in steps.new ≤ raised steps.old (exists_cost x.path.mode (context_value context.entry) (trace_of x)) }
         ensures step { exists_step self.new ≡ exists_step self.old }
     {
-        json_exists(&mut *self.cursor, context, self.on_error, steps)
+        json_exists(&mut self.inquiry, context, self.on_error, steps)
     }
 
     /// Puts the value on a stack, or gives the state that it raises.
@@ -41,8 +41,8 @@ impl<'d> ExistsCall<'d> {
         steps: &mut Steps,
     ) -> Result<Option<State>, Memory>
         requires printable { All IsPrintable stack.old.values.items }
-        ensures does { let x = path_with self.old.cursor.value in IfOk result (λ raised. EndsIn (put_on (exists_outcome self.old.on_error x.path.mode (context (line_of line.entry)) (trace_of x)) (held stack.old)) raised (held stack.new)) }
-        ensures costs { let x = path_with self.old.cursor.value in steps.new ≤ raised steps.old (exists_cost x.path.mode (context (line_of line.entry)) (trace_of x)) }
+        ensures does { let x = asked_path self.old.inquiry in IfOk result (λ raised. EndsIn (put_on (exists_outcome self.old.on_error x.path.mode (context (line_of line.entry)) (trace_of x)) (held stack.old)) raised (held stack.new)) }
+        ensures costs { let x = asked_path self.old.inquiry in steps.new ≤ raised steps.old (exists_cost x.path.mode (context (line_of line.entry)) (trace_of x)) }
         ensures step { exists_step self.new ≡ exists_step self.old }
         ensures printable { All IsPrintable stack.new.values.items }
     {
@@ -58,8 +58,8 @@ impl<'d> ExistsCall<'d> {
         out: &mut Bytes,
         steps: &mut Steps,
     ) -> Result<Option<State>, Memory>
-        ensures appends { let x = path_with self.old.cursor.value in AppendsOutcome (exists_outcome self.old.on_error x.path.mode (context (line_of line.entry)) (trace_of x)) result out.old out.new }
-        ensures costs { let x = path_with self.old.cursor.value in steps.new ≤ raised steps.old (exists_cost x.path.mode (context (line_of line.entry)) (trace_of x)) }
+        ensures appends { let x = asked_path self.old.inquiry in AppendsOutcome (exists_outcome self.old.on_error x.path.mode (context (line_of line.entry)) (trace_of x)) result out.old out.new }
+        ensures costs { let x = asked_path self.old.inquiry in steps.new ≤ raised steps.old (exists_cost x.path.mode (context (line_of line.entry)) (trace_of x)) }
         ensures step { exists_step self.new ≡ exists_step self.old }
     {
         let outcome = self.outcome(line.context(), steps);
@@ -80,12 +80,12 @@ impl<'d> ValueCall<'d> {
         steps: &mut Steps,
     ) -> Result<Outcome, Memory>
         requires { IsValueSpec self.old.clauses.now }
-        ensures outcome { let x = path_with self.old.cursor.value in IfOk result (λ o. o ≡ value_outcome self.old.clauses.now x.path.mode (context_value context.entry) (trace_of x)) }
+        ensures outcome { let x = asked_path self.old.inquiry in IfOk result (λ o. o ≡ value_outcome self.old.clauses.now x.path.mode (context_value context.entry) (trace_of x)) }
         ensures printed { IfOk result IsPrinted }
-        ensures costs { let x = path_with self.old.cursor.value in steps.new ≤ raised steps.old (value_cost x.path.mode (context_value context.entry) (trace_of x)) }
+        ensures costs { let x = asked_path self.old.inquiry in steps.new ≤ raised steps.old (value_cost x.path.mode (context_value context.entry) (trace_of x)) }
         ensures step { value_step self.new ≡ value_step self.old }
     {
-        json_value(alloc, &mut *self.cursor, context, self.clauses, steps)
+        json_value(alloc, &mut self.inquiry, context, self.clauses, steps)
     }
 
     /// Puts the value on a stack, or gives the state that it raises.
@@ -99,8 +99,8 @@ impl<'d> ValueCall<'d> {
     ) -> Result<Option<State>, Memory>
         requires clauses { IsValueSpec self.old.clauses.now }
         requires printable { All IsPrintable stack.old.values.items }
-        ensures does { let x = path_with self.old.cursor.value in IfOk result (λ raised. EndsIn (put_on (value_outcome self.old.clauses.now x.path.mode (context (line_of line.entry)) (trace_of x)) (held stack.old)) raised (held stack.new)) }
-        ensures costs { let x = path_with self.old.cursor.value in steps.new ≤ raised steps.old (value_cost x.path.mode (context (line_of line.entry)) (trace_of x)) }
+        ensures does { let x = asked_path self.old.inquiry in IfOk result (λ raised. EndsIn (put_on (value_outcome self.old.clauses.now x.path.mode (context (line_of line.entry)) (trace_of x)) (held stack.old)) raised (held stack.new)) }
+        ensures costs { let x = asked_path self.old.inquiry in steps.new ≤ raised steps.old (value_cost x.path.mode (context (line_of line.entry)) (trace_of x)) }
         ensures step { value_step self.new ≡ value_step self.old }
         ensures printable { All IsPrintable stack.new.values.items }
     {
@@ -118,13 +118,13 @@ impl<'d> ValueCall<'d> {
         steps: &mut Steps,
     ) -> Result<Option<State>, Memory>
         requires { IsValueSpec self.old.clauses.now }
-        ensures appends { let x = path_with self.old.cursor.value in AppendsOutcome (value_outcome self.old.clauses.now x.path.mode (context (line_of line.entry)) (trace_of x)) result out.old out.new }
-        ensures costs { let x = path_with self.old.cursor.value in steps.new ≤ raised steps.old (value_cost x.path.mode (context (line_of line.entry)) (trace_of x)) }
+        ensures appends { let x = asked_path self.old.inquiry in AppendsOutcome (value_outcome self.old.clauses.now x.path.mode (context (line_of line.entry)) (trace_of x)) result out.old out.new }
+        ensures costs { let x = asked_path self.old.inquiry in steps.new ≤ raised steps.old (value_cost x.path.mode (context (line_of line.entry)) (trace_of x)) }
         ensures step { value_step self.new ≡ value_step self.old }
     {
         json_value_field(
             alloc,
-            &mut *self.cursor,
+            &mut self.inquiry,
             line.context(),
             self.clauses,
             out,

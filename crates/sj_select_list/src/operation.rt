@@ -1,13 +1,13 @@
 // The operations by which values are found.
 
-use sj_cursor::Cursor;
+use sj_cursor::{Cursor, Inquiry};
 use sj_path_tree::Literal;
 use sj_sql_grammar::IsJsonCall;
 use sj_value::{ExistsAction, Nulls, QuerySpec, ValueSpec};
 
 /// How one value is found, or made of those that were found before it.
 ///
-/// Its `drop` is written out, so that whoever holds one gives it up by one call, with the cells of its cursor.
+/// Its `drop` is written out, so that whoever holds one gives it up by one call, with the inquiry or the cells of its path.
 pub enum Operation<'d> {
     /// This literal.
     Literal(&'d Literal),
@@ -45,12 +45,11 @@ impl<'d> Drop for Operation<'d> {
     }
 }
 
-/// JSON_EXISTS. The cursor of its path takes its memory once and is moved from one context item to the next, as in the other two. It is
-/// in a place of its own, so that an operation without a path is small.
+/// JSON_EXISTS. Its inquiry takes its memory once and is asked on one context item after another, as that of JSON_VALUE.
 #[derive(Drop)]
 pub struct ExistsCall<'d> {
-    /// The cursor of its path.
-    pub cursor: Box<Cursor<'d>>,
+    /// The inquiry of its path.
+    pub inquiry: Inquiry<'d>,
     /// What it gives where an error comes.
     pub on_error: ExistsAction,
 }
@@ -58,13 +57,14 @@ pub struct ExistsCall<'d> {
 /// JSON_VALUE.
 #[derive(Drop)]
 pub struct ValueCall<'d> {
-    /// The cursor of its path.
-    pub cursor: Box<Cursor<'d>>,
+    /// The inquiry of its path.
+    pub inquiry: Inquiry<'d>,
     /// The type that it returns, and what it gives where there is no item or an error comes.
     pub clauses: &'d ValueSpec,
 }
 
-/// JSON_QUERY.
+/// JSON_QUERY. The cursor of its path takes its memory once and is moved from one context item to the next. It is in a place of its own,
+/// so that an operation is small.
 #[derive(Drop)]
 pub struct QueryCall<'d> {
     /// The cursor of its path.

@@ -5,7 +5,7 @@ use Rattle.sj_select_list.specs.Operations.{exists, value, query, object, array,
 use Rattle.sj_select_list.specs.declared.operation.Operation.{Operation}
 use Rattle.sj_select_list.proofs.Appending.{made_and_last, last_alone, more_with_last}
 use Rattle.sj_select_list.proofs.build.+push_value.Goals as goal
-use Rattle.sj_select_list.proofs.build.+push_value.Goals.{push_value-in-Lit, push_value-in-Column, push_value-in-Exists+in_ok-cursor_of-in-Exists, push_value-in-Value+in_ok-cursor_of-in-Value, push_value-in-Query+in_ok-cursor_of-in-Query, push_value-in-IsJson, push_value-in-Object+in_ok-push_members-in-Object, push_value-in-Array+in_ok-push_values-in-Array}
+use Rattle.sj_select_list.proofs.build.+push_value.Goals.{push_value-in-Lit, push_value-in-Column, push_value-in-Exists+in_ok-inquiry_of-in-Exists, push_value-in-Value+in_ok-inquiry_of-in-Value, push_value-in-Query+in_ok-cursor_of-in-Query, push_value-in-IsJson, push_value-in-Object+in_ok-push_members-in-Object, push_value-in-Array+in_ok-push_values-in-Array}
 
 pub push_value-returns-clause-steps : goal.push_value-returns-clause-steps
 push_value-returns-clause-steps t c =
@@ -21,15 +21,15 @@ push_value-returns-clause-steps t c =
       | push_value-in-Column w ↦
           last_alone old made new last c.push.result c.push.ensures.ok whole (ap (λ (v : Vec Operation Global). v.items) w.operations-is)
           (ap (λ (o : Operation). step_of o ∷ []) w.operation-is ∙ ap (λ (v : BoundValue). steps_to (value_of v)) (sym w.in-Column.is))
-      | push_value-in-Exists+in_ok-cursor_of-in-Exists w ↦
+      | push_value-in-Exists+in_ok-inquiry_of-in-Exists w ↦
           last_alone old made new last c.push.result c.push.ensures.ok whole (ap (λ (v : Vec Operation Global). v.items) w.operations-is)
           (ap (λ (o : Operation). step_of o ∷ []) w.operation-is
-          ∙ ap (λ p. exists p w.in-Exists.on_error ∷ []) (w.in_ok-cursor_of-in-Exists.ensures ∙ ap path_with_of w.deref.ensures)
+          ∙ ap (λ p. exists p w.in-Exists.on_error ∷ []) (w.in_ok-inquiry_of-in-Exists.ensures ∙ ap path_with_of w.deref.ensures)
           ∙ ap (λ (v : BoundValue). steps_to (value_of v)) (sym w.in-Exists.is))
-      | push_value-in-Value+in_ok-cursor_of-in-Value w ↦
+      | push_value-in-Value+in_ok-inquiry_of-in-Value w ↦
           last_alone old made new last c.push.result c.push.ensures.ok whole (ap (λ (v : Vec Operation Global). v.items) w.operations-is)
           (ap (λ (o : Operation). step_of o ∷ []) w.operation-is
-          ∙ ap (λ p. value p w.deref-in-Value-2.result.now ∷ []) (w.in_ok-cursor_of-in-Value.ensures ∙ ap path_with_of w.deref-in-Value.ensures)
+          ∙ ap (λ p. value p w.deref-in-Value-2.result.now ∷ []) (w.in_ok-inquiry_of-in-Value.ensures ∙ ap path_with_of w.deref-in-Value.ensures)
           ∙ ap (λ s. value (path_with_of w.in-Value.path.value) s ∷ []) w.deref-in-Value-2.ensures
           ∙ ap (λ (v : BoundValue). steps_to (value_of v)) (sym w.in-Value.is))
       | push_value-in-Query+in_ok-cursor_of-in-Query w ↦
@@ -65,8 +65,8 @@ push_value-returns-clause-grows t c =
     (elim c.match-value.branch [
       | push_value-in-Lit w ↦ same _ (sym w.operations-is)
       | push_value-in-Column w ↦ same _ (sym w.operations-is)
-      | push_value-in-Exists+in_ok-cursor_of-in-Exists w ↦ same _ (sym w.operations-is)
-      | push_value-in-Value+in_ok-cursor_of-in-Value w ↦ same _ (sym w.operations-is)
+      | push_value-in-Exists+in_ok-inquiry_of-in-Exists w ↦ same _ (sym w.operations-is)
+      | push_value-in-Value+in_ok-inquiry_of-in-Value w ↦ same _ (sym w.operations-is)
       | push_value-in-Query+in_ok-cursor_of-in-Query w ↦ same _ (sym w.operations-is)
       | push_value-in-IsJson w ↦ same _ (sym w.operations-is)
       | push_value-in-Object+in_ok-push_members-in-Object w ↦
