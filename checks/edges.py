@@ -51,6 +51,7 @@ def check_edges(tally, program):
         check_changing_files(tally, program, folder)
         check_generated(tally, program, folder)
         check_cuts(tally, program, folder)
+        check_packets(tally, program, folder)
         check_streams(tally, program, folder)
         check_broken_reads(tally, program, folder)
         check_broken_writes(tally, program, folder)
@@ -220,6 +221,25 @@ def check_cuts(tally, program, folder):
         run.communicate()
     wanted = [TRUE_ROW % 1, FALSE_ROW % 2]
     tally.check("rows while the input is open", None if answers == wanted else f"it wrote {answers}, and not {wanted}")
+
+
+def check_packets(tally, program, folder):
+    """A few lines in each piece have the rows that they have all in one, through many pieces, short lines and long ones."""
+    entries = b"SELECT * FROM JSON_TABLE(doc, '$.x[*]' COLUMNS (n INTEGER PATH '$' ERROR ON ERROR));\n"
+    (folder / "packets.sql").write_bytes(MEMBER + NUMBER + entries)
+    forms = [b'{"n":%d,"x":[1,%d]}\n'] * 6 + [b'{"n":%d,"a":"' + b"long" * 700 + b'","x":[%d]}\n', b"\n", b'{"n":%d,"x":[true,%d]}\n', b'{"n":%d,"x":[%d\n']
+    lines = [form % (n, n)[: form.count(b"%d")] for n, form in enumerate(forms * 30)]
+    words = ["run", "packets.sql"]
+    wanted = program.run(words, b"".join(lines), folder)
+    for name, sizes in {"one line": [1], "a few lines": [1, 2, 3], "few lines and many": [1, 20, 2, 70, 5]}.items():
+        groups, at = [], 0
+        while at < len(lines):
+            size = sizes[len(groups) % len(sizes)]
+            groups.append(b"".join(lines[at : at + size]))
+            at += size
+        tally.check(f"{name} in each piece", difference(wanted, program.run_in_pieces(words, groups, folder)))
+        cut = [part for group in groups for part in (group[:-1], group[-1:]) if part]
+        tally.check(f"{name} in each piece, the LF of the last in one more", difference(wanted, program.run_in_pieces(words, cut, folder)))
 
 
 def next_row(stream):

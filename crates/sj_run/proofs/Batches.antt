@@ -163,6 +163,13 @@ drained_more keys old new b behind r = drained_same old new r.read.rest count r.
 
 -- ---- the lines of a batch
 
+-- what is asked of lines is asked of those in front, and then of the others
+pub both_prints : (K : List Bound) (all front others : List ReadLine) → all ≡ front ++ others → prints (batch_asked K all) ≡ followed_by (prints (batch_asked K front)) (prints (batch_asked K others))
+both_prints K all front others is = ap (λ (l : List ReadLine). prints (batch_asked K l)) is ∙ ap prints (batch_asked-append K front others) ∙ prints-append (batch_asked K front) (batch_asked K others)
+
+pub both_cost : (K : List Bound) (all front others : List ReadLine) → all ≡ front ++ others → cost (batch_asked K all) ≡ cost (batch_asked K front) + cost (batch_asked K others)
+both_cost K all front others is = ap (λ (l : List ReadLine). cost (batch_asked K l)) is ∙ ap cost (batch_asked-append K front others) ∙ cost-append (batch_asked K front) (batch_asked K others)
+
 pub batch_first : (K : List Bound) (lines : List ReadLine) (i : ℕ) (x : ReadLine) → i < length lines → x ≡ get_or lines i x → prints (batch_asked K (drop i lines)) ≡ followed_by (prints (asked_from 1 K x.number (line_read x.reading))) (prints (batch_asked K (drop (i + 1) lines)))
 batch_first K lines i x within is =
     ap (λ (l : List ReadLine). prints (batch_asked K l)) (drop_more lines i x within) ∙ ap (λ (y : ReadLine). prints (batch_asked K (y ∷ drop (i + 1) lines))) (sym is)
@@ -188,13 +195,6 @@ rows_first xs P i d x within same is =
     ap (drop i) (sym same) ∙ drop-map (λ (s : Seen). bound_of s.bound) i xs ∙ ap bounds_in (drop_more xs i d within)
     ∙ ap (λ (l : List Bound). bound_of (get_or xs i d).bound ∷ l) (sym (drop-map (λ (s : Seen). bound_of s.bound) (i + 1) xs) ∙ ap (drop (i + 1)) same)
     ∙ ap (λ (s : Seen). bound_of s.bound ∷ drop (i + 1) P) (sym is)
-
--- the same of statements
-pub statement_at : (xs : List BoundHeld) (i : ℕ) (x b : BoundHeld) → i < length xs → x ≡ get_or xs i x → b ≡ x → drop i (map bound_of xs) ≡ bound_of b ∷ drop (i + 1) (map bound_of xs)
-statement_at xs i x b within is same =
-    drop-map bound_of i xs ∙ ap (map bound_of) (drop_more xs i x within)
-    ∙ ap (λ (y : BoundHeld). bound_of y ∷ map bound_of (drop (i + 1) xs)) (sym is ∙ sym same)
-    ∙ ap (λ (l : List Bound). bound_of b ∷ l) (sym (drop-map bound_of (i + 1) xs))
 
 -- rows that were asked keep their statement
 pub rows_asked : (xs : List Seen) (i : ℕ) (d y : Seen) → y.bound ≡ (get_or xs i d).bound → bounds_in (set xs i y) ≡ bounds_in xs

@@ -13,7 +13,7 @@ use Rattle.sj_page.specs.Sides.{OutputSide, Grew}
 use Rattle.sj_page.specs.Pages.{Print, followed_by, PrintState, Printed, IsCause, Stopped}
 use Rattle.sj_page.specs.declared.page.Page.{Page}
 use Rattle.sj_page.proofs.Writing.{grew_more, grew_none}
-use Rattle.sj_page.proofs.Printing.{same_print, printed_none, printed_more}
+use Rattle.sj_page.proofs.Printing.{same_print, printed_none, printed_more, stopped_before}
 use Rattle.sj_file.specs.declared.status.Status.{Status}
 use Rattle.sj_file.specs.declared.status.Status.TheVariants.{Done, Usage, Refused, ShelfFault, ReadFault, WriteFault, Memory, InputLimit, FileTooLong}
 use Rattle.sj_file.specs.Job.{Job}
@@ -343,6 +343,13 @@ last_allows K h p rest none done =
 pub end_allows : (K : Job) (h p rest : List ℕ) (left : Option (List ℕ)) → IsAtEnd left → p ≡ [] → (left ≡ Some rest) ⊎ (rest ≡ []) → whole_allowed K h + cost (last_asked K h) ≤ allowed K ((h ++ p) ++ rest)
 end_allows K h p rest left end none (inl e) = last_allows K h p rest none (subst IsAtEnd e end)
 end_allows K h p rest left end none (inr e) = last_allows K h p rest none e
+
+-- Memory ran out before more was read.
+pub memory_ends : (K : Job) (from now : InputSide) (to : OutputSide) (to' : PrintState) (held : HeldLines) (h : List ℕ) → GoesOn K from now to to' held h → held.fed ≤ max_input → Streamed K from now to to' Memory
+memory_ends K from now to to' held h o fits =
+    let within : IsPrefix (whole_output K h ++ []) (whole_output K (h ++ [])) = subst (λ (l : List ℕ). IsPrefix l (whole_output K (h ++ []))) (sym (append-nil (whole_output K h))) (_, whole_output-append K h []) in
+    stops K from now now to to' to' held h [] [] cause.Memory 0 o (consumes_none now.left) refl (omega arith) (λ rest e. piece_allows K h [] rest now.left 0 (omega arith) e) (omega (arith, fits)) (omega arith)
+    (piece_within K h [] [] now.left within) (stopped_before (prints []) to' to' refl)
 
 -- what was written is a front of the output of all bytes
 front_by_why : (K : Job) (from from' : InputSide) (to : OutputSide) (to' : PrintState) (bytes text rest : List ℕ) (status : Status) → from'.left ≡ Some rest → IsWhy K from from' to to' bytes text status → IsPrefix text (output K (bytes ++ rest))

@@ -13,13 +13,26 @@ use std::alloc::Global;
 
 /// How many lines are read before their rows are made: the cursors of the statements, which are made for the documents
 /// that are there, serve all of them.
-const LINES_TOGETHER: usize = 64;
+pub(crate) const LINES_TOGETHER: usize = 64;
+
+/// How many bytes a small piece of the input has at most, and a short line.
+const SMALL: usize = 2048;
 
 /// A line that is not blank, with its number.
 #[derive(Drop)]
 pub(crate) struct ReadLine {
     pub(crate) number: u64,
     pub(crate) reading: Reading,
+}
+
+impl ReadLine {
+    /// No line, in a place for one.
+    pub(crate) fn none() -> ReadLine {
+        ReadLine {
+            number: 0,
+            reading: Reading::NotJson,
+        }
+    }
 }
 
 /// What a line was read as.
@@ -48,10 +61,19 @@ pub(crate) enum Behind {
     Perhaps,
 }
 
+/// How long the lines of a batch are.
+#[derive(Clone, Copy)]
+pub(crate) enum Lengths {
+    /// All that were read are short, so their documents and all spare memory are small.
+    Short,
+    Any,
+}
+
 /// The lines that were read last, and the memory of earlier ones, which the next ones take.
 #[derive(Drop)]
 pub(crate) struct Batch {
-    lines: Vec<ReadLine>,
+    pub(crate) lines: Vec<ReadLine>,
+    pub(crate) lengths: Lengths,
     spare: Vec<DocBuilder>,
     // for the texts of strings with escapes
     buffer: Vec<u8>,
@@ -59,21 +81,22 @@ pub(crate) struct Batch {
 
 impl Batch {
     /// No lines. It takes no memory.
-    pub(crate) fn new(alloc: Global) -> Batch
+    fn new(alloc: Global, lengths: Lengths) -> Batch
         ensures { result.lines.items ≡ [] }
     {
         Batch {
             lines: Vec::new(alloc),
+            lengths,
             spare: Vec::new(alloc),
             buffer: Vec::new(alloc),
         }
     }
 
-    /// The lines that were read last.
-    pub(crate) fn lines(&self) -> &[ReadLine]
-        ensures { result.now ≡ self.now.lines.items }
+    /// The lines that were read last. They may be taken out, since the next ones are read in place of them.
+    pub(crate) fn lines_mut(&mut self) -> &mut [ReadLine]
+        ensures { result.now ≡ self.old.lines.items }
     {
-        self.lines.as_slice()
+        self.lines.as_mut_slice()
     }
 
     #[tactic(auto, using(crate::proofs::Batches::read_none, crate::proofs::Batches::read_next, crate::proofs::Batches::read_all, crate::proofs::Batches::read_some))]
@@ -126,11 +149,43 @@ impl Batch {
                 if is_blank(bytes) {
                     return Ok(());
                 }
+                if bytes.len() > SMALL {
+                    self.lengths = Lengths::Any;
+                }
                 reading_of(alloc, keys, bytes, &mut self.spare, &mut self.buffer)?
             }
         };
         self.lines.push(ReadLine { number, reading })?;
         Ok(())
+    }
+}
+
+/// The lines of small pieces of the input, and those of others. The memory of small pieces stays small.
+#[derive(Drop)]
+pub(crate) struct Batches {
+    small: Batch,
+    large: Batch,
+}
+
+impl Batches {
+    /// None. They take no memory.
+    pub(crate) fn new(alloc: Global) -> Batches {
+        Batches {
+            small: Batch::new(alloc, Lengths::Short),
+            large: Batch::new(alloc, Lengths::Any),
+        }
+    }
+
+    /// The batch for the lines that end in a piece of so many bytes. Where a small piece had the end of a long line, the memory is
+    /// given back before the next one.
+    pub(crate) fn of_piece(&mut self, alloc: Global, length: usize) -> &mut Batch {
+        if length > SMALL {
+            return &mut self.large;
+        }
+        if let Lengths::Any = self.small.lengths {
+            self.small = Batch::new(alloc, Lengths::Short);
+        }
+        &mut self.small
     }
 }
 

@@ -11,6 +11,7 @@ mod batch;
 mod check;
 mod command;
 mod generate;
+mod kept;
 mod notes;
 mod rows;
 mod stream;

@@ -10,6 +10,7 @@ ghost use Rattle.sj_run.specs.Output.{rows_given, rows_print, prints, cost_given
 ghost use Rattle.sj_run.specs.Batch.{line_read, batch_asked, bounds_in};
 
 use crate::batch::{Batch, Behind, ReadLine, Reading};
+use crate::kept::KeptRows;
 use sj_base::{Memory, Steps, push};
 use sj_bound::Bound;
 use sj_file::Job;
@@ -32,7 +33,7 @@ fn line_of_reading(reading: &Reading) -> LineDoc<'_>
 }
 
 /// The rows of each statement. They take the memory of their cursors here, and then go from line to line.
-fn rows_of<'a>(alloc: Global, statements: &'a [Bound]) -> Result<Vec<RowsOf<'a>>, Memory>
+pub(crate) fn rows_of<'a>(alloc: Global, statements: &'a [Bound]) -> Result<Vec<RowsOf<'a>>, Memory>
     requires { AreSound statements.now }
     ensures { IfOk result (λ rows. bounds_in rows.items ≡ map bound_of statements.now) }
 {
@@ -116,51 +117,31 @@ fn print_rows<'a, O: Sink>(
     Ok(())
 }
 
-/// Prints the rows of the statements for a line that is read alone, as from small packets. The cursors of a statement are given up
-/// before those of the next one are made, so the same memory serves all statements, and is at hand. It stands out of the way of a
-/// batch.
-#[inline(never)]
-fn print_alone<O: Sink>(
-    alloc: Global,
+/// Prints the rows of the statements for lines, one after the other.
+fn print_each<'a, O: Sink>(
     out: &mut O,
     page: &mut Page,
-    statements: &[Bound],
-    line: &ReadLine,
+    rows: &mut [RowsOf<'a>],
+    lines: &'a [ReadLine],
     steps: &mut Steps,
 ) -> Result<(), Stop>
-    requires sound { AreSound statements.now }
-    requires few { length statements.now < statement_limit }
-    ensures prints { Prints (prints (asked_from 1 (map bound_of statements.now) line.now.number (line_read line.now.reading)))
+    requires { length rows.old < statement_limit }
+    ensures prints { Prints (prints (batch_asked (bounds_in rows.old) lines.now))
         (print_state O.taken O.size O.faults out.old page.old) (print_state O.taken O.size O.faults out.new page.new) result }
-    ensures costs { steps.new ≤ raised steps.old (cost (asked_from 1 (map bound_of statements.now) line.now.number (line_read line.now.reading))) }
+    ensures costs { steps.new ≤ raised steps.old (cost (batch_asked (bounds_in rows.old) lines.now)) }
+    ensures bounds { bounds_in rows.new ≡ bounds_in rows.old }
 {
-    let mut number: u64 = 1;
-    for statement in statements {
-        let seen = line_of_reading(&line.reading);
-        let mut rows = match RowsOf::new(alloc, statement, seen) {
-            Ok(rows) => rows,
-            Err(_) => return Err(Stop::Memory),
-        };
-        match print_statement(
-            out,
-            page,
-            line.number,
-            number as u32,
-            &mut rows,
-            seen,
-            steps,
-        ) {
+    for line in lines {
+        match print_rows(out, page, rows, line, steps) {
             Ok(()) => {}
             Err(stop) => return Err(stop),
         }
-        number += 1;
     }
     Ok(())
 }
 
-/// Prints the rows of lines that were read. The cursors of the statements are made for all of them together, and for a line that is
-/// alone by one statement after the other.
-fn print_batch<O: Sink>(
+/// Prints the rows of lines by rows that are made for them alone.
+fn print_by_new_rows<O: Sink>(
     alloc: Global,
     out: &mut O,
     page: &mut Page,
@@ -173,24 +154,59 @@ fn print_batch<O: Sink>(
         (print_state O.taken O.size O.faults out.old page.old) (print_state O.taken O.size O.faults out.new page.new) result }
     ensures costs { steps.new ≤ raised steps.old (cost (batch_asked (job_of job.now).statements lines.now)) }
 {
-    // A piece without a line to print, as in small packets, costs no cursors.
+    // A piece without a line to print, as small ones are, costs no rows.
     if lines.is_empty() {
         return Ok(());
     }
-    if lines.len() == 1 {
-        return print_alone(alloc, out, page, &job.statements, &lines[0], steps);
+    match rows_of(alloc, &job.statements) {
+        Ok(mut rows) => print_each(out, page, rows.as_mut_slice(), lines, steps),
+        Err(_) => Err(Stop::Memory),
     }
-    let mut rows = match rows_of(alloc, &job.statements) {
-        Ok(rows) => rows,
-        Err(_) => return Err(Stop::Memory),
-    };
-    for line in lines {
-        match print_rows(out, page, rows.as_mut_slice(), line, steps) {
-            Ok(()) => {}
-            Err(stop) => return Err(stop),
-        }
+}
+
+/// Prints the rows of lines by the kept rows, which have places for so many.
+fn print_by_kept_rows<O: Sink>(
+    out: &mut O,
+    page: &mut Page,
+    kept: &mut KeptRows<'_>,
+    lines: &mut [ReadLine],
+    steps: &mut Steps,
+) -> Result<(), Stop>
+    requires few { length kept.old.rows.items < statement_limit }
+    requires room { length lines.old ≤ length kept.old.places.now }
+    ensures prints { Prints (prints (batch_asked (bounds_in kept.old.rows.items) lines.old))
+        (print_state O.taken O.size O.faults out.old page.old) (print_state O.taken O.size O.faults out.new page.new) result }
+    ensures costs { steps.new ≤ raised steps.old (cost (batch_asked (bounds_in kept.old.rows.items) lines.old)) }
+    ensures bounds { bounds_in kept.new.rows.items ≡ bounds_in kept.old.rows.items }
+{
+    let placed = kept.place(lines);
+    print_each(out, page, kept.rows.as_mut_slice(), placed, steps)
+}
+
+/// Prints the rows of the lines of a batch. Short lines, as those of small pieces, are asked by the kept rows as far as there are places,
+/// and others by rows that are made for all of them together.
+fn print_batch<O: Sink>(
+    alloc: Global,
+    out: &mut O,
+    page: &mut Page,
+    job: &Job,
+    kept: &mut KeptRows<'_>,
+    batch: &mut Batch,
+    steps: &mut Steps,
+) -> Result<(), Stop>
+    requires ready { IsReady job.now }
+    requires rows { bounds_in kept.old.rows.items ≡ (job_of job.now).statements }
+    ensures prints { Prints (prints (batch_asked (job_of job.now).statements batch.old.lines.items))
+        (print_state O.taken O.size O.faults out.old page.old) (print_state O.taken O.size O.faults out.new page.new) result }
+    ensures costs { steps.new ≤ raised steps.old (cost (batch_asked (job_of job.now).statements batch.old.lines.items)) }
+    ensures rows { bounds_in kept.new.rows.items ≡ (job_of job.now).statements }
+{
+    let count = kept.placeable(batch);
+    let (front, others) = batch.lines_mut().split_at_mut(count);
+    match print_by_kept_rows(out, page, kept, front, steps) {
+        Ok(()) => print_by_new_rows(alloc, out, page, job, others, steps),
+        Err(stop) => Err(stop),
     }
-    Ok(())
 }
 
 /// Prints the rows of the lines that wait. The page is written where it is long, in the middle of a line too.
@@ -201,20 +217,23 @@ pub(crate) fn print_lines<O: Sink>(
     job: &Job,
     lines: &mut Lines,
     batch: &mut Batch,
+    kept: &mut KeptRows<'_>,
     steps: &mut Steps,
 ) -> Result<(), Stop>
-    requires { IsReady job.now }
+    requires ready { IsReady job.now }
+    requires rows { bounds_in kept.old.rows.items ≡ (job_of job.now).statements }
     ensures prints { Prints (prints (lines_asked (job_of job.now) (lines.old.given + 1) lines.old.waiting))
         (print_state O.taken O.size O.faults out.old page.old) (print_state O.taken O.size O.faults out.new page.new) result }
     ensures costs { steps.new ≤ raised steps.old (cost (lines_asked (job_of job.now) (lines.old.given + 1) lines.old.waiting)) }
     ensures drained { OnOk result (lines.new ≡ drained lines.old) }
+    ensures rows { bounds_in kept.new.rows.items ≡ (job_of job.now).statements }
 {
     loop {
         let behind = match batch.read_on(alloc, job.keys, lines) {
             Ok(behind) => behind,
             Err(_) => return Err(Stop::Memory),
         };
-        match print_batch(alloc, out, page, job, batch.lines(), steps) {
+        match print_batch(alloc, out, page, job, kept, batch, steps) {
             Ok(()) => {}
             Err(stop) => return Err(stop),
         }

@@ -8,12 +8,14 @@ ghost use Rattle.sj_rows.specs.Lines.{max_input};
 ghost use Rattle.sj_file.specs.Job.{job_of, IsReady};
 ghost use Rattle.sj_file.specs.Piece.{max_piece};
 ghost use Rattle.sj_run.specs.Input.{InputSide, input_at};
+ghost use Rattle.sj_run.specs.Batch.{bounds_in};
 ghost use Rattle.sj_run.specs.Output.{prints, cost, lines_asked};
 ghost use Rattle.sj_run.specs.Ran.{out_at};
 ghost use Rattle.sj_run.specs.Stream as spec;
 ghost use Rattle.sj_run.specs.Stream.{GoesOn, Streamed, Turned};
 
-use crate::batch::Batch;
+use crate::batch::{Batch, Batches, ReadLine};
+use crate::kept::{KeptRows, new_places};
 use crate::rows::print_lines;
 use sj_base::Steps;
 use sj_file::{Job, MAX_PIECE, Status, front, piece_len};
@@ -37,18 +39,21 @@ fn flush<O: Sink>(
     job: &Job,
     lines: &mut Lines,
     batch: &mut Batch,
+    kept: &mut KeptRows<'_>,
     out: &mut O,
     page: &mut Page,
     steps: &mut Steps,
 ) -> Result<(), Stop>
-    requires { IsReady job.now }
+    requires ready { IsReady job.now }
+    requires rows { bounds_in kept.old.rows.items ≡ (job_of job.now).statements }
     ensures prints { Prints (prints (lines_asked (job_of job.now) (lines.old.given + 1) lines.old.waiting))
         (print_state O.taken O.size O.faults out.old page.old) (print_state O.taken O.size O.faults out.new page.new) result }
     ensures costs { steps.new ≤ raised steps.old (cost (lines_asked (job_of job.now) (lines.old.given + 1) lines.old.waiting)) }
     ensures written { OnOk result (page.new.text ≡ []) }
     ensures drained { OnOk result (lines.new ≡ drained lines.old) }
+    ensures rows { bounds_in kept.new.rows.items ≡ (job_of job.now).statements }
 {
-    match print_lines(alloc, out, page, job, lines, batch, steps) {
+    match print_lines(alloc, out, page, job, lines, batch, kept, steps) {
         Ok(()) => page.write(out),
         Err(stop) => Err(stop),
     }
@@ -72,29 +77,33 @@ fn turn<I: Source, O: Sink>(
     buffer: &mut [u8],
     room: usize,
     lines: &mut Lines,
-    batch: &mut Batch,
+    batches: &mut Batches,
+    kept: &mut KeptRows<'_>,
     out: &mut O,
     page: &mut Page,
     steps: &mut Steps,
 ) -> Progress
     requires ready { IsReady job.now }
+    requires rows { bounds_in kept.old.rows.items ≡ (job_of job.now).statements }
     requires some_room { 0 < room }
     requires a_piece { length buffer.old ≤ max_piece }
     requires within { room ≤ length buffer.old }
     requires limit { lines.old.fed + room ≤ max_input }
     requires goes_on { lines.old.ended ≡ false }
-    ensures { (from : InputSide) (to : OutputSide) (bytes : List ℕ) →
+    ensures turned { (from : InputSide) (to : OutputSide) (bytes : List ℕ) →
         GoesOn (job_of job.now) from (input_at I.Source input.old steps.old) to (print_state O.taken O.size O.faults out.old page.old) lines.old bytes →
         Turned (job_of job.now) from (input_at I.Source input.new steps.new) to (print_state O.taken O.size O.faults out.new page.new) lines.old lines.new result }
+    ensures rows { bounds_in kept.new.rows.items ≡ (job_of job.now).statements }
 {
     let piece = &mut buffer[..room];
     let n = match input.read(piece) {
         Ok(n) => n,
         Err(_) => return Progress::Over(Status::ReadFault),
     };
+    let batch = batches.of_piece(alloc, n);
     if n == 0 {
         lines.finish();
-        return match flush(alloc, job, lines, batch, out, page, steps) {
+        return match flush(alloc, job, lines, batch, kept, out, page, steps) {
             Ok(()) => Progress::Over(Status::Done),
             Err(stop) => Progress::Over(status_of(stop)),
         };
@@ -103,9 +112,49 @@ fn turn<I: Source, O: Sink>(
         Ok(()) => {}
         Err(_) => return Progress::Over(Status::Memory),
     }
-    match flush(alloc, job, lines, batch, out, page, steps) {
+    match flush(alloc, job, lines, batch, kept, out, page, steps) {
         Ok(()) => Progress::More(n),
         Err(stop) => Progress::Over(status_of(stop)),
+    }
+}
+
+/// Turn after turn, up to so many bytes, as long as there are places beside the kept rows. There is at least one turn.
+fn turns<I: Source, O: Sink>(
+    alloc: Global,
+    job: &Job,
+    input: &mut I,
+    buffer: &mut [u8],
+    most: u64,
+    lines: &mut Lines,
+    batches: &mut Batches,
+    kept: &mut KeptRows<'_>,
+    out: &mut O,
+    page: &mut Page,
+    steps: &mut Steps,
+) -> Progress
+    requires ready { IsReady job.now }
+    requires rows { bounds_in kept.old.rows.items ≡ (job_of job.now).statements }
+    requires some { 0 < most }
+    requires a_piece { length buffer.old ≡ max_piece }
+    requires limit { lines.old.fed + most ≡ max_input }
+    requires goes_on { (from : InputSide) × (to : OutputSide) × (bytes : List ℕ) ×
+        GoesOn (job_of job.now) from (input_at I.Source input.old steps.old) to (print_state O.taken O.size O.faults out.old page.old) lines.old bytes }
+    ensures { (from : InputSide) (to : OutputSide) (bytes : List ℕ) →
+        GoesOn (job_of job.now) from (input_at I.Source input.old steps.old) to (print_state O.taken O.size O.faults out.old page.old) lines.old bytes →
+        Turned (job_of job.now) from (input_at I.Source input.new steps.new) to (print_state O.taken O.size O.faults out.new page.new) lines.old lines.new result }
+{
+    let mut taken: u64 = 0;
+    loop {
+        let room = piece_len(most - taken);
+        match turn(
+            alloc, job, input, buffer, room, lines, batches, kept, out, page, steps,
+        ) {
+            Progress::More(n) => taken += n as u64,
+            Progress::Over(status) => return Progress::Over(status),
+        }
+        if taken == most || !kept.has_place() {
+            return Progress::More(taken as usize);
+        }
     }
 }
 
@@ -123,18 +172,31 @@ pub(crate) fn stream<I: Source, O: Sink>(
     ensures { Streamed (job_of job.now) (input_at I.Source input.old steps.old) (input_at I.Source input.new steps.new)
         (out_at O.Sink out.old) (print_state O.taken O.size O.faults out.new page.new) result }
 {
-    match vec![in alloc; 0u8; MAX_PIECE] {
-        Ok(mut buffer) => stream_by(alloc, job, input, buffer.as_mut_slice(), out, page, steps),
-        Err(_) => Status::Memory,
-    }
+    let Ok(mut buffer) = vec![in alloc; 0u8; MAX_PIECE] else {
+        return Status::Memory;
+    };
+    let Ok(mut places) = new_places(alloc) else {
+        return Status::Memory;
+    };
+    stream_by(
+        alloc,
+        job,
+        input,
+        buffer.as_mut_slice(),
+        places.as_mut_slice(),
+        out,
+        page,
+        steps,
+    )
 }
 
-/// The same, in pieces of the buffer's length.
+/// The same, in pieces of the buffer's length, with these places for lines.
 fn stream_by<I: Source, O: Sink>(
     alloc: Global,
     job: &Job,
     input: &mut I,
     buffer: &mut [u8],
+    places: &mut [ReadLine],
     out: &mut O,
     page: &mut Page,
     steps: &mut Steps,
@@ -146,12 +208,26 @@ fn stream_by<I: Source, O: Sink>(
         (out_at O.Sink out.old) (print_state O.taken O.size O.faults out.new page.new) result }
 {
     let mut lines = Lines::new(alloc);
-    let mut batch = Batch::new(alloc);
+    let mut batches = Batches::new(alloc);
     let mut taken: u64 = 0;
     while taken < MAX_INPUT {
-        let room = piece_len(MAX_INPUT - taken);
-        match turn(
-            alloc, job, input, buffer, room, &mut lines, &mut batch, out, page, steps,
+        let most = MAX_INPUT - taken;
+        let mut kept = match KeptRows::new(alloc, &job.statements, places) {
+            Ok(kept) => kept,
+            Err(_) => return Status::Memory,
+        };
+        match turns(
+            alloc,
+            job,
+            input,
+            buffer,
+            most,
+            &mut lines,
+            &mut batches,
+            &mut kept,
+            out,
+            page,
+            steps,
         ) {
             Progress::More(n) => taken += n as u64,
             Progress::Over(status) => return status,

@@ -1,51 +1,43 @@
-use Rattle.std.proofs.Common.{rules, ◌≡◌, ◌<◌, ◌≤◌, ◌∙◌, ap, subst, arith, List, length}
+use Rattle.std.proofs.Common.{◌≤◌, ◌∙◌, List, sym, subst, arith}
 use Rattle.sj_base.specs.Count.{raised}
 use Rattle.sj_bound.specs.Bound.{Bound}
-use Rattle.sj_page.specs.Pages.{print_state, Printed, Stopped}
-use Rattle.sj_page.proofs.Printing.{printing_starts, printing_more, printing_stops}
+use Rattle.sj_page.specs.Pages.{Print, print_state, Printed, Stopped}
+use Rattle.sj_page.proofs.Printing.{prints_same, prints_more, stopped_early}
 use Rattle.sj_file.specs.Job.{job_of}
-use Rattle.sj_run.specs.Batch.{bounds_in, line_read}
-use Rattle.sj_run.specs.Output.{asked_from, prints, cost}
-use Rattle.sj_run.proofs.Batches.{batch_first, batch_first_cost, rows_kept}
-use Rattle.sj_run.proofs.Turns.{cost_step, cost_stop}
+use Rattle.sj_run.specs.Batch.{batch_asked}
+use Rattle.sj_run.specs.Output.{prints, cost}
+use Rattle.sj_run.proofs.Batches.{both_prints, both_cost}
 use Rattle.sj_run.proofs.rows.print_batch.Goals as goal
 
-pub loop-line-init : goal.loop-line-init
-loop-line-init g c = record { bounds = c.in-Ok.ensures ∙ search rules; printing = printing_starts _ _; costs = omega arith }
-
-pub loop-line-preserved : goal.loop-line-preserved
-loop-line-preserved g c =
+pub returns-in-Ok-clause-prints : goal.returns-in-Ok-clause-prints
+returns-in-Ok-clause-prints g c =
     let side = print_state g.O.Sink.taken g.O.Sink.size g.O.Sink.faults in
-    let statements : List Bound = (job_of c.args.job.now).statements in
-    let i = c.loop-line.line-index in
-    let x = c.line-item.result in
-    let within : i < length c.args.lines.now = omega arith in
-    let same : bounds_in c.as_mut_slice.result.now ≡ statements = ap bounds_in c.as_mut_slice.ensures.value ∙ c.loop-line.invariant.bounds in
-    let printed = subst (λ (b : List Bound). Printed (prints (asked_from 1 b x.number (line_read x.reading))) (side c.loop-line.out c.loop-line.page) (side c.print_rows.new.out c.print_rows.new.page)) same c.in-Ok-print_rows.ensures.prints in
-    let spent = subst (λ (b : List Bound). c.print_rows.new.steps ≤ raised c.loop-line.steps (cost (asked_from 1 b x.number (line_read x.reading)))) same c.print_rows.ensures.costs in
-    record {
-      bounds = rows_kept c.print_rows.new.rows _ _ statements (omega arith) (c.print_rows.ensures.bounds ∙ same);
-      printing = printing_more _ _ _ _ _ _ _ c.loop-line.invariant.printing (batch_first statements c.args.lines.now i x within c.line-item.is) printed;
-      costs = cost_step _ _ _ _ _ _ _ spent (batch_first_cost statements c.args.lines.now i x within c.line-item.is) c.loop-line.invariant.costs;
-    }
+    let K : List Bound = (job_of c.args.job.now).statements in
+    let parts = c.split_at_mut-front.result in
+    let printed = subst (λ (b : List Bound). Printed (prints (batch_asked b parts.0.now)) (side c.args.out.now c.args.page.now) (side c.print_by_kept_rows.new.out c.print_by_kept_rows.new.page)) c.requires.rows c.in-Ok.ensures.prints in
+    prints_same _ _ _ _ _ (sym (both_prints K c.args.batch.now.lines.items parts.0.now parts.1.now (sym c.lines_mut.ensures ∙ c.split_at_mut-front.ensures.value)))
+    (prints_more _ _ _ _ _ _ printed c.print_by_new_rows.ensures.prints)
 
-pub returns-in-Err-print_rows-clause-prints : goal.returns-in-Err-print_rows-clause-prints
-returns-in-Err-print_rows-clause-prints g c =
+pub returns-in-Ok-clause-costs : goal.returns-in-Ok-clause-costs
+returns-in-Ok-clause-costs g c =
+    let K : List Bound = (job_of c.args.job.now).statements in
+    let parts = c.split_at_mut-front.result in
+    let spent = subst (λ (b : List Bound). c.print_by_kept_rows.new.steps ≤ raised c.args.steps.now (cost (batch_asked b parts.0.now))) c.requires.rows c.print_by_kept_rows.ensures.costs in
+    omega (arith, both_cost K c.args.batch.now.lines.items parts.0.now parts.1.now (sym c.lines_mut.ensures ∙ c.split_at_mut-front.ensures.value), spent, c.print_by_new_rows.ensures.costs)
+
+pub returns-in-Err-clause-prints : goal.returns-in-Err-clause-prints
+returns-in-Err-clause-prints g c =
     let side = print_state g.O.Sink.taken g.O.Sink.size g.O.Sink.faults in
-    let statements : List Bound = (job_of c.args.job.now).statements in
-    let i = c.loop-line.line-index in
-    let x = c.line-item.result in
-    let within : i < length c.args.lines.now = omega arith in
-    let same : bounds_in c.as_mut_slice.result.now ≡ statements = ap bounds_in c.as_mut_slice.ensures.value ∙ c.loop-line.invariant.bounds in
-    let stopped = subst (λ (b : List Bound). Stopped (prints (asked_from 1 b x.number (line_read x.reading))) (side c.loop-line.out c.loop-line.page) (side c.print_rows.new.out c.print_rows.new.page) c.in-Err-print_rows.stop) same c.in-Err-print_rows.ensures.prints in
-    printing_stops _ _ _ _ _ _ _ _ c.loop-line.invariant.printing (batch_first statements c.args.lines.now i x within c.line-item.is) stopped
+    let K : List Bound = (job_of c.args.job.now).statements in
+    let parts = c.split_at_mut-front.result in
+    let stopped = subst (λ (b : List Bound). Stopped (prints (batch_asked b parts.0.now)) (side c.args.out.now c.args.page.now) (side c.print_by_kept_rows.new.out c.print_by_kept_rows.new.page) c.in-Err.stop) c.requires.rows c.in-Err.ensures.prints in
+    subst (λ (p : Print). Stopped p (side c.args.out.now c.args.page.now) (side c.print_by_kept_rows.new.out c.print_by_kept_rows.new.page) c.in-Err.stop)
+    (sym (both_prints K c.args.batch.now.lines.items parts.0.now parts.1.now (sym c.lines_mut.ensures ∙ c.split_at_mut-front.ensures.value)))
+    (stopped_early (prints (batch_asked K parts.0.now)) (prints (batch_asked K parts.1.now)) _ _ c.in-Err.stop stopped)
 
-pub returns-in-Err-print_rows-clause-costs : goal.returns-in-Err-print_rows-clause-costs
-returns-in-Err-print_rows-clause-costs g c =
-    let statements : List Bound = (job_of c.args.job.now).statements in
-    let i = c.loop-line.line-index in
-    let x = c.line-item.result in
-    let within : i < length c.args.lines.now = omega arith in
-    let same : bounds_in c.as_mut_slice.result.now ≡ statements = ap bounds_in c.as_mut_slice.ensures.value ∙ c.loop-line.invariant.bounds in
-    let spent = subst (λ (b : List Bound). c.print_rows.new.steps ≤ raised c.loop-line.steps (cost (asked_from 1 b x.number (line_read x.reading)))) same c.print_rows.ensures.costs in
-    cost_stop _ _ _ _ _ _ _ spent (batch_first_cost statements c.args.lines.now i x within c.line-item.is) c.loop-line.invariant.costs
+pub returns-in-Err-clause-costs : goal.returns-in-Err-clause-costs
+returns-in-Err-clause-costs g c =
+    let K : List Bound = (job_of c.args.job.now).statements in
+    let parts = c.split_at_mut-front.result in
+    let spent = subst (λ (b : List Bound). c.print_by_kept_rows.new.steps ≤ raised c.args.steps.now (cost (batch_asked b parts.0.now))) c.requires.rows c.print_by_kept_rows.ensures.costs in
+    omega (arith, both_cost K c.args.batch.now.lines.items parts.0.now parts.1.now (sym c.lines_mut.ensures ∙ c.split_at_mut-front.ensures.value), spent)

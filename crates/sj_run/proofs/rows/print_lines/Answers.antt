@@ -8,32 +8,33 @@ use Rattle.sj_run.proofs.Turns.{cost_step, cost_stop}
 use Rattle.sj_run.proofs.rows.print_lines.Goals as goal
 
 pub loop-behind-init : goal.loop-behind-init
-loop-behind-init g c = record { printing = printing_starts _ _; costs = omega arith; kept = refl }
+loop-behind-init g c = record { printing = printing_starts _ _; costs = omega arith; kept = refl; rows = c.requires.rows }
 
 pub returns-in-Err-clause-prints : goal.returns-in-Err-clause-prints
 returns-in-Err-clause-prints g c = printing_memory _ _ _ _ c.loop-behind.invariant.printing
 
 pub returns-in-Err-print_batch-clause-prints : goal.returns-in-Err-print_batch-clause-prints
 returns-in-Err-print_batch-clause-prints g c =
-    printing_stops _ _ _ _ _ _ _ _ c.loop-behind.invariant.printing (waiting_prints (job_of c.args.job.now) _ _ _ _ _ c.in-Ok.ensures c.lines.ensures) c.in-Err-print_batch.ensures.prints
+    printing_stops _ _ _ _ _ _ _ _ c.loop-behind.invariant.printing (waiting_prints (job_of c.args.job.now) _ _ _ _ _ c.in-Ok.ensures refl) c.in-Err-print_batch.ensures.prints
 
 pub returns-in-Err-print_batch-clause-costs : goal.returns-in-Err-print_batch-clause-costs
 returns-in-Err-print_batch-clause-costs g c =
-    cost_stop _ _ _ _ _ _ _ c.print_batch.ensures.costs (waiting_cost (job_of c.args.job.now) _ _ _ _ _ c.in-Ok.ensures c.lines.ensures) c.loop-behind.invariant.costs
+    cost_stop _ _ _ _ _ _ _ c.print_batch.ensures.costs (waiting_cost (job_of c.args.job.now) _ _ _ _ _ c.in-Ok.ensures refl) c.loop-behind.invariant.costs
 
 pub returns-in-Nothing-clause-prints : goal.returns-in-Nothing-clause-prints
 returns-in-Nothing-clause-prints g c =
     let read = subst (λ (b : Behind). ReadOn c.args.job.now.keys c.loop-behind.lines c.read_on.new.waiting c.read_on.new.self.lines.items b) c.in-Nothing.is c.in-Ok.ensures in
-    printing_done _ _ _ _ (printing_more _ _ _ _ _ _ _ c.loop-behind.invariant.printing (waiting_prints (job_of c.args.job.now) _ _ _ _ _ c.in-Ok.ensures c.lines.ensures) c.in-Ok-print_batch.ensures.prints)
+    printing_done _ _ _ _ (printing_more _ _ _ _ _ _ _ c.loop-behind.invariant.printing (waiting_prints (job_of c.args.job.now) _ _ _ _ _ c.in-Ok.ensures refl) c.in-Ok-print_batch.ensures.prints)
     (none_waits (job_of c.args.job.now) _ _ _ read)
 
 pub returns-in-Nothing-clause-costs : goal.returns-in-Nothing-clause-costs
 returns-in-Nothing-clause-costs g c =
-    cost_stop _ _ _ _ _ _ _ c.print_batch.ensures.costs (waiting_cost (job_of c.args.job.now) _ _ _ _ _ c.in-Ok.ensures c.lines.ensures) c.loop-behind.invariant.costs
+    cost_stop _ _ _ _ _ _ _ c.print_batch.ensures.costs (waiting_cost (job_of c.args.job.now) _ _ _ _ _ c.in-Ok.ensures refl) c.loop-behind.invariant.costs
 
 pub loop-behind-preserved : goal.loop-behind-preserved
 loop-behind-preserved g c = record {
-  printing = printing_more _ _ _ _ _ _ _ c.loop-behind.invariant.printing (waiting_prints (job_of c.args.job.now) _ _ _ _ _ c.in-Ok.ensures c.lines.ensures) c.in-Ok-print_batch.ensures.prints;
-  costs = cost_step _ _ _ _ _ _ _ c.print_batch.ensures.costs (waiting_cost (job_of c.args.job.now) _ _ _ _ _ c.in-Ok.ensures c.lines.ensures) c.loop-behind.invariant.costs;
+  printing = printing_more _ _ _ _ _ _ _ c.loop-behind.invariant.printing (waiting_prints (job_of c.args.job.now) _ _ _ _ _ c.in-Ok.ensures refl) c.in-Ok-print_batch.ensures.prints;
+  costs = cost_step _ _ _ _ _ _ _ c.print_batch.ensures.costs (waiting_cost (job_of c.args.job.now) _ _ _ _ _ c.in-Ok.ensures refl) c.loop-behind.invariant.costs;
   kept = drained_more _ _ _ _ _ c.in-Ok.ensures ∙ c.loop-behind.invariant.kept;
+  rows = c.print_batch.ensures.rows;
 }

@@ -4,6 +4,7 @@ use Rattle.sj_rows.specs.HeldLines.{drained}
 use Rattle.sj_page.specs.Pages.{print_state}
 use Rattle.sj_page.proofs.Printing.{Printing}
 use Rattle.sj_file.specs.Job.{job_of}
+use Rattle.sj_run.specs.Batch.{bounds_in}
 use Rattle.sj_run.specs.Output.{lines_asked, prints, cost}
 use Rattle.sj_run.proofs.rows.print_lines.Given as goal
 
@@ -17,6 +18,7 @@ invariant-loop-behind g l =
       printing : Printing (prints whole) (prints left) (state l.fn.out l.fn.page) (state l.out l.page);
       costs : raised l.steps (cost left) ≤ raised l.fn.steps (cost whole);
       kept : drained l.lines ≡ drained l.fn.lines;
+      rows : bounds_in l.kept.rows.items ≡ (job_of l.job).statements;
     }
 
 abbrev pub decreases-loop-behind : goal.decreases-loop-behind

@@ -1,5 +1,8 @@
 use Rattle.sj_run.proofs.Streaming.{no_memory}
 use Rattle.sj_run.proofs.stream.stream.Goals as goal
 
-pub returns-in-Err : goal.returns-in-Err
-returns-in-Err g c = no_memory _ _ _ _
+pub returns-in_default : goal.returns-in_default
+returns-in_default g c = no_memory _ _ _ _
+
+pub returns-in_default-new_places : goal.returns-in_default-new_places
+returns-in_default-new_places g c = no_memory _ _ _ _

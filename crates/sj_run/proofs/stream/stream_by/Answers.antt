@@ -5,7 +5,7 @@ use Rattle.sj_file.specs.Job.{job_of}
 use Rattle.sj_run.specs.Input.{input_at}
 use Rattle.sj_run.specs.Ran.{out_at}
 use Rattle.sj_run.specs.Stream.{GoesOn}
-use Rattle.sj_run.proofs.Streaming.{starts, limit_reached}
+use Rattle.sj_run.proofs.Streaming.{starts, limit_reached, memory_ends}
 use Rattle.sj_run.proofs.stream.stream_by.Goals as goal
 
 pub loop-taken-init : goal.loop-taken-init
@@ -36,6 +36,12 @@ loop-taken-preserved g c =
       limit = omega (arith, t.fed, t.limit, c.loop-taken.invariant.count);
       goes_on = (t.bytes, t.goes_on);
     }
+
+pub returns-in-Err : goal.returns-in-Err
+returns-in-Err g c = memory_ends _ _ _ _ _ _ c.loop-taken.invariant.goes_on.0 c.loop-taken.invariant.goes_on.1 (omega (arith, c.loop-taken.invariant.count, c.loop-taken.invariant.limit))
+
+pub turns-requires-clause-goes_on : goal.turns-requires-clause-goes_on
+turns-requires-clause-goes_on g c = (_, _, c.loop-taken.invariant.goes_on.0, c.loop-taken.invariant.goes_on.1)
 
 pub returns-in-Over : goal.returns-in-Over
 returns-in-Over g c = c.in-Over.ensures _ _ c.loop-taken.invariant.goes_on.0 c.loop-taken.invariant.goes_on.1

@@ -19,16 +19,16 @@ taken_len b n m le is = omega (arith, length-take n b)
 none_taken : (b : List ℕ) (n : ℕ) → n ≡ 0 → take n b ≡ []
 none_taken b n is = ap (λ (k : ℕ). take k b) is
 
-pub returns-in-Ok-flush : goal.returns-in-Ok-flush
-returns-in-Ok-flush g c = λ from to h o.
+pub returns-in-Ok-flush-clause-turned : goal.returns-in-Ok-flush-clause-turned
+returns-in-Ok-flush-clause-turned g c = λ from to h o.
     let r = c.in-Ok.ensures in
     let piece : length (take c.args.room c.args.buffer.now) ≡ c.args.room = taken_len c.args.buffer.now c.args.room _ c.requires.within refl in
     let limit = c.requires.limit in
     finishes _ from _ _ to _ _ _ _ h _ o r.bytes.0 c.flush.ensures.costs (none_taken c.read.new.buf c.in-Ok.n c.if-n-eq0.true) r.cause.kept (r.bytes.1 c.if-n-eq0.true (omega arith)) (omega arith) c.finish.ensures.ended
     c.in-Ok-flush.ensures.prints c.in-Ok-flush.ensures.written
 
-pub returns-in-Err-flush : goal.returns-in-Err-flush
-returns-in-Err-flush g c = λ from to h o.
+pub returns-in-Err-flush-clause-turned : goal.returns-in-Err-flush-clause-turned
+returns-in-Err-flush-clause-turned g c = λ from to h o.
     let r = c.in-Ok.ensures in
     let piece : length (take c.args.room c.args.buffer.now) ≡ c.args.room = taken_len c.args.buffer.now c.args.room _ c.requires.within refl in
     let K = job_of c.args.job.now in
@@ -43,8 +43,8 @@ returns-in-Err-flush g c = λ from to h o.
     (λ rest e. omega (arith, ap cost waits, end_allows K h p rest _ end none e)) (omega arith) (omega arith)
     (end_within K h p (texts xs) _ end none (output-end K h ∙ ap (λ (t : List Asked). whole_output K h ++ texts t) (sym waits))) c.in-Err-flush.ensures.prints)
 
-pub returns-in-Err-feed : goal.returns-in-Err-feed
-returns-in-Err-feed g c = λ from to h o.
+pub returns-in-Err-feed-clause-turned : goal.returns-in-Err-feed-clause-turned
+returns-in-Err-feed-clause-turned g c = λ from to h o.
     let r = c.in-Ok.ensures in
     let piece : length (take c.args.room c.args.buffer.now) ≡ c.args.room = taken_len c.args.buffer.now c.args.room _ c.requires.within refl in
     let p = take c.in-Ok.n c.read.new.buf in
@@ -54,8 +54,8 @@ returns-in-Err-feed g c = λ from to h o.
     stops K from _ _ to _ _ _ h p [] Memory 0 o r.bytes.0 r.cause.kept (omega arith) (λ rest e. piece_allows K h p rest _ 0 (omega arith) e) (omega (arith, r.bound, c.requires.limit)) (omega (arith, r.bound, c.requires.a_piece))
     (piece_within K h p [] _ within) (stopped_before (prints []) _ _ refl)
 
-pub returns-in-Err-flush-2 : goal.returns-in-Err-flush-2
-returns-in-Err-flush-2 g c = λ from to h o.
+pub returns-in-Err-flush-2-clause-turned : goal.returns-in-Err-flush-2-clause-turned
+returns-in-Err-flush-2-clause-turned g c = λ from to h o.
     let r = c.in-Ok.ensures in
     let piece : length (take c.args.room c.args.buffer.now) ≡ c.args.room = taken_len c.args.buffer.now c.args.room _ c.requires.within refl in
     let p = take c.in-Ok.n c.read.new.buf in
@@ -69,8 +69,8 @@ returns-in-Err-flush-2 g c = λ from to h o.
     (stops K from _ _ to _ _ _ h p xs c.in-Err-flush-2.stop (cost xs) o r.bytes.0 r.cause.kept c.flush-2.ensures.costs (λ rest e. piece_allows K h p rest _ (cost xs) (omega (arith, ap cost waits)) e)
     (omega (arith, r.bound, c.requires.limit)) (omega (arith, r.bound, c.requires.a_piece)) (piece_within K h p (texts xs) _ within) c.in-Err-flush-2.ensures.prints)
 
-pub returns-in-Ok-flush-2 : goal.returns-in-Ok-flush-2
-returns-in-Ok-flush-2 g c = λ from to h o.
+pub returns-in-Ok-flush-2-clause-turned : goal.returns-in-Ok-flush-2-clause-turned
+returns-in-Ok-flush-2-clause-turned g c = λ from to h o.
     let r = c.in-Ok.ensures in
     let piece : length (take c.args.room c.args.buffer.now) ≡ c.args.room = taken_len c.args.buffer.now c.args.room _ c.requires.within refl in
     let p = take c.in-Ok.n c.read.new.buf in
@@ -79,7 +79,7 @@ returns-in-Ok-flush-2 g c = λ from to h o.
     goes_on _ from _ _ to _ _ _ _ _ h p c.in-Ok.n o r.bytes.0 c.flush-2.ensures.costs r.cause.kept fed (omega arith) len (omega (arith, r.bound, c.requires.limit))
     c.in-Ok-flush-2.ensures.prints c.in-Ok-flush-2.ensures.written c.in-Ok-flush-2.ensures.drained
 
-pub returns-in-Err : goal.returns-in-Err
-returns-in-Err g c = λ from to h o.
+pub returns-in-Err-clause-turned : goal.returns-in-Err-clause-turned
+returns-in-Err-clause-turned g c = λ from to h o.
     let limit = c.requires.limit in
     read_fails _ from _ _ to _ _ h o c.in-Err.ensures.bytes refl c.in-Err.ensures.cause.failed (omega arith)
