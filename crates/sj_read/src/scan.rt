@@ -2,13 +2,13 @@
 ghost use Rattle.std.specs.Prelude.{◌≡◌, ℕ, List, ◌++◌, ◌+◌, ◌-◌, ◌<◌, ◌≤◌, length, take, drop, slice_index, false, IfSome};
 ghost use Rattle.std.specs.Bool.{MatchBool};
 ghost use Rattle.std.specs.List.{prefix_len};
-ghost use Rattle.sj_base.specs.ByteClasses.{is_blank as blank_byte, is_plain as plain_byte};
+ghost use Rattle.sj_base.specs.ByteClasses.{is_blank as blank_byte};
 ghost use Rattle.sj_decimal.specs.Number.{begins_number as beginning_byte, is_number_byte as number_byte};
 ghost use Rattle.sj_doc.specs.Builders.{feeds_behind, EndsInFeeds};
 ghost use Rattle.sj_read.specs.Scans.{EndsPlain};
 
 use crate::plain::{far_end, near_end};
-use sj_base::is_blank;
+use sj_base::{is_blank, is_plain};
 
 // The byte at the place, if it is no white space.
 #[inline(always)]
@@ -87,15 +87,8 @@ fn far_string_end(bytes: &[u8], from: usize) -> Option<usize>
     if bytes[end] == b'"' { Some(end) } else { None }
 }
 
-// Whether a byte of a string stands for itself.
-#[inline(always)]
-fn is_plain(c: u8) -> bool
-    ensures { result ≡ plain_byte c }
-{
-    !(c == b'"' || (c == b'\\' || c < b' '))
-}
-
-// Where a key ends whose text begins at `from`, if it has no escape. One of a single byte is told by the byte behind it, so that nothing behind it waits for a search.
+// Where a key ends whose text begins at `from`, if it has no escape. One of a single byte is told by the byte behind
+// it, so that nothing behind it waits for a search.
 #[inline(always)]
 pub(crate) fn key_end(bytes: &[u8], from: usize) -> Option<usize>
     requires within { from + feeds_behind ≤ length bytes.now }

@@ -66,6 +66,7 @@ pub(crate) enum Behind {
 pub(crate) enum Lengths {
     /// All that were read are short, so their documents and all spare memory are small.
     Short,
+    /// Some may be long.
     Any,
 }
 
@@ -92,7 +93,8 @@ impl Batch {
         }
     }
 
-    /// The lines that were read last. They may be taken out, since the next ones are read in place of them.
+    /// The lines that were read last. The caller may exchange them: the next ones are read in place of whatever stands
+    /// there.
     pub(crate) fn lines_mut(&mut self) -> &mut [ReadLine]
         ensures { result.now ≡ self.old.lines.items }
     {

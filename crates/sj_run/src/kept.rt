@@ -27,7 +27,7 @@ pub(crate) fn new_places(alloc: Global) -> Result<Vec<ReadLine>, Memory> {
 #[derive(Drop)]
 pub(crate) struct KeptRows<'a> {
     pub(crate) rows: Vec<RowsOf<'a>>,
-    // those that no line was put into
+    // those that no line of these rows was put into
     places: &'a mut [ReadLine],
 }
 

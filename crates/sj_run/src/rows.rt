@@ -154,7 +154,7 @@ fn print_by_new_rows<O: Sink>(
         (print_state O.taken O.size O.faults out.old page.old) (print_state O.taken O.size O.faults out.new page.new) result }
     ensures costs { steps.new ≤ raised steps.old (cost (batch_asked (job_of job.now).statements lines.now)) }
 {
-    // A piece without a line to print, as small ones are, costs no rows.
+    // To make rows costs as much as to print a short line, so none are made where no line is left for them.
     if lines.is_empty() {
         return Ok(());
     }
