@@ -36,6 +36,16 @@ ALL_ROWS = ROWS + FALSE_ROW % 3
 NO_INPUT, BROKEN_INPUT = Ended(4, note=INPUT_FAILED), Ended(4, ROWS, INPUT_FAILED)
 NO_OUTPUT = Ended(5, note=OUTPUT_FAILED)
 REFUSED = Ended(2, note=b"statement 1: syntax error\n")
+ENTRIES = b"SELECT * FROM JSON_TABLE(doc, '$.x[*]' COLUMNS (n INTEGER PATH '$' ERROR ON ERROR));\n"
+OWN_ROWS = b"%(k)d\t1\tR\tFALSE\n%(k)d\t2\tR\t%(n)d\n"
+SHORT = (b'{"n":%(n)d,"x":[1,%(n)d]}\n', OWN_ROWS + b"%(k)d\t3\tR\t1\n%(k)d\t3\tR\t%(n)d\n")
+PACKETS = [  # lines, each with the rows of MEMBER, NUMBER and ENTRIES; k is its number
+    *[SHORT] * 6,
+    (b'{"n":%(n)d,"a":"' + b"long" * 700 + b'","x":[%(n)d]}\n', OWN_ROWS.replace(b"FALSE", b"TRUE") + b"%(k)d\t3\tR\t%(n)d\n"),
+    (b"\n", b""),
+    (b'{"n":%(n)d,"x":[%(n)d,true]}\n', OWN_ROWS + b"%(k)d\t3\tR\t%(n)d\n%(k)d\t3\tE\t2203G\n"),
+    (b'{"n":%(n)d,"x":[%(n)d\n', b"%(k)d\t1\tR\tFALSE\n%(k)d\t2\tE\t22032\n"),
+]
 
 
 def check_edges(tally, program):
@@ -224,13 +234,13 @@ def check_cuts(tally, program, folder):
 
 
 def check_packets(tally, program, folder):
-    """A few lines in each piece have the rows that they have all in one, through many pieces, short lines and long ones."""
-    entries = b"SELECT * FROM JSON_TABLE(doc, '$.x[*]' COLUMNS (n INTEGER PATH '$' ERROR ON ERROR));\n"
-    (folder / "packets.sql").write_bytes(MEMBER + NUMBER + entries)
-    forms = [b'{"n":%d,"x":[1,%d]}\n'] * 6 + [b'{"n":%d,"a":"' + b"long" * 700 + b'","x":[%d]}\n', b"\n", b'{"n":%d,"x":[true,%d]}\n', b'{"n":%d,"x":[%d\n']
-    lines = [form % (n, n)[: form.count(b"%d")] for n, form in enumerate(forms * 30)]
+    """A few lines in each piece have their rows as they have all in one, through many pieces, short lines and long ones."""
+    (folder / "packets.sql").write_bytes(MEMBER + NUMBER + ENTRIES)
+    numbered = [(*PACKETS[k % len(PACKETS)], {b"k": k + 1, b"n": 7 * k}) for k in range(300)]
+    lines = [line % numbers for line, _, numbers in numbered]
+    wanted = Ended(0, b"".join(rows % numbers for _, rows, numbers in numbered))
     words = ["run", "packets.sql"]
-    wanted = program.run(words, b"".join(lines), folder)
+    tally.check("all lines in one piece", difference(wanted, program.run(words, b"".join(lines), folder)))
     for name, sizes in {"one line": [1], "a few lines": [1, 2, 3], "few lines and many": [1, 20, 2, 70, 5]}.items():
         groups, at = [], 0
         while at < len(lines):

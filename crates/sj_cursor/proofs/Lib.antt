@@ -8,7 +8,7 @@ mod Draws
 mod Looks
 -- for `next`
 mod Pairs
--- for `Cursor::put_next`
+-- for `Cursor::put_next` and `Cursor::number`
 mod Standing
 -- for `build`, `next` and `rewind`
 mod Operators
@@ -32,5 +32,7 @@ mod PathMoves
 mod Trails
 -- for moves on items that are no nodes
 mod MadeItems
+-- for `next`, `Cursor::number` and `Cursor::single_on`
+mod MadeNumbers
 -- for `Inquiry::exists`, `Inquiry::single` and `Inquiry::single_on`
 mod Inquiries

@@ -10,7 +10,7 @@ use Rattle.sj_cursor.specs.Draws.{Draws}
 use Rattle.sj_cursor.specs.Meaning.{meaning, start_env, path_trace}
 use Rattle.sj_cursor.specs.Moves.{walked}
 use Rattle.sj_cursor.specs.Standing.{standing_left}
-use Rattle.sj_cursor.specs.Trails.{IsTrailOf}
+use Rattle.sj_cursor.specs.Trails.{IsTrailOf, Leads}
 use Rattle.sj_cursor.specs.declared.cursor.Stands.{Stands}
 use Rattle.sj_cursor.specs.declared.cursor.Stands.TheVariants as stands
 use Rattle.sj_cursor.specs.declared.trail.Trail.{Trail}
@@ -31,3 +31,10 @@ module _ (path : Path) (vars : Variables) (x : ItemValue) (s after : Stands) (be
   drawn_by_trail old v w view of_path d =
       let whole = trail_trace (path_of path) vars x old of_path in
       rw (← view, begun, whole) d
+
+-- on the way from the beginning of the cells to what follows nothing was given
+pub led_by_cells : (path : Path) (vars : Variables) (x : ItemValue) (s : Stands) (before : Trace) (v : Trace) (k : t.Expr) (u : Trace) (a b : ℕ)
+    → s ≡ stands.AtTheBeginning → standing_left s (path_trace (path_of path) vars x) v ≡ before → k ≡ expr_of path.expr
+    → Leads (meaning k (start_env (path_of path) vars x)) a u b → Leads before a u b
+unfolding path_trace
+led_by_cells path vars x s before v k u a b begins view is l = rw (← view, begins) (rw is at l)

@@ -1,11 +1,11 @@
 -- What is left of a path that is gone through by moves, as it goes on.
-use Rattle.std.proofs.Common.{◌≡◌, ℕ, zero, suc, ◌+◌, ◌*◌, ◌-◌, ◌≤◌, ◌<◌, List, [], ◌∷◌, ◌++◌, map, length, drop, get_or, drop-cons, length-append, true, false, if◌then◌else◌, Option, Some, None, ap, sym, ◌∙◌, refl, arith}
+use Rattle.std.proofs.Common.{◌≡◌, ℕ, zero, suc, ◌+◌, ◌*◌, ◌-◌, ◌≤◌, ◌<◌, List, [], ◌∷◌, ◌++◌, map, length, drop, get_or, drop-cons, length-append, false, Option, Some, None, ap, sym, ◌∙◌, refl, arith}
 use Rattle.std.specs.Borrow.{Bor}
 use Rattle.std.specs.Prelude.{MatchOption, IfSome}
 use Rattle.std.proofs.lemmas.List.{get_or_default}
 use Rattle.sj_base.specs.Count.{raised}
 use Rattle.sj_json.specs.Tree.{NumberedChild}
-use Rattle.sj_doc.specs.Keyed.{is_key, from_key}
+use Rattle.sj_doc.specs.Keyed.{from_key}
 use Rattle.sj_doc.specs.Kinds.{kind_of}
 use Rattle.sj_doc.specs.Listed.{node_id, node_tree}
 use Rattle.sj_doc.specs.declared.doc.NodeRef.{NodeRef}
@@ -18,9 +18,10 @@ use Rattle.sj_item.specs.declared.truth.Truth.TheVariants.{True, False, Unknown}
 use Rattle.sj_step.specs.Reach.{reach, on_kind, by_key, unwrapped, child_item, every, under_key}
 use Rattle.sj_step.specs.Trace.{Trace, stop, visit, give, only, after_visits, join, each, visits}
 use Rattle.sj_step.proofs.Traces.{join-after_visits, join-stop, join_assoc, each-after_visits, visits-after_visits}
-use Rattle.sj_step.proofs.Keyed.{gives_first, gives_none, fewer}
+use Rattle.sj_step.proofs.Keyed.{fewer}
 use Rattle.sj_plain_path.specs.Chains.{node_value}
 use Rattle.sj_plain_path.proofs.NotUnwrapped.{unopened}
+use Rattle.sj_plain_path.proofs.UnderKeys.{without_members, members_under, members_first, members_none}
 use Rattle.sj_cursor.specs.Decides.{Decides}
 use Rattle.sj_cursor.specs.Draws.{Draws}
 use Rattle.sj_cursor.specs.Verdicts.{Verdict, filtered, kept}
@@ -85,17 +86,9 @@ pub member_object : (n : NodeRef) (key : List ℕ) (within : ItemValue → Trace
 unfolding reach
 member_object n key within e = ap (λ z. each (on_kind z (by_key key) Lax (node_value n)) within) e
 
-kind_without : (k : Kind) (key : List ℕ) (x : ItemValue) → (k ≡ kinds.Object → ⊥) → on_kind k (by_key key) Lax x ≡ stop
-kind_without kinds.Null key x other = refl
-kind_without kinds.Truth key x other = refl
-kind_without kinds.Number key x other = refl
-kind_without kinds.String key x other = refl
-kind_without kinds.Array key x other = refl
-kind_without kinds.Object key x other = absurd (other refl)
-
 pub member_other : (n : NodeRef) (key : List ℕ) (within : ItemValue → Trace) → (kind_of (node_tree n) ≡ kinds.Object → ⊥) → each (reach (by_key key) Lax (node_value n)) within ≡ stop
 unfolding reach
-member_other n key within other = ap (λ u. each u within) (kind_without (kind_of (node_tree n)) key (node_value n) other)
+member_other n key within other = ap (λ u. each u within) (without_members (kind_of (node_tree n)) key (node_value n) other)
 
 -- what is left behind a filter by the truth of its test
 abbrev kept_on : Truth → (ItemValue → Trace) → ItemValue → Trace
@@ -117,30 +110,15 @@ filter_other v within x Unknown a b d other = filter_leads v within x Unknown a 
 
 -- ---- the next child
 
-found_or_not : (key : List ℕ) (cs : List NumberedChild) → under_key 1 Lax key true (map child_item cs) ≡ under_key 1 Lax key false (map child_item cs)
-found_or_not key [] = refl
-found_or_not key (c ∷ cs) = ap (λ u. visit (if is_key key c.0 then give (child_item c).1 (under_key 1 Lax key true (map child_item cs)) else u)) (found_or_not key cs)
-
-abbrev keyed : List ℕ → (ItemValue → Trace) → List NumberedChild → Trace
-keyed key within cs = each (under_key 1 Lax key false (map child_item cs)) within
-
-pub keyed_first : (key : List ℕ) (within : ItemValue → Trace) (c : NumberedChild) (cs ms : List NumberedChild) → from_key key cs ≡ c ∷ ms
-    → keyed key within cs ≡ after_visits (length cs - length ms) (join (within (node c.1 c.2)) (keyed key within ms))
-keyed_first key within c cs ms e =
-    let n = length cs - length ms in
-    ap (λ u. each u within) (gives_first Lax key false c ms cs e)
-    ∙ each-after_visits n (give (child_item c).1 (under_key 1 Lax key true (map child_item ms))) within
-    ∙ ap (λ u. after_visits n (join (within (node c.1 c.2)) (each u within))) (found_or_not key ms)
-
-pub keyed_none : (key : List ℕ) (within : ItemValue → Trace) (cs ms : List NumberedChild) → (from_key key cs ≡ []) × (ms ≡ []) → keyed key within cs ≡ after_visits (length cs - length ms) stop
+keyed_none : (key : List ℕ) (within : ItemValue → Trace) (cs ms : List NumberedChild) → (from_key key cs ≡ []) × (ms ≡ []) → members_under key within cs ≡ after_visits (length cs - length ms) stop
 keyed_none key within cs ms e =
     let all : length cs ≡ length cs - length ms = omega (arith, ap (λ (xs : List NumberedChild). length xs) e.1) in
-    ap (λ u. each u within) (gives_none Lax key false cs e.0) ∙ each-after_visits (length cs) stop within ∙ ap (λ n. after_visits n stop) all
+    members_none key within cs e.0 ∙ ap (λ n. after_visits n stop) all
 
 pub keyed_gives : (m : Move) (key : Key) (o : Option NodeRef) (cs ds : List NumberedChild) → m ≡ moves.Member key
     → MatchOption o ((from_key key.now cs ≡ []) × (ds ≡ [])) (λ n. from_key key.now cs ≡ (Some key.now, node_id n, node_tree n) ∷ ds) → Gives m o cs ds
 keyed_gives m key None cs ds e h = rw e (λ within. keyed_none key.now within cs ds h)
-keyed_gives m key (Some n) cs ds e h = rw e (λ within. keyed_first key.now within _ cs ds h)
+keyed_gives m key (Some n) cs ds e h = rw e (λ within. members_first key.now within _ cs ds h)
 
 pub keyed_fewer : (key : List ℕ) (o : Option NodeRef) (cs ds : List NumberedChild)
     → MatchOption o ((from_key key cs ≡ []) × (ds ≡ [])) (λ n. from_key key cs ≡ (Some key, node_id n, node_tree n) ∷ ds) → IfSome o (λ _. length ds < length cs)

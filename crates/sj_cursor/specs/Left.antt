@@ -3,7 +3,6 @@ use Rattle.std.specs.Prelude.{◌≡◌, ℕ, Some, None, Result, ℤ}
 use Rattle.sj_base.specs.declared.state.State.{State}
 use Rattle.sj_base.specs.declared.state.State.TheVariants.{S22039}
 use Rattle.sj_path_tree.specs.Tree as t
-use Rattle.sj_path_tree.specs.declared.parts.Arith.{Arith}
 use Rattle.sj_path_tree.specs.declared.parts.Mode.{Mode}
 use Rattle.sj_item.specs.Items.{ItemValue, item_value, made_number}
 use Rattle.sj_path_tree.specs.Nodes.{pred_nodes, subs_nodes}
@@ -16,7 +15,6 @@ use Rattle.sj_item.specs.declared.truth.Truth.{Truth}
 use Rattle.sj_item.specs.declared.truth.Truth.TheVariants.{True, False, Unknown}
 use Rattle.sj_step.specs.declared.answer.Answer.{Answer}
 use Rattle.sj_step.specs.declared.answer.Answer.TheVariants as answers
-use Rattle.sj_method.specs.Numbers.{binary_of}
 use Rattle.sj_cursor.specs.Numbers.{followed}
 use Rattle.sj_cursor.specs.Verdicts.{filtered}
 use Rattle.sj_plain_path.specs.Truths.{is_unknown}
@@ -211,8 +209,9 @@ kept_answer Unknown = answers.End
 
 -- ---- what follows operands and subscripts
 
-abbrev pub computed : Arith → ℤ × ℕ → Result (ℤ × ℕ) State → Trace
-computed op left right = followed right (λ b. followed (binary_of op left b) (λ d. only (made_number d)))
+-- a number that was made, or the fault in its place
+abbrev pub only_number : Result (ℤ × ℕ) State → Trace
+only_number made = followed made (λ d. only (made_number d))
 
 abbrev pub element_at : Result ℤ State → Mode → ItemValue → Trace
 element_at index mode x = followed index (λ i. reach (by_range i i) mode x)

@@ -3,12 +3,13 @@ ghost use Rattle.std.specs.Prelude.{◌≡◌, ◌≤◌};
 ghost use Rattle.sj_base.specs.Count.{raised};
 ghost use Rattle.sj_cursor.specs.Answers.{exists_answer, single_value, answer_in};
 ghost use Rattle.sj_plain_path.specs.Looks.{Finds, limit_of_single, look_value, nodes_look};
-ghost use Rattle.sj_cursor.specs.Looks.{single_in};
+ghost use Rattle.sj_cursor.specs.Looks.{single_in, single_made};
 ghost use Rattle.sj_cursor.specs.Single.{need, single};
 
 use crate::cursor::{Cursor, Stands};
 use sj_base::{State, Steps};
-use sj_item::Item;
+use sj_decimal::Decimal;
+use sj_item::{Exact, Item};
 use sj_plain_path::{Found, FoundNodes, Limit, Look};
 use sj_step::Answer;
 
@@ -87,6 +88,9 @@ impl<'d> Cursor<'d> {
         ensures vars { self.new.vars ≡ self.old.vars }
         ensures root { self.new.root ≡ self.old.root }
     {
+        if let Some(found) = self.number(steps) {
+            return single_number(found);
+        }
         single_or_fault(self.look_on(limit, steps), several)
     }
 
@@ -171,5 +175,15 @@ pub(crate) fn single_or_fault<'d>(look: Look<'d>, several: State) -> Result<Opti
         (None, Found::Nothing) => Ok(None),
         (None, Found::One(item)) => Ok(Some(item)),
         (None, Found::Several) => Err(several),
+    }
+}
+
+/// The number that was made, as the only item, or the fault in its place.
+fn single_number<'d>(found: Result<Decimal, State>) -> Result<Option<Item<'d>>, State>
+    ensures { single_value result ≡ single_made found }
+{
+    match found {
+        Ok(number) => Ok(Some(Item::Num(Exact::new(number)))),
+        Err(state) => Err(state),
     }
 }

@@ -1,21 +1,22 @@
 // A path's items, one at a time.
-ghost use Rattle.std.specs.Prelude.{◌≡◌, ◌≤◌, ◌*◌, IfOk};
+ghost use Rattle.std.specs.Prelude.{◌≡◌, ◌≤◌, ◌*◌, IfOk, MatchOption};
 ghost use Rattle.sj_item.specs.Items.{item_value};
 ghost use Rattle.sj_path_tree.specs.View.{path_of};
 ghost use Rattle.sj_step.specs.Answers.{answer_value};
 ghost use Rattle.sj_cursor.specs.Draws.{Draws};
-ghost use Rattle.sj_cursor.specs.Left.{core, left};
+ghost use Rattle.sj_cursor.specs.Left.{core, left, only_number};
 ghost use Rattle.sj_cursor.specs.Meaning.{meaning, start_env};
 ghost use Rattle.sj_cursor.specs.Cells.{env_value};
 ghost use Rattle.sj_cursor.specs.Moves.{walked};
 ghost use Rattle.sj_cursor.specs.Standing.{standing_left, IsMeansOf};
-ghost use Rattle.sj_cursor.specs.Trails.{IsTrail, stack_left};
+ghost use Rattle.sj_cursor.specs.Trails.{IsTrail, Leads, stack_left};
 
 use crate::build::expr_cell;
 use crate::cells::Cell;
 use crate::env::Env;
 use crate::trail::Trail;
-use sj_base::{Memory, Steps};
+use sj_base::{Memory, State, Steps};
+use sj_decimal::Decimal;
 use sj_item::{Item, Pull};
 use sj_path_tree::{Mode, Path, Vars};
 use sj_plain_path::Chain;
@@ -232,6 +233,33 @@ impl<'d> Cursor<'d> {
                 place,
             ),
         }
+    }
+
+    // The number that the path gives, where it stands at the beginning and its expression is arithmetic, or the fault in its place.
+    #[inline(always)]
+    pub(crate) fn number(&mut self, steps: &mut Steps) -> Option<Result<Decimal, State>>
+        ensures found { MatchOption result ((self.new.left ≡ self.old.left) × (steps.new ≡ steps.old)) (λ found. Leads self.old.left steps.old (only_number found) steps.new) }
+        ensures path { self.new.path ≡ self.old.path }
+        ensures vars { self.new.vars ≡ self.old.vars }
+        ensures root { self.new.root ≡ self.old.root }
+    {
+        let Stands::AtTheBeginning = self.stands else {
+            return None;
+        };
+        let Means::Cells(cell) = &mut self.by else {
+            return None;
+        };
+        let Cell::Binary(binary) = &mut **cell else {
+            return None;
+        };
+        let env = Env {
+            mode: self.path.mode,
+            vars: self.vars,
+            root: &self.root,
+            context: &self.root,
+            last: 0,
+        };
+        Some(binary.number(&env, steps))
     }
 
     /// From the beginning, on another root, wherever the cursor stood. It takes no memory.

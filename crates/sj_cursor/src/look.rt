@@ -10,6 +10,7 @@ use sj_method::{operand, subscript};
 use sj_plain_path::{Found, Look};
 
 /// The one item as an operand: what is no single number is a fault.
+#[inline(always)]
 pub(crate) fn single_operand(look: Look<'_>) -> Result<Decimal, State>
     ensures { result ≡ operand_in (single_in State.S22038 (look_value look.entry)) }
 {

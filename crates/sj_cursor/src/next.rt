@@ -23,6 +23,7 @@ use sj_base::{State, Steps};
 use sj_decimal::Decimal;
 use sj_doc::Kind;
 use sj_item::{Item, Truth};
+use sj_method::operand;
 use sj_path_tree::Mode;
 use sj_plain_path::{Found, Limit, Look, Opening};
 use sj_step::{Answer, Reach};
@@ -158,14 +159,24 @@ impl<'d> Operand<'d> {
         }
     }
 
-    // The operand of arithmetic.
+    // The operand of arithmetic. Most are members, literals and arithmetic themselves, which need no walk over items.
     #[cycle(next)]
     pub(crate) fn number(&mut self, env: &Env<'_, 'd>, steps: &mut Steps) -> Result<Decimal, State>
         ensures answers { result ≡ operand_in (single env.now.mode State.S22038 (operand_whole Opening.Unwrapped (operand_core self.old) (env_value env.now))) }
         ensures costs { steps.new ≤ raised steps.old (need env.now.mode 2 (operand_whole Opening.Unwrapped (operand_core self.old) (env_value env.now))) }
         ensures same { operand_core self.new ≡ operand_core self.old }
     {
-        let look = self.look(Opening::Unwrapped, Limit::of_single(env.mode), env, steps);
+        let limit = Limit::of_single(env.mode);
+        if let Some(keyed) = self.keyed(env) {
+            return single_operand(keyed.look_in_place(Opening::Unwrapped, limit, steps));
+        }
+        if let Some(item) = self.literal() {
+            return operand(*item);
+        }
+        if let Cell::Binary(binary) = &mut *self.cell {
+            return binary.number(env, steps);
+        }
+        let look = self.look(Opening::Unwrapped, limit, env, steps);
         single_operand(look)
     }
 

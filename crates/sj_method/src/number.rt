@@ -12,6 +12,7 @@ use sj_path_tree::Arith;
 /// An item as an operand of arithmetic: its number. An item that is no number is 22036, and a number that is not exact
 /// is 22003.
 #[tactic(auto, unfolding(crate::specs::Numbers::operand_of))]
+#[inline(always)]
 pub fn operand<'d>(item: Item<'d>) -> Result<Decimal, State>
     ensures { result ≡ operand_of (item_value item.entry) }
 {

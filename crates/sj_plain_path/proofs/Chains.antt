@@ -2,12 +2,12 @@
 use Rattle.std.specs.Borrow.{Bor}
 use Rattle.std.specs.Int.{int_min, int_max}
 use Rattle.std.specs.Prelude.{◌≤ℤ◌, int_le, if◌then◌else◌}
-use Rattle.std.proofs.Common.{◌≡◌, ℕ, zero, suc, ◌+◌, ◌-◌, ◌<◌, ◌≤◌, pos, ◌-ℤ◌, List, [], ◌∷◌, ◌++◌, map, take, drop, get_or, length, Bool, true, false, ◌&&◌, Some, ap, sym, ◌∙◌, refl, arith}
+use Rattle.std.proofs.Common.{◌≡◌, ℕ, zero, suc, ◌+◌, ◌-◌, ◌<◌, ◌≤◌, pos, ◌-ℤ◌, List, [], ◌∷◌, ◌++◌, take, drop, get_or, length, Bool, true, false, ◌&&◌, Some, ap, sym, ◌∙◌, refl, arith}
 use Rattle.std.proofs.lemmas.Int.{ints}
 use Rattle.std.proofs.lemmas.List.{take_all}
 use Rattle.sj_base.specs.Count.{raised}
 use Rattle.sj_json.specs.Tree.{Tree, children, Child as JsonChild, numbered, NumberedChild}
-use Rattle.sj_doc.specs.Keyed.{is_key, from_key}
+use Rattle.sj_doc.specs.Keyed.{from_key}
 use Rattle.sj_doc.specs.Kinds.{kind_of}
 use Rattle.sj_doc.specs.declared.doc.NodeRef.{NodeRef}
 use Rattle.sj_doc.specs.declared.node.Kind.{Kind}
@@ -15,10 +15,9 @@ use Rattle.sj_doc.specs.declared.node.Kind.TheVariants as kinds
 use Rattle.sj_path_tree.specs.Tree as t
 use Rattle.sj_path_tree.specs.declared.parts.Mode.TheVariants.{Lax}
 use Rattle.sj_item.specs.Items.{ItemValue, item_tree, node}
-use Rattle.sj_step.specs.Trace.{Trace, stop, visit, give, only, after_visits, join, each}
-use Rattle.sj_step.specs.Reach.{reach, on_kind, by_key, all_elements, by_range, unwrapped, unwrap, child_item, under_key, range_of_one}
+use Rattle.sj_step.specs.Trace.{Trace, stop, visit, only, after_visits, join, each}
+use Rattle.sj_step.specs.Reach.{reach, on_kind, by_key, all_elements, by_range, unwrapped, unwrap, range_of_one}
 use Rattle.sj_step.proofs.Traces.{join-after_visits, join-stop, join_assoc, each-after_visits, each_assoc}
-use Rattle.sj_step.proofs.Keyed.{gives_first, gives_none}
 use Rattle.sj_step.proofs.Lasts.{length-numbered}
 use Rattle.sj_step.proofs.Ranges.{lax_range_stops, lax_range_goes}
 use Rattle.sj_step.proofs.Runs.{run, run_between, run_skip, run_give}
@@ -30,6 +29,7 @@ use Rattle.sj_plain_path.specs.declared.opening.Opening.TheVariants.{AsItIs, Unw
 use Rattle.sj_plain_path.specs.declared.chain.Link.{Link}
 use Rattle.sj_plain_path.specs.declared.chain.Link.TheVariants as links
 use Rattle.sj_plain_path.proofs.NotUnwrapped.{unopened}
+use Rattle.sj_plain_path.proofs.UnderKeys.{without_members, members_under, members_first, members_none}
 use Rattle.sj_plain_path.proofs.Takers.{taken-after_visits, taking-after_visits}
 
 abbrev Key : Type 0
@@ -58,39 +58,16 @@ link_behind e (x ∷ ls) l = link_behind (t.Access e (accessor x)) ls l
 
 -- ---- one accessor on a node
 
-kind_without : (k : Kind) (key : List ℕ) (x : ItemValue) → (k ≡ kinds.Object → ⊥) → on_kind k (by_key key) Lax x ≡ stop
-kind_without kinds.Null key x other = refl
-kind_without kinds.Truth key x other = refl
-kind_without kinds.Number key x other = refl
-kind_without kinds.String key x other = refl
-kind_without kinds.Array key x other = refl
-kind_without kinds.Object key x other = absurd (other refl)
-
 pub under_none : (how : Opening) (key : List ℕ) (rest : List Link) (i : ℕ) (tree : Tree) → (kind_of tree ≡ kinds.Object → ⊥) → under how key rest (node i tree) ≡ stop
 unfolding reach
-under_none how key rest i tree other = ap (λ u. each u (below how rest)) (kind_without (kind_of tree) key (node i tree) other)
+under_none how key rest i tree other = ap (λ u. each u (below how rest)) (without_members (kind_of tree) key (node i tree) other)
 
 abbrev pub keyed : Opening → List ℕ → List Link → List NumberedChild → Trace
-keyed how key rest cs = each (under_key 1 Lax key false (map child_item cs)) (below how rest)
+keyed how key rest cs = members_under key (below how rest) cs
 
 pub under_object : (how : Opening) (key : List ℕ) (rest : List Link) (i : ℕ) (tree : Tree) → kind_of tree ≡ kinds.Object → under how key rest (node i tree) ≡ keyed how key rest (numbered (i + 1) (children tree))
 unfolding reach
 under_object how key rest i tree e = ap (λ k. each (on_kind k (by_key key) Lax (node i tree)) (below how rest)) e
-
-found_or_not : (key : List ℕ) (cs : List NumberedChild) → under_key 1 Lax key true (map child_item cs) ≡ under_key 1 Lax key false (map child_item cs)
-found_or_not key [] = refl
-found_or_not key (c ∷ cs) = ap (λ u. visit (if is_key key c.0 then give (child_item c).1 (under_key 1 Lax key true (map child_item cs)) else u)) (found_or_not key cs)
-
-pub keyed_first : (how : Opening) (key : List ℕ) (rest : List Link) (c : NumberedChild) (cs ms : List NumberedChild) → from_key key cs ≡ c ∷ ms
-    → keyed how key rest cs ≡ after_visits (length cs - length ms) (join (below how rest (node c.1 c.2)) (keyed how key rest ms))
-keyed_first how key rest c cs ms e =
-    let n = length cs - length ms in
-    ap (λ u. each u (below how rest)) (gives_first Lax key false c ms cs e)
-    ∙ each-after_visits n (give (child_item c).1 (under_key 1 Lax key true (map child_item ms))) (below how rest)
-    ∙ ap (λ u. after_visits n (join (below how rest (node c.1 c.2)) (each u (below how rest)))) (found_or_not key ms)
-
-pub keyed_none : (how : Opening) (key : List ℕ) (rest : List Link) (cs : List NumberedChild) → from_key key cs ≡ [] → keyed how key rest cs ≡ after_visits (length cs) stop
-keyed_none how key rest cs e = ap (λ u. each u (below how rest)) (gives_none Lax key false cs e) ∙ each-after_visits (length cs) stop (below how rest)
 
 -- ---- an array, and another item
 
@@ -365,13 +342,13 @@ module _ (how : Opening) (f g : Taken) where
   pub member_next : (t : Trace) (key : List ℕ) (rest : List Link) (c : NumberedChild) (cs ms : List NumberedChild) (a b later : ℕ)
       → Seeking f t g (keyed how key rest cs) a b → from_key key cs ≡ c ∷ ms → later ≡ raised b (length cs - length ms)
       → Seeking f t g (join (below how rest (node c.1 c.2)) (keyed how key rest ms)) a later
-  member_next t key rest c cs ms a b later k e step = seeking_visits f (length cs - length ms) t _ g a b later (rw (keyed_first how key rest c cs ms e) at k) step
+  member_next t key rest c cs ms a b later k e step = seeking_visits f (length cs - length ms) t _ g a b later (rw (members_first key (below how rest) c cs ms e) at k) step
 
   pub members_over : (t : Trace) (key : List ℕ) (rest : List Link) (cs ms : List NumberedChild) (a b later : ℕ)
       → Seeking f t g (keyed how key rest cs) a b → from_key key cs ≡ [] → ms ≡ [] → later ≡ raised b (length cs - length ms) → Sought f t g false a later
   members_over t key rest cs ms a b later k e none step =
       let all : length cs - length ms ≡ length cs = omega (arith, ap (λ (xs : List NumberedChild). length xs) none) in
-      seeking_end f t g a later (seeking_visits f (length cs) t stop g a b later (rw (keyed_none how key rest cs e) at k) (step ∙ ap (raised b) all))
+      seeking_end f t g a later (seeking_visits f (length cs) t stop g a b later (rw (members_none key (below how rest) cs e) at k) (step ∙ ap (raised b) all))
 
   -- no member is left behind the last one
   pub member_last : (h : Taken) (t : Trace) (key : List ℕ) (rest : List Link) (p : Trace) (ms : List NumberedChild) (enough : Bool) (a b c : ℕ)

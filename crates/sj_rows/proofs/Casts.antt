@@ -207,3 +207,9 @@ pub at_type : (P : Type 0) (ty other : SqlType) (b : List ℕ) (o : Option ℕ) 
 at_type P ty other b None text printed is = tt
 at_type P ty other b (Some point) text printed is =
     λ are. subst (λ (t : SqlType). GivesField (tree_cast (number (spelled b)) t) b) (sym is) (printed (text are))
+
+-- ---- numbers that a path made
+
+pub made_fixed : (d : ℤ × ℕ) (digits places : ℕ) → tree_cast (number (exact d)) (NumericFixed digits places) ≡ fixed places (rounded_within digits places d)
+unfolding tree_cast scalar_cast number_cast
+made_fixed d digits places = refl

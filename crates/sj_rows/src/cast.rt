@@ -4,18 +4,20 @@ ghost use Rattle.sj_json.specs.Tree.{string, number};
 ghost use Rattle.sj_doc.specs.Nodes.{spelled};
 ghost use Rattle.sj_doc.specs.Listed.{node_tree};
 ghost use Rattle.sj_item.specs.Items.{item_value};
-ghost use Rattle.sj_value.specs.Casts.{cast_of, tree_cast};
-ghost use Rattle.sj_value.specs.Types.{IsCastType};
+ghost use Rattle.sj_value.specs.Casts.{cast_of, fixed, tree_cast};
+ghost use Rattle.sj_decimal.specs.Rounding.{rounded_within};
+ghost use Rattle.sj_value.specs.Types.{AreDigits, IsCastType};
 ghost use Rattle.sj_value.specs.declared.value.SqlValue.TheVariants.{Text};
 ghost use Rattle.sj_rows.specs.RowText.{AppendsCast};
 ghost use Rattle.sj_rows.specs.Numerals.{room, HasDigits, GivesField, IsFieldOf, StandsAsField};
 
-use crate::field::{tabbed_bytes, tabbed_text};
+use crate::field::{tabbed_bytes, tabbed_number, tabbed_text};
 use crate::numeral::{
     MOST_DIGITS, ROOM, fixed_point, has_digits, plain_point, tabbed_digits, whole_end,
 };
 use crate::plain::is_plain;
-use sj_base::Bytes;
+use sj_base::{Bytes, State};
+use sj_decimal::Decimal;
 use sj_doc::{Kind, NodeRef, StoredText, WINDOW};
 use sj_item::Item;
 use sj_text::{led, push_front};
@@ -27,6 +29,7 @@ use std::alloc::Global;
 /// # Errors
 /// `State` exactly where the table refuses the item, with its state: `out` stays as it was. `Memory` where memory ran
 /// out: what stood in `out` stays, and something may stand behind it.
+#[inline(always)]
 pub fn tabbed_cast<'d>(
     alloc: Global,
     out: &mut Bytes,
@@ -59,6 +62,9 @@ fn tabbed_longer<'d>(
     requires { IsCastType ty }
     ensures { AppendsCast (cast_of (item_value item.entry) ty) result out.old out.new }
 {
+    if let (Item::Num(made), SqlType::NumericFixed(digits, places)) = (&item, ty) {
+        return tabbed_fixed(out, made.value(), digits, places);
+    }
     if let Item::Node(node) = item {
         match node.kind() {
             Kind::String => {
@@ -78,6 +84,26 @@ fn tabbed_longer<'d>(
         }
     }
     tabbed_value(alloc, out, item, ty)
+}
+
+// A number that arithmetic made, with so many digits and decimals. It goes to its field without a value in between.
+#[inline(always)]
+fn tabbed_fixed(
+    out: &mut Bytes,
+    number: Decimal,
+    digits: u32,
+    places: u32,
+) -> Result<(), CastRefusal>
+    requires { AreDigits digits places }
+    ensures { AppendsCast (fixed places (rounded_within digits places number)) result out.old out.new }
+{
+    match number.round_to(digits, places) {
+        Ok(rounded) => {
+            tabbed_number(out, rounded, places)?;
+            Ok(())
+        }
+        Err(_) => Err(CastRefusal::State(State::S22003)),
+    }
 }
 
 // What a call answers that is not inlined lies in memory. Put together anew, it leaves the answers of the other ways in registers.

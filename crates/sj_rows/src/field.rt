@@ -106,7 +106,7 @@ fn tabbed_runs(out: &mut Bytes, bytes: &[u8]) -> Result<(), Memory>
 /// Room for a TAB and the digits of a whole number of 64 bits.
 const MAX_WHOLE: usize = 24;
 
-fn tabbed_number(out: &mut Bytes, number: Decimal, places: u32) -> Result<(), Memory>
+pub(crate) fn tabbed_number(out: &mut Bytes, number: Decimal, places: u32) -> Result<(), Memory>
     requires { IsPrintable (SqlValue.Num number places) }
     ensures ok { OnOk result (out.new ≡ out.old ++ (codes "\t" ++ number_field number places)) }
     ensures err { OnErr result (AppendsPrefix out.old (codes "\t" ++ number_field number places) out.new) }

@@ -3,9 +3,6 @@ use Rattle.std.proofs.Common.{◌≤◌, ℕ, ◌+◌, arith}
 use Rattle.sj_base.specs.Count.{raised}
 use Rattle.sj_table.specs.Takes.{Spends}
 
-pub spent_none : (m a : ℕ) → m ≤ raised m a
-spent_none m a = omega arith
-
 pub spent_then : (m a n b k : ℕ) → n ≤ raised m a → k ≤ raised n b → k ≤ raised m (a + b)
 spent_then m a n b k first second = omega (arith, first, second)
 

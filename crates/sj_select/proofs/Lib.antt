@@ -3,7 +3,11 @@ mod PlacedRows
 mod SoundColumns
 -- for `columns_of`
 mod MadeColumns
--- for `print_listed`
+-- for `print_columns`
+mod PrintedColumns
+-- for `find_each_column` and `print_row`
+mod EachColumn
+-- for `print_row` and `print_listed`
 mod Listing
 -- for `RowSource::print`
 mod Sourced

@@ -2,6 +2,7 @@ pub mod Columns
 pub mod Rows
 pub mod Coding
 pub mod Filling
+pub mod Listing
 pub mod Tables
 pub mod Sources
 pub mod Stages

@@ -124,7 +124,7 @@ impl<'d> FormattedColumn<'d> {
 }
 
 impl<'d> ExistsColumn<'d> {
-    fn outcome(&mut self, row: &TableCursor<'d>, steps: &mut Steps) -> Outcome
+    pub(crate) fn outcome(&mut self, row: &TableCursor<'d>, steps: &mut Steps) -> Outcome
         ensures outcome { result ≡ column_outcome row.now.given (exists_column self.old) }
         ensures printed { IsPrinted result }
         ensures costs { steps.new ≤ raised steps.old (column_cost row.now.given (exists_column self.old)) }
@@ -137,8 +137,8 @@ impl<'d> ExistsColumn<'d> {
     }
 }
 
-// The number of an entry, or NULL where there is none.
-fn ordinality(found: Option<(Item<'_>, u64)>) -> Outcome
+/// The number of an entry, or NULL where there is none.
+pub(crate) fn ordinality(found: Option<(Item<'_>, u64)>) -> Outcome
     ensures outcome { result ≡ ordinality_of (option_map entry_value found.entry) }
     ensures printed { IsPrinted result }
 {

@@ -4,8 +4,9 @@
 //! rows a statement has.
 //!
 //! [`RowsOf`] prints one row after another and keeps no list of them. Without a table the values of the SELECT list are the only row. Over a
-//! table the columns of each row are found first, each by a cursor of its own that is moved to the item of the row; then the values of the
-//! SELECT list are found beside them, or the aggregates take them.
+//! table each column of a row is found by an inquiry or a cursor of its own, which is moved to the item of the row. Where the SELECT list is
+//! the columns and nothing else, each is printed as it is found. Else all are found first; then the values of the SELECT list are found beside
+//! them, or the aggregates take them.
 //!
 //! The crate stands on `sj_bound` for statements, on `sj_select_list` for the values and the aggregates of a SELECT list, on `sj_table` for the
 //! rows of plans, on `sj_func` for the outcomes of the query functions, and on `sj_rows` for the texts of rows. It promises that the rows, their
@@ -14,6 +15,7 @@
 #![tactic(auto)]
 
 mod columns;
+mod print;
 mod rows;
 mod source;
 mod table;

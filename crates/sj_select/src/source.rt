@@ -11,12 +11,14 @@ ghost use Rattle.sj_bound.specs.View.{bound_of, table_of};
 ghost use Rattle.sj_select_list.specs.Line.{line_of};
 ghost use Rattle.sj_select_list.specs.Operations.{steps_of, steps_to_all};
 ghost use Rattle.sj_select_list.specs.Performing.{CanBeGiven};
+ghost use Rattle.sj_select_list.specs.Printing.{AppendsList};
 ghost use Rattle.sj_select_list.specs.Taking.{IsReady, HasTaken, aggregate_of};
 ghost use Rattle.sj_select_list.specs.Values.{given_list, list_cost};
-ghost use Rattle.sj_select.specs.Rows.{StatementRows, one_row, listed, aggregated, aggregated_cost, statement_rows, statement_cost};
+ghost use Rattle.sj_select.specs.Rows.{StatementRows, one_row, row_of, row_cost, listed, aggregated, aggregated_cost, statement_rows, statement_cost};
 ghost use Rattle.sj_select.specs.Sources.{IsFor, IsTableOf, IsPlacedIfAny, IsReadySource, source_left, source_due, listed_due, due_behind, Prints, TakesRow, TakesRows, taken_cost};
 ghost use Rattle.sj_select.specs.Tables.{IsPlaced, plan_left, plan_due};
 
+use crate::print::find_each_column;
 use crate::table::TableRows;
 use sj_base::{Bytes, Memory, State, Steps};
 use sj_bound::Bound;
@@ -190,13 +192,44 @@ fn print_listed<'d>(
         RowPull::End => return Ok(Found::End),
         RowPull::Raised(state) => return Ok(Found::Raised(state)),
     }
-    if let Some(state) = table.fill(alloc, steps)? {
-        return Ok(Found::Raised(state));
-    }
-    match print_list(alloc, operations, line, table.values(), out, stack, steps)? {
+    match print_row(alloc, table, operations, line, out, stack, steps)? {
         None => Ok(Found::Row),
         Some(state) => Ok(Found::Raised(state)),
     }
+}
+
+// Appends the fields of the row of a table that is at hand, up to the first value that raises a state, which is given. Where the SELECT list
+// is the columns and nothing else, each is appended as it is found. Else they are found first, and the list beside them.
+fn print_row<'d>(
+    alloc: Global,
+    table: &mut TableRows<'d>,
+    operations: &mut [Operation<'d>],
+    line: LineDoc<'d>,
+    out: &mut Bytes,
+    stack: &mut Stack,
+    steps: &mut Steps,
+) -> Result<Option<State>, Memory>
+    requires placed { IsPlaced table.old }
+    requires given { All CanBeGiven (steps_of operations.old) }
+    requires printable { All IsPrintable stack.old.values.items }
+    ensures prints { (list : List b.Value) → steps_of operations.old ≡ steps_to_all list →
+        AppendsList (row_of (line_of line.entry) (table_of table.old.table.now) list table.old.cursor.given) result out.old out.new }
+    ensures costs { (list : List b.Value) → steps_of operations.old ≡ steps_to_all list →
+        steps.new ≤ raised steps.old (row_cost (line_of line.entry) (table_of table.old.table.now) list table.old.cursor.given) }
+    ensures steps { steps_of operations.new ≡ steps_of operations.old }
+    ensures printable { All IsPrintable stack.new.values.items }
+    ensures left { plan_left table.new ≡ plan_left table.old }
+    ensures due { plan_due table.new ≡ plan_due table.old }
+    ensures table { table.new.table ≡ table.old.table }
+    ensures placed { IsPlaced table.new }
+{
+    if find_each_column(operations, table.columns.len()) {
+        return table.print(alloc, out, steps);
+    }
+    if let Some(state) = table.fill(alloc, steps)? {
+        return Ok(Some(state));
+    }
+    print_list(alloc, operations, line, table.values(), out, stack, steps)
 }
 
 // The one row of the aggregates over all rows of a table that are left.

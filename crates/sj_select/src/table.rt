@@ -7,13 +7,15 @@ ghost use Rattle.sj_table.specs.Takes.{Takes};
 ghost use Rattle.sj_bound.specs.Sound.{IsSoundTable};
 ghost use Rattle.sj_bound.specs.View.{table_of};
 ghost use Rattle.sj_select_list.specs.Gathers.{Gathers};
+ghost use Rattle.sj_select_list.specs.Printing.{AppendsList};
 ghost use Rattle.sj_select.specs.Columns as meaning;
 ghost use Rattle.sj_select.specs.Columns.{columns_given, columns_cost};
 ghost use Rattle.sj_select.specs.Rows.{rows_on, rows_cost_on};
 ghost use Rattle.sj_select.specs.Tables.{IsPlaced, plan_left, plan_due};
 
 use crate::columns::{Column, columns_of, fill};
-use sj_base::{Memory, State, Steps, boxed};
+use crate::print::print_columns;
+use sj_base::{Bytes, Memory, State, Steps, boxed};
 use sj_bound::BoundTable;
 use sj_func::Context;
 use sj_item::Item;
@@ -121,6 +123,28 @@ impl<'d> TableRows<'d> {
             &mut self.values,
             steps,
         )
+    }
+
+    /// Appends a TAB and the field of each column in the row at hand, up to the first that raises a state, which is given.
+    ///
+    /// # Errors
+    /// [`Memory`] where memory runs out. What is said of the counter holds then too. There, and where a state is given, what stood in `out`
+    /// stays, and something may stand behind it.
+    pub(crate) fn print(
+        &mut self,
+        alloc: Global,
+        out: &mut Bytes,
+        steps: &mut Steps,
+    ) -> Result<Option<State>, Memory>
+        requires { IsPlaced self.old }
+        ensures prints { AppendsList (columns_given (meaning.columns_of (table_of self.old.table.now)) self.old.cursor.given) result out.old out.new }
+        ensures costs { steps.new ≤ raised steps.old (columns_cost (meaning.columns_of (table_of self.old.table.now)) self.old.cursor.given) }
+        ensures left { plan_left self.new ≡ plan_left self.old }
+        ensures due { plan_due self.new ≡ plan_due self.old }
+        ensures table { self.new.table ≡ self.old.table }
+        ensures placed { IsPlaced self.new }
+    {
+        print_columns(alloc, self.columns.as_mut_slice(), &self.cursor, out, steps)
     }
 
     /// The values of the columns that were found last. They can be printed.

@@ -14,5 +14,5 @@ mod Predicates
 mod Printed
 -- for crates above
 pub mod SoundOperations
--- for `print_each`, `print_list` and `print_found`
-mod PrintedFields
+-- for `print_each`, `print_list` and `print_found`, and for crates above
+pub mod PrintedFields

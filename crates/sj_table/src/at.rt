@@ -7,9 +7,21 @@ use crate::cells::{At, Cell, Cross, Hand, Nested, PathCell, Side, Union};
 use sj_item::Item;
 
 impl<'d> Cell<'d> {
-    /// The item and the ordinal of a path in the row at hand, where it has an entry there.
+    /// The item and the ordinal of a path in the row at hand, where it has an entry there. Most plans are one path, which is looked at
+    /// in place.
+    #[inline(always)]
+    pub(crate) fn entry(&self, path: u32) -> Option<(Item<'d>, u64)>
+        ensures { option_map entry_value result ≡ entry path (cells_of.row_of self.now) }
+    {
+        match self {
+            Cell::Single(own) => own.at(path),
+            Cell::Nested(_) | Cell::Union(_) | Cell::Cross(_) => self.at(path),
+        }
+    }
+
+    // The same of any plan.
     #[cycle(at)]
-    pub(crate) fn at(&self, path: u32) -> Option<(Item<'d>, u64)>
+    fn at(&self, path: u32) -> Option<(Item<'d>, u64)>
         ensures { option_map entry_value result ≡ entry path (cells_of.row_of self.now) }
     {
         match self {
@@ -22,6 +34,7 @@ impl<'d> Cell<'d> {
 }
 
 impl<'d> PathCell<'d> {
+    #[inline(always)]
     fn at(&self, path: u32) -> Option<(Item<'d>, u64)>
         ensures { option_map entry_value result ≡ entry path (cells_of.entry_at self.now ∷ []) }
     {

@@ -127,11 +127,12 @@ impl<'d> TableCursor<'d> {
 
     /// The item and the ordinal of a path in the row just given, where the path has an item there. There is no such row before the
     /// first one and after an end.
+    #[inline(always)]
     pub fn at(&self, path: u32) -> Option<(Item<'d>, u64)>
         ensures { option_map entry_value result ≡ entry path self.now.given }
     {
         match self.answered {
-            Some(RowPull::Row) => self.cell.at(path),
+            Some(RowPull::Row) => self.cell.entry(path),
             _ => None,
         }
     }

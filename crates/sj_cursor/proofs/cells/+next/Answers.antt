@@ -8,7 +8,9 @@ use Rattle.sj_cursor.proofs.Looks.{looking_from, looking_on, looking_enough, loo
 use Rattle.sj_cursor.proofs.Pairs.{pairing_from, pairing_item, pairing_stop, pairing_end, pairing_fault, pairings_from, pairings_item, pairings_stop, pairings_end, pairings_fault}
 use Rattle.sj_cursor.proofs.ComparisonVerdicts.{compare_early, compare_all, right_decides}
 use Rattle.sj_cursor.proofs.Operators.{as_it_is, sub_some, subs_some}
-use Rattle.sj_cursor.proofs.Parts.{element_goes, range_bad, range_goes, binary_bad, binary_goes}
+use Rattle.sj_cursor.proofs.Parts.{element_goes, range_bad, range_goes, binary_bad, binary_stops, binary_goes}
+use Rattle.sj_cursor.proofs.MadeNumbers.{operand_made, operand_price}
+use Rattle.sj_cursor.proofs.Trails.{leads_draws}
 use Rattle.sj_cursor.proofs.Connectives.{and_false, and_other, or_true, or_other, not_decides, unknown_decides, filter_draws}
 use Rattle.sj_cursor.proofs.cells.+next.Goals as goal
 
@@ -69,11 +71,27 @@ Operand::look-returns-in-End-clause-finds t c = looking_end _ _ _ _ _ _ _ _ c.lo
 pub Operand::look-returns-in-Fault-clause-finds : goal.Operand::look-returns-in-Fault-clause-finds
 Operand::look-returns-in-Fault-clause-finds t c = looking_fault _ _ _ _ _ _ _ _ _ c.looking.invariant.looking c.in-Fault.ensures.answers
 
+pub Operand::number-returns-in-Some-clause-answers : goal.Operand::number-returns-in-Some-clause-answers
+Operand::number-returns-in-Some-clause-answers t c =
+    c.single_operand.ensures ∙ ap Rattle.sj_cursor.specs.Numbers.operand_in (single_answer _ _ _ _ _ _ (rw (c.of_single-limit.ensures, ← c.in-Some.ensures Unwrapped) at c.look_in_place.ensures))
+
+pub Operand::number-returns-in-Some-clause-costs : goal.Operand::number-returns-in-Some-clause-costs
+Operand::number-returns-in-Some-clause-costs t c = single_price _ _ _ _ _ (rw (c.of_single-limit.ensures, ← c.in-Some.ensures Unwrapped) at c.look_in_place.ensures)
+
+pub Operand::number-returns-in-Binary-clause-answers : goal.Operand::number-returns-in-Binary-clause-answers
+Operand::number-returns-in-Binary-clause-answers t c =
+    rw (← c.deref_mut.ensures.value, c.in-Binary.is) (operand_made (binary_core c.in-Binary.binary.value) _ _ _ _ (rw c.deref_mut-in-Binary.ensures.value at c.number.ensures.gives))
+
+pub Operand::number-returns-in-Binary-clause-costs : goal.Operand::number-returns-in-Binary-clause-costs
+Operand::number-returns-in-Binary-clause-costs t c =
+    rw (← c.deref_mut.ensures.value, c.in-Binary.is) (operand_price (binary_core c.in-Binary.binary.value) _ _ _ _ (rw c.deref_mut-in-Binary.ensures.value at c.number.ensures.gives))
+
 pub Operand::number-returns-clause-answers : goal.Operand::number-returns-clause-answers
-Operand::number-returns-clause-answers t c = c.single_operand.ensures ∙ ap Rattle.sj_cursor.specs.Numbers.operand_in (single_answer _ _ _ _ _ _ (rw c.of_single.ensures at c.look-look.ensures.finds))
+Operand::number-returns-clause-answers t c =
+    c.single_operand-2.ensures ∙ ap Rattle.sj_cursor.specs.Numbers.operand_in (single_answer _ _ _ _ _ _ (rw (c.of_single-limit.ensures, c.deref_mut.ensures.value) at c.look-look.ensures.finds))
 
 pub Operand::number-returns-clause-costs : goal.Operand::number-returns-clause-costs
-Operand::number-returns-clause-costs t c = single_price _ _ _ _ _ (rw c.of_single.ensures at c.look-look.ensures.finds)
+Operand::number-returns-clause-costs t c = single_price _ _ _ _ _ (rw (c.of_single-limit.ensures, c.deref_mut.ensures.value) at c.look-look.ensures.finds)
 
 pub Operand::index-returns-clause-answers : goal.Operand::index-returns-clause-answers
 Operand::index-returns-clause-answers t c = c.single_subscript.ensures ∙ ap Rattle.sj_cursor.specs.Numbers.subscript_in (single_answer _ _ _ _ _ _ (rw c.of_single.ensures at c.look-look.ensures.finds))
@@ -265,14 +283,20 @@ Range::start-returns-in-Err-clause-starts t c = rw c.of_fault.ensures (range_bad
 
 -- ---- arithmetic
 
-pub Binary::start-returns-in-Ok-clause-starts : goal.Binary::start-returns-in-Ok-clause-starts
-Binary::start-returns-in-Ok-clause-starts t c = rw c.computed.ensures (binary_goes _ _ _ _ _ _ _ _ _ c.in-Ok.ensures.answers c.in-Ok.ensures.costs c.number-right.ensures.answers c.number-right.ensures.costs)
+pub Binary::number-returns-in-Ok-number-clause-gives : goal.Binary::number-returns-in-Ok-number-clause-gives
+Binary::number-returns-in-Ok-number-clause-gives t c =
+    rw c.binary.ensures (binary_goes _ _ _ _ _ _ _ _ _ c.in-Ok.ensures.answers c.in-Ok.ensures.costs c.in-Ok-number.ensures.answers c.in-Ok-number.ensures.costs)
 
-pub Binary::start-returns-in-Err-clause-starts : goal.Binary::start-returns-in-Err-clause-starts
-Binary::start-returns-in-Err-clause-starts t c = rw c.of_fault.ensures (binary_bad _ _ _ _ _ _ _ c.in-Err.ensures.answers c.in-Err.ensures.costs)
+pub Binary::number-returns-in-Err-number-clause-gives : goal.Binary::number-returns-in-Err-number-clause-gives
+Binary::number-returns-in-Err-number-clause-gives t c =
+    binary_stops _ _ _ _ _ _ _ _ _ c.in-Ok.ensures.answers c.in-Ok.ensures.costs c.in-Err-number.ensures.answers c.in-Err-number.ensures.costs
+
+pub Binary::number-returns-in-Err-clause-gives : goal.Binary::number-returns-in-Err-clause-gives
+Binary::number-returns-in-Err-clause-gives t c = binary_bad _ _ _ _ _ _ _ c.in-Err.ensures.answers c.in-Err.ensures.costs
 
 pub Binary::next-returns-in-Unasked-clause-answers : goal.Binary::next-returns-in-Unasked-clause-answers
-Binary::next-returns-in-Unasked-clause-answers t c = rw c.in-Unasked.is (draws_after _ _ _ _ _ _ _ c.start-walk.ensures.starts (draws_takes _ _ _ _ _ c.put_next-answer.ensures))
+Binary::next-returns-in-Unasked-clause-answers t c =
+    rw c.in-Unasked.is (leads_draws _ _ _ _ _ _ _ c.number.ensures.gives (draws_takes _ _ _ _ _ (rw c.number_walk-walk.ensures at c.put_next-answer.ensures)))
 
 pub MoreParts::next-next-requires : goal.MoreParts::next-next-requires
 MoreParts::next-next-requires t c = (omega (arith, subs_some (parts_core c.args.self.now.others.value)), search rules)

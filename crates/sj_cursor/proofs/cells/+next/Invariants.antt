@@ -77,8 +77,8 @@ decreases-Bounds::start l = 16 * sub_nodes (bounds_core l.self.now) + 7
 abbrev pub decreases-Range::start : goal.decreases-Range::start
 decreases-Range::start l = 16 * sub_nodes (range_core l.self.now) + 6
 
-abbrev pub decreases-Binary::start : goal.decreases-Binary::start
-decreases-Binary::start l = 16 * expr_nodes (binary_core l.self.now)
+abbrev pub decreases-Binary::number : goal.decreases-Binary::number
+decreases-Binary::number l = 16 * expr_nodes (binary_core l.self.now)
 
 abbrev pub decreases-Binary::next : goal.decreases-Binary::next
 decreases-Binary::next l = 16 * expr_nodes (binary_core l.self.now) + 1

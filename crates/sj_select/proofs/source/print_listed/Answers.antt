@@ -1,20 +1,45 @@
-use Rattle.std.proofs.Common.{◌≡◌, ◌≤◌, ℕ, ◌+◌, ◌∙◌, Ok, Err, Bor, sym, ap, subst}
+use Rattle.std.proofs.Common.{◌≡◌, ◌≤◌, ℕ, ◌+◌, ◌∙◌, List, Bor, sym, ap, subst}
 use Rattle.sj_base.specs.Count.{raised}
 use Rattle.sj_table.specs.Series.{more}
 use Rattle.sj_table.specs.Takes.{Spends}
+use Rattle.sj_bound.specs.Bound as b
 use Rattle.sj_bound.specs.View.{table_of}
 use Rattle.sj_bound.specs.declared.bound.BoundTable.{BoundTable}
-use Rattle.sj_rows.specs.RowText.{Extends}
 use Rattle.sj_rows.proofs.Extending.{extends_none}
 use Rattle.sj_select_list.specs.Line.{line_of}
-use Rattle.sj_select_list.specs.Printing.{HasFields}
-use Rattle.sj_select_list.specs.Values.{given_list}
-use Rattle.sj_select.specs.Columns.{columns_of, columns_given, columns_cost}
-use Rattle.sj_select.specs.Rows.{listed, listed_cost}
+use Rattle.sj_select_list.specs.Operations.{steps_of, steps_to_all}
+use Rattle.sj_select.specs.Rows.{row_of, row_cost, listed, listed_cost}
 use Rattle.sj_select.specs.Sources.{listed_due}
 use Rattle.sj_select.specs.Tables.{plan_left, plan_due}
-use Rattle.sj_select.proofs.Listing.{out_of_memory, end_spends, listed_row, listed_stop, listed_raised, column_spends, value_spends, row_spends}
+use Rattle.sj_select.proofs.Listing.{out_of_memory, end_spends, listed_row, listed_stop, stop_spends, row_spends}
 use Rattle.sj_select.proofs.source.print_listed.Goals as goal
+use Rattle.sj_select.proofs.source.print_listed.Goals.{After-print_row}
+
+-- the row at hand is the next of those that were left, and the others are left now
+comes : (c : After-print_row) → plan_left c.args.table.now ≡ more c.next_row.new.self.cursor.given (plan_left c.print_row.new.table)
+comes c = c.in-Row.ensures.takes.answers ∙ ap (more c.next_row.new.self.cursor.given) (sym c.print_row.ensures.left)
+
+-- it is a row of the table, which is the same as before
+same_row : (c : After-print_row) (list : List b.Value) → row_of (line_of c.args.line) (table_of c.args.table.now.table.now) list c.next_row.new.self.cursor.given ≡ row_of (line_of c.args.line) (table_of c.next_row.new.self.table.now) list c.next_row.new.self.cursor.given
+same_row c list = ap (λ (t : Bor BoundTable). row_of (line_of c.args.line) (table_of t.now) list c.next_row.new.self.cursor.given) (sym c.next_row.ensures.table)
+
+-- what it takes
+spent : (c : After-print_row) (list : List b.Value) → steps_of c.args.operations.now ≡ steps_to_all list
+    → c.print_row.new.steps ≤ raised c.next_row.new.steps (row_cost (line_of c.args.line) (table_of c.args.table.now.table.now) list c.next_row.new.self.cursor.given)
+spent c list finds =
+    subst (λ (t : Bor BoundTable). c.print_row.new.steps ≤ raised c.next_row.new.steps (row_cost (line_of c.args.line) (table_of t.now) list c.next_row.new.self.cursor.given)) c.next_row.ensures.table (c.print_row.ensures.costs list finds)
+
+-- what is due behind it
+due : (c : After-print_row) (list : List b.Value) → plan_due c.next_row.new.self + listed_cost (line_of c.args.line) (table_of c.args.table.now.table.now) list (plan_left c.print_row.new.table) ≡ listed_due (line_of c.args.line) list c.print_row.new.table
+due c list =
+    let others = plan_left c.print_row.new.table in
+    ap (λ (d : ℕ). d + listed_cost (line_of c.args.line) (table_of c.args.table.now.table.now) list others) (sym c.print_row.ensures.due)
+    ∙ ap (λ (t : Bor BoundTable). plan_due c.print_row.new.table + listed_cost (line_of c.args.line) (table_of t.now) list others) (sym (c.print_row.ensures.table ∙ c.next_row.ensures.table))
+
+-- where it is the last
+stops : (c : After-print_row) (list : List b.Value) → steps_of c.args.operations.now ≡ steps_to_all list → Spends (listed_due (line_of c.args.line) list c.args.table.now) 0 c.args.steps.now c.print_row.new.steps
+stops c list finds =
+    stop_spends (line_of c.args.line) (table_of c.args.table.now.table.now) list _ _ _ _ _ _ _ _ (comes c) c.in-Row.ensures.takes.spends (spent c list finds)
 
 pub returns-in-End-clause-prints : goal.returns-in-End-clause-prints
 returns-in-End-clause-prints c list finds = (ap (listed (line_of c.args.line) (table_of c.args.table.now.table.now) list) c.in-End.ensures.takes.answers, extends_none _)
@@ -28,126 +53,33 @@ returns-in-Raised-clause-prints c list finds = (ap (listed (line_of c.args.line)
 pub returns-in-Raised-clause-costs : goal.returns-in-Raised-clause-costs
 returns-in-Raised-clause-costs c list finds = end_spends _ _ _ _ c.in-Raised.ensures.takes.spends
 
-pub returns-in_err-state-clause-costs : goal.returns-in_err-state-clause-costs
-returns-in_err-state-clause-costs c list finds =
-    let line = line_of c.args.line in
-    let table = table_of c.args.table.now.table.now in
-    let left = plan_left c.args.table.now in
-    let row = c.next_row.new.self.cursor.given in
-    let is_more : left ≡ more row (plan_left c.next_row.new.self) = c.in-Row.ensures.takes.answers in
-    let spends : Spends (plan_due c.args.table.now) (plan_due c.next_row.new.self) c.args.steps.now c.next_row.new.steps = c.in-Row.ensures.takes.spends in
-    let spent : c.fill.new.steps ≤ raised c.next_row.new.steps (columns_cost (columns_of table) row) =
-    subst (λ (t : Bor BoundTable). c.fill.new.steps ≤ raised c.next_row.new.steps (columns_cost (columns_of (table_of t.now)) row)) c.next_row.ensures.table c.fill.ensures.costs in
-    let none = out_of_memory c.from_residual.result (listed_due line list c.fill.new.self) c.from_residual.ensures.0 in
-    subst (λ (n : ℕ). Spends (listed_due line list c.args.table.now) n c.args.steps.now c.fill.new.steps) (sym none)
-    (column_spends line table list left row (plan_left c.next_row.new.self) (plan_due c.args.table.now) (plan_due c.next_row.new.self) c.args.steps.now c.next_row.new.steps c.fill.new.steps is_more spends spent)
-
-pub returns-in-Some-clause-prints : goal.returns-in-Some-clause-prints
-returns-in-Some-clause-prints c list finds =
-    let line = line_of c.args.line in
-    let table = table_of c.args.table.now.table.now in
-    let left = plan_left c.args.table.now in
-    let row = c.next_row.new.self.cursor.given in
-    let is_more : left ≡ more row (plan_left c.next_row.new.self) = c.in-Row.ensures.takes.answers in (
-      listed_stop line table list left row (plan_left c.next_row.new.self) c.in-Some.state is_more
-          (ap (λ (t : Bor BoundTable). columns_given (columns_of (table_of t.now)) row) (sym c.next_row.ensures.table) ∙ rw c.in-Some.is at c.in_ok-state.ensures.fills),
-      extends_none _,
-    )
-
-pub returns-in-Some-clause-costs : goal.returns-in-Some-clause-costs
-returns-in-Some-clause-costs c list finds =
-    let line = line_of c.args.line in
-    let table = table_of c.args.table.now.table.now in
-    let left = plan_left c.args.table.now in
-    let row = c.next_row.new.self.cursor.given in
-    let is_more : left ≡ more row (plan_left c.next_row.new.self) = c.in-Row.ensures.takes.answers in
-    let spends : Spends (plan_due c.args.table.now) (plan_due c.next_row.new.self) c.args.steps.now c.next_row.new.steps = c.in-Row.ensures.takes.spends in
-    let spent : c.fill.new.steps ≤ raised c.next_row.new.steps (columns_cost (columns_of table) row) =
-    subst (λ (t : Bor BoundTable). c.fill.new.steps ≤ raised c.next_row.new.steps (columns_cost (columns_of (table_of t.now)) row)) c.next_row.ensures.table c.fill.ensures.costs in
-    column_spends line table list left row (plan_left c.next_row.new.self) (plan_due c.args.table.now) (plan_due c.next_row.new.self) c.args.steps.now c.next_row.new.steps c.fill.new.steps is_more spends spent
-
-pub returns-in_err-print_list-clause-costs : goal.returns-in_err-print_list-clause-costs
-returns-in_err-print_list-clause-costs c list finds =
-    let line = line_of c.args.line in
-    let table = table_of c.args.table.now.table.now in
-    let left = plan_left c.args.table.now in
-    let row = c.next_row.new.self.cursor.given in
-    let is_more : left ≡ more row (plan_left c.next_row.new.self) = c.in-Row.ensures.takes.answers in
-    let spends : Spends (plan_due c.args.table.now) (plan_due c.next_row.new.self) c.args.steps.now c.next_row.new.steps = c.in-Row.ensures.takes.spends in
-    let spent : c.fill.new.steps ≤ raised c.next_row.new.steps (columns_cost (columns_of table) row) =
-    subst (λ (t : Bor BoundTable). c.fill.new.steps ≤ raised c.next_row.new.steps (columns_cost (columns_of (table_of t.now)) row)) c.next_row.ensures.table c.fill.ensures.costs in
-    let cs = c.values.result.now in
-    let is : columns_given (columns_of table) row ≡ Ok cs =
-    ap (λ (t : Bor BoundTable). columns_given (columns_of (table_of t.now)) row) (sym c.next_row.ensures.table) ∙ rw c.in_default.is at c.in_ok-state.ensures.fills ∙ ap Ok (sym c.values.ensures.is) in
-    let none = out_of_memory c.from_residual-in_err-print_list.result (listed_due line list c.fill.new.self) c.from_residual-in_err-print_list.ensures.0 in
-    subst (λ (n : ℕ). Spends (listed_due line list c.args.table.now) n c.args.steps.now c.print_list.new.steps) (sym none)
-    (value_spends line table list left row (plan_left c.next_row.new.self) cs (plan_due c.args.table.now) (plan_due c.next_row.new.self) c.args.steps.now c.next_row.new.steps c.fill.new.steps c.print_list.new.steps
-    is_more is spends spent (c.print_list.ensures.costs list finds))
+pub returns-in_err-print_row-clause-costs : goal.returns-in_err-print_row-clause-costs
+returns-in_err-print_row-clause-costs c list finds =
+    subst (λ (n : ℕ). Spends (listed_due (line_of c.args.line) list c.args.table.now) n c.args.steps.now c.print_row.new.steps) (sym (out_of_memory c.from_residual.result (listed_due (line_of c.args.line) list c.print_row.new.table) c.from_residual.ensures.0))
+    (stops (goal.at.returns-in_err-print_row-clause-costs c).After-print_row list finds)
 
 pub returns-in-None-clause-prints : goal.returns-in-None-clause-prints
 returns-in-None-clause-prints c list finds =
-    let line = line_of c.args.line in
-    let table = table_of c.args.table.now.table.now in
-    let left = plan_left c.args.table.now in
-    let row = c.next_row.new.self.cursor.given in
-    let is_more : left ≡ more row (plan_left c.next_row.new.self) = c.in-Row.ensures.takes.answers in
-    let cs = c.values.result.now in
-    let is : columns_given (columns_of table) row ≡ Ok cs =
-    ap (λ (t : Bor BoundTable). columns_given (columns_of (table_of t.now)) row) (sym c.next_row.ensures.table) ∙ rw c.in_default.is at c.in_ok-state.ensures.fills ∙ ap Ok (sym c.values.ensures.is) in
-    let appended : HasFields (given_list line cs list) c.args.out.now c.print_list.new.out = rw c.in-None.is at (c.in_ok-print_list.ensures.prints list finds) in
+    let after = (goal.at.returns-in-None-clause-prints c).After-print_row in
+    let printed = rw c.in-None.is at (c.in_ok-print_row.ensures.prints list finds) in
     record {
-      row = appended.values;
-      is = listed_row line table list left row (plan_left c.fill.new.self) cs appended.values (is_more ∙ ap (more row) (sym c.fill.ensures.left)) is appended.is;
-      grown = appended.grown;
+      row = printed.values;
+      is = listed_row _ (table_of c.args.table.now.table.now) list _ _ _ _ (comes after) (same_row after list ∙ printed.is);
+      grown = printed.grown;
     }
 
 pub returns-in-None-clause-costs : goal.returns-in-None-clause-costs
 returns-in-None-clause-costs c list finds =
-    let line = line_of c.args.line in
-    let table = table_of c.args.table.now.table.now in
-    let left = plan_left c.args.table.now in
-    let row = c.next_row.new.self.cursor.given in
-    let is_more : left ≡ more row (plan_left c.next_row.new.self) = c.in-Row.ensures.takes.answers in
-    let spends : Spends (plan_due c.args.table.now) (plan_due c.next_row.new.self) c.args.steps.now c.next_row.new.steps = c.in-Row.ensures.takes.spends in
-    let spent : c.fill.new.steps ≤ raised c.next_row.new.steps (columns_cost (columns_of table) row) =
-    subst (λ (t : Bor BoundTable). c.fill.new.steps ≤ raised c.next_row.new.steps (columns_cost (columns_of (table_of t.now)) row)) c.next_row.ensures.table c.fill.ensures.costs in
-    let cs = c.values.result.now in
-    let is : columns_given (columns_of table) row ≡ Ok cs =
-    ap (λ (t : Bor BoundTable). columns_given (columns_of (table_of t.now)) row) (sym c.next_row.ensures.table) ∙ rw c.in_default.is at c.in_ok-state.ensures.fills ∙ ap Ok (sym c.values.ensures.is) in
-    let others = plan_left c.fill.new.self in
-    let due : plan_due c.next_row.new.self + listed_cost line table list others ≡ listed_due line list c.fill.new.self =
-    ap (λ (d : ℕ). d + listed_cost line table list others) (sym c.fill.ensures.due)
-    ∙ ap (λ (t : Bor BoundTable). plan_due c.fill.new.self + listed_cost line (table_of t.now) list others) (sym (c.fill.ensures.table ∙ c.next_row.ensures.table)) in
-    let appended : HasFields (given_list line cs list) c.args.out.now c.print_list.new.out = rw c.in-None.is at (c.in_ok-print_list.ensures.prints list finds) in
-    subst (λ (n : ℕ). Spends (listed_due line list c.args.table.now) n c.args.steps.now c.print_list.new.steps) due
-    (row_spends line table list left row others cs appended.values (plan_due c.args.table.now) (plan_due c.next_row.new.self) c.args.steps.now c.next_row.new.steps c.fill.new.steps c.print_list.new.steps
-    (is_more ∙ ap (more row) (sym c.fill.ensures.left)) is appended.is spends spent (c.print_list.ensures.costs list finds))
+    let after = (goal.at.returns-in-None-clause-costs c).After-print_row in
+    let printed = rw c.in-None.is at (c.in_ok-print_row.ensures.prints list finds) in
+    subst (λ (n : ℕ). Spends (listed_due (line_of c.args.line) list c.args.table.now) n c.args.steps.now c.print_row.new.steps) (due after list)
+    (row_spends _ (table_of c.args.table.now.table.now) list _ _ _ _ _ _ _ _ _ (comes after) (same_row after list ∙ printed.is) c.in-Row.ensures.takes.spends (spent after list finds))
 
-pub returns-in-Some-2-clause-prints : goal.returns-in-Some-2-clause-prints
-returns-in-Some-2-clause-prints c list finds =
-    let line = line_of c.args.line in
-    let table = table_of c.args.table.now.table.now in
-    let left = plan_left c.args.table.now in
-    let row = c.next_row.new.self.cursor.given in
-    let is_more : left ≡ more row (plan_left c.next_row.new.self) = c.in-Row.ensures.takes.answers in
-    let cs = c.values.result.now in
-    let is : columns_given (columns_of table) row ≡ Ok cs =
-    ap (λ (t : Bor BoundTable). columns_given (columns_of (table_of t.now)) row) (sym c.next_row.ensures.table) ∙ rw c.in_default.is at c.in_ok-state.ensures.fills ∙ ap Ok (sym c.values.ensures.is) in
-    let state : (given_list line cs list ≡ Err c.in-Some-2.state) × Extends c.args.out.now c.print_list.new.out = rw c.in-Some-2.is at (c.in_ok-print_list.ensures.prints list finds) in
-    (listed_raised line table list left row (plan_left c.next_row.new.self) cs c.in-Some-2.state is_more is state.0, state.1)
+pub returns-in-Some-clause-prints : goal.returns-in-Some-clause-prints
+returns-in-Some-clause-prints c list finds =
+    let after = (goal.at.returns-in-Some-clause-prints c).After-print_row in
+    let printed = rw c.in-Some.is at (c.in_ok-print_row.ensures.prints list finds) in
+    (listed_stop _ (table_of c.args.table.now.table.now) list _ _ _ _ (comes after) (same_row after list ∙ printed.0), printed.1)
 
-pub returns-in-Some-2-clause-costs : goal.returns-in-Some-2-clause-costs
-returns-in-Some-2-clause-costs c list finds =
-    let line = line_of c.args.line in
-    let table = table_of c.args.table.now.table.now in
-    let left = plan_left c.args.table.now in
-    let row = c.next_row.new.self.cursor.given in
-    let is_more : left ≡ more row (plan_left c.next_row.new.self) = c.in-Row.ensures.takes.answers in
-    let spends : Spends (plan_due c.args.table.now) (plan_due c.next_row.new.self) c.args.steps.now c.next_row.new.steps = c.in-Row.ensures.takes.spends in
-    let spent : c.fill.new.steps ≤ raised c.next_row.new.steps (columns_cost (columns_of table) row) =
-    subst (λ (t : Bor BoundTable). c.fill.new.steps ≤ raised c.next_row.new.steps (columns_cost (columns_of (table_of t.now)) row)) c.next_row.ensures.table c.fill.ensures.costs in
-    let cs = c.values.result.now in
-    let is : columns_given (columns_of table) row ≡ Ok cs =
-    ap (λ (t : Bor BoundTable). columns_given (columns_of (table_of t.now)) row) (sym c.next_row.ensures.table) ∙ rw c.in_default.is at c.in_ok-state.ensures.fills ∙ ap Ok (sym c.values.ensures.is) in
-    value_spends line table list left row (plan_left c.next_row.new.self) cs (plan_due c.args.table.now) (plan_due c.next_row.new.self) c.args.steps.now c.next_row.new.steps c.fill.new.steps c.print_list.new.steps
-    is_more is spends spent (c.print_list.ensures.costs list finds)
+pub returns-in-Some-clause-costs : goal.returns-in-Some-clause-costs
+returns-in-Some-clause-costs c list finds = stops (goal.at.returns-in-Some-clause-costs c).After-print_row list finds
