@@ -9,9 +9,9 @@ is said beside it:
 
 - statements: a hundred statements cost at most 120 times what one does, reading and all;
 - lines: a byte of a line of 16 MB costs at most three times what it does in lines of 400 bytes;
-- pieces: a hundred statements over packets of 64 bytes cost at most three times what they do over the same lines in one file;
+- pieces: a hundred statements over packets of 64 to 4,096 bytes cost at most 1.5 times what they do over the same lines in one file;
 - kinds: of no kind of text does the program read less than half as many bytes a second as a loop over simdjson's DOM, where
-  that is there;
+  that is there (with its AVX-512 code nested brackets are past this on some machines);
 - memory: rows of 30,000 bytes for lines of one byte, and a thousand statements for each line of two bytes, take at most 8 MB.
 
 The benchmark is no part of the tests, and nothing that it says is proved.
@@ -120,10 +120,12 @@ def pieces(bench):
         measure(tool, corpus, os.devnull)
     whole = min(tool.busy)
     print(f"  one file{whole:22.3f} s")
+    longest = 0
     for length in (4_096, 1_024, 342, 64):
         seconds = min(by_packets(tool.words, text, length) for _ in range(bench.rounds))
+        longest = max(longest, seconds)
         print(f"  packets of {length:5} bytes{seconds:10.3f} s{seconds / whole:8.2f} times as long")
-    return seconds <= 3 * whole
+    return longest <= 1.5 * whole
 
 
 def kinds_of_text():

@@ -2,7 +2,7 @@
 
 usage, at the top of the repository: python3 -B -m checks.times LOG
 
-The tables are Markdown, as docs/ARCHITECTURE.md has them: the wall time and the processor time of each crate's proof, of its tests and of its edits, the
+The tables are Markdown, as docs/COSTS.md has them: the wall time and the processor time of each crate's proof, of its tests and of its edits, the
 chain of crates whose proofs take longest one behind the other, and the edits that took most. What an earlier run had
 passed was not made again, and has no times.
 """
