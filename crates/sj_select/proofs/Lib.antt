@@ -5,7 +5,7 @@ mod SoundColumns
 mod MadeColumns
 -- for `print_columns`
 mod PrintedColumns
--- for `find_each_column` and `print_row`
+-- for `each_finds_its_column` and `print_row`
 mod EachColumn
 -- for `print_row` and `print_listed`
 mod Listing

@@ -19,8 +19,8 @@ use sj_table::TableCursor;
 use sj_value::SqlValue;
 use std::alloc::Global;
 
-/// Whether the operations find so many columns, each in its turn and nothing else, as those of `SELECT *` do.
-pub(crate) fn find_each_column(operations: &[Operation<'_>], count: usize) -> bool
+/// Whether there are so many operations, and each finds the column whose turn it is, as those of `SELECT *` do.
+pub(crate) fn each_finds_its_column(operations: &[Operation<'_>], count: usize) -> bool
     ensures { result ≡ true → (length operations.now ≡ count) × FindsEach 0 (steps_of operations.now) }
 {
     if operations.len() != count {

@@ -18,7 +18,7 @@ ghost use Rattle.sj_select.specs.Rows.{StatementRows, one_row, row_of, row_cost,
 ghost use Rattle.sj_select.specs.Sources.{IsFor, IsTableOf, IsPlacedIfAny, IsReadySource, source_left, source_due, listed_due, due_behind, Prints, TakesRow, TakesRows, taken_cost};
 ghost use Rattle.sj_select.specs.Tables.{IsPlaced, plan_left, plan_due};
 
-use crate::print::find_each_column;
+use crate::print::each_finds_its_column;
 use crate::table::TableRows;
 use sj_base::{Bytes, Memory, State, Steps};
 use sj_bound::Bound;
@@ -223,7 +223,7 @@ fn print_row<'d>(
     ensures table { table.new.table ≡ table.old.table }
     ensures placed { IsPlaced table.new }
 {
-    if find_each_column(operations, table.columns.len()) {
+    if each_finds_its_column(operations, table.columns.len()) {
         return table.print(alloc, out, steps);
     }
     if let Some(state) = table.fill(alloc, steps)? {

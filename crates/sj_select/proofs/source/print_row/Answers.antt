@@ -17,12 +17,12 @@ use Rattle.sj_select.proofs.EachColumn.{row_is_columns}
 use Rattle.sj_select.proofs.Listing.{row_is, row_stops, row_cost_is}
 use Rattle.sj_select.proofs.source.print_row.Goals as goal
 
-pub returns-then-find_each_column-clause-prints : goal.returns-then-find_each_column-clause-prints
-returns-then-find_each_column-clause-prints c list finds =
+pub returns-then-each_finds_its_column-clause-prints : goal.returns-then-each_finds_its_column-clause-prints
+returns-then-each_finds_its_column-clause-prints c list finds =
     let line = line_of c.args.line in
     let table = table_of c.args.table.now.table.now in
     let row = c.args.table.now.cursor.given in
-    let each = c.find_each_column.ensures c.if-find_each_column.true in
+    let each = c.each_finds_its_column.ensures c.if-each_finds_its_column.true in
     let all : length (steps_to_all list) ≡ length (columns_of table) =
     omega (arith, ap length finds, length-map c.args.operations.now step_of, each.0, c.len.ensures, length-map c.args.table.now.columns.items column_of, ap length c.requires.placed.columns) in
     subst (λ (end : Result (List SqlValue) State). AppendsList end c.print.result c.args.out.now c.print.new.out) (sym (row_is_columns line table list row (subst (FindsEach 0) finds each.1) all)) c.print.ensures.prints

@@ -1,7 +1,7 @@
 use Rattle.std.proofs.Common.{◌≡◌, drop}
 use Rattle.sj_select_list.specs.Operations.{steps_of}
 use Rattle.sj_select.specs.Listing.{FindsEach}
-use Rattle.sj_select.proofs.print.find_each_column.Given as goal
+use Rattle.sj_select.proofs.print.each_finds_its_column.Given as goal
 
 -- where the operations that are left find the columns from their number on, all of them do so from the first on
 abbrev pub invariant-loop-operation : goal.invariant-loop-operation

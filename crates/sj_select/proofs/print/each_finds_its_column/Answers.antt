@@ -2,7 +2,7 @@ use Rattle.std.proofs.Common.{◌≡◌, ◌∙◌, arith, get_or, refl, sym, ap
 use Rattle.sj_select_list.specs.Operations.{column, step_of}
 use Rattle.sj_select_list.proofs.GatheredOutcomes.{place}
 use Rattle.sj_select.proofs.EachColumn.{finds_more}
-use Rattle.sj_select.proofs.print.find_each_column.Goals as goal
+use Rattle.sj_select.proofs.print.each_finds_its_column.Goals as goal
 
 pub loop-operation-preserved : goal.loop-operation-preserved
 loop-operation-preserved c =
