@@ -4,8 +4,9 @@
 A private server of each that is installed is started in a scratch folder, where it listens on a socket alone. The recipe
 first loads its own few orders, and what it shows is compared with the file beside it. Then it loads 200,000 orders that
 this script makes, with texts that need escapes, and with lines that are wrong in ten ways. Each value in the tables is
-compared with the one that the script put into the order, which needs no sqljson; so is each error row. Where one differs
-the script ends with status 1.
+compared with the one that the script put into the order, which needs no sqljson; so is each error row. At last the recipe
+runs with a statement file that is refused, without its input, and with rows that the tables refuse: then it has to fail,
+show no row, and leave no row. Where something differs the script ends with status 1.
 
 The servers come by `apt-get install postgresql mariadb-server`. The script is no part of the tests.
 """
@@ -46,7 +47,7 @@ class Made:
         kind = self.chance.random()
         if kind < 0.005:
             self.lines.append(self.broken(order))
-            self.errors.append((number, 1, "22032"))
+            self.errors += [(number, 1, "22032"), (number, 2, "22032")]
         elif kind < 0.007:
             wrong, state = self.chance.choice([({"id": "four"}, "2203G"), ({}, "22035"), ({"id": [1]}, "2203F")])
             del order["id"]
@@ -54,8 +55,16 @@ class Made:
             self.errors += [(number, statement, state) for statement in ([1, 2] if items else [1])]
         else:
             self.lines.append(self.text(order))
-            self.orders.append((number, without_nul(name), vip is True, without_nul(note)))
-            self.items += [(number, without_nul(sku), total) for sku, total in items]
+            self.add_row(self.orders, (number, name, vip is True, note), 1)
+            for item in items:
+                self.add_row(self.items, (number, *item), 2)
+
+    def add_row(self, rows, row, statement):
+        """Adds a row, or the error row that sqljson-split-rows makes of one with U+0000."""
+        if any("\0" in value for value in row if isinstance(value, str)):
+            self.errors.append((row[0], statement, "U0000"))
+        else:
+            rows.append(row)
 
     def order(self, number):
         """An order, and the values that its rows have."""
@@ -95,11 +104,6 @@ class Price(float):
         return self.text
 
 
-def without_nul(text):
-    """What sqljson-split-rows makes of a text."""
-    return None if text is None else text.replace("\0", "")
-
-
 class Server:
     """A running server, and what its clients have to see of it."""
 
@@ -108,10 +112,13 @@ class Server:
 
     def run(self, words, room=None):
         """Runs a client or a recipe in a folder, and returns what it writes."""
-        ran = subprocess.run(words, env=self.surroundings, cwd=room, capture_output=True)
+        ran = self.tried(words, room)
         if ran.returncode:
             sys.exit(f"{words[:2]} ended with status {ran.returncode}: {ran.stderr.decode(errors='replace')}")
         return ran.stdout
+
+    def tried(self, words, room=None):
+        return subprocess.run(words, env=self.surroundings, cwd=room, capture_output=True)
 
 
 @contextmanager
@@ -211,6 +218,16 @@ KINDS = {
         ],
     ),
 }
+GOOD = b'{"id":1,"customer":{"name":"Ann"},"lines":[{"sku":"A","qty":1,"price":1}]}\n'
+# What a recipe is run with to fail, and the files that make it so: None for one that is not there.
+REFUSED = [
+    ("a statement that is refused", {"orders.sql": b"SELECT ;"}),
+    ("no input", {"orders.jsonl": None}),
+    ("a NULL that a column refuses", {"orders.jsonl": GOOD + b'{"id":null}\n'}),
+    ("a number that a column refuses", {"orders.jsonl": GOOD, "orders.sql": b"SELECT JSON_VALUE(doc, '$.id'), 'a', FALSE, 'b';"
+     b"SELECT 99999999999999999999, 'a', 1.00;"}),
+    ("a text that is no number", {"orders.jsonl": GOOD, "orders.sql": b"SELECT 1, 'a', FALSE, 'b'; SELECT 1, 'a', 'twelve';"}),
+]
 NEEDED = {"postgresql": ["postgres", "initdb", "psql"], "mariadb": ["mariadb-install-db", "mariadb"]}
 
 
@@ -232,6 +249,27 @@ def load(kind, server, room, made):
         if found != in_text(rows):
             wrong.append(f"{table}: {first_difference(found, in_text(rows))}")
     print()
+    return wrong + refused(kind, server, room)
+
+
+def refused(kind, server, room):
+    """Says which failure the recipe hides, or what it loads or shows in spite of one."""
+    ask, _, queries = KINDS[kind][1:]
+    drop = [*ask, "; ".join(f"DROP TABLE IF EXISTS {table}" for table in TABLES)]
+    statements = (room / "orders.sql").read_bytes()
+    wrong = []
+    for what, files in REFUSED:
+        server.run(drop)
+        for name, text in {"orders.sql": statements, "orders.jsonl": b"", **files}.items():
+            if text is None:
+                (room / name).unlink()
+            else:
+                (room / name).write_bytes(text)
+        ended = server.tried(["bash", f"{kind}.sh"], room)
+        left = [found for found in (server.tried([*ask, query]).stdout for query in queries) if found]
+        if not ended.returncode or ended.stdout or left:
+            wrong.append(f"with {what} the recipe ends with {ended.returncode}, shows {ended.stdout} and leaves {left}")
+    print(f"{kind}: {len(REFUSED)} failures tried")
     return wrong
 
 

@@ -43,7 +43,7 @@ def read(words):
     """The words that the script was given, if the program that they name is there."""
     given = words.parse_args()
     if not given.program.is_file():
-        sys.exit("the program is not built: call ./sqljson once")
+        sys.exit("the program is not built: call ./sqljson build")
     given.program = given.program.resolve()
     return given
 

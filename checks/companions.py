@@ -1,75 +1,39 @@
-"""The companions in tools/: split-rows, where and in-parallel, each run on the program."""
+"""The companions in tools/: split-rows and in-parallel, each run on the program."""
 import random
 
-from checks.program import Ended, difference
+from checks.parallel import check_parallel
+from checks.program import Ended, difference, status_fault
 from checks.room import COMPANIONS, room_of
 
 VALUES = b"SELECT JSON_VALUE(doc, '$.s' ERROR ON ERROR), 'E';\nSELECT JSON_VALUE(doc, '$.n' RETURNING INTEGER ERROR ON ERROR);\n"
 LINES = b'{"s":"a\\u0000b","n":1}\n\n{"s":\n{"s":"E\\tR","n":"x"}\n'
 SPLIT = {
-    "1.tsv": b"ab\tE\nE\\tR\tE\n",
+    "1.tsv": b"E\\tR\tE\n",
     "2.tsv": b"1\n",
     "3.tsv": b"",
-    "errors.tsv": b"3\t1\t22032\n3\t2\t22032\n4\t2\t2203G\n",
+    "errors.tsv": b"1\t1\tU0000\n3\t1\t22032\n3\t2\t22032\n4\t2\t2203G\n",
 }
-NUMBERED = {"1.tsv": b"1\ta\0b\tE\n4\tE\\tR\tE\n", "2.tsv": b"1\t1\n"}
-SAID = b"""statement 1: 2 rows, 1 error row (22032: 1)
+SAID = b"""statement 1: 1 row, 2 error rows (22032: 1, U0000: 1)
 statement 2: 1 row, 2 error rows (22032: 1, 2203G: 1)
 statement 3: 0 rows, 0 error rows
-U+0000 was left out of 1 row
+U+0000 is in 1 row: see U0000 in errors.tsv
 """
-MANY = 300  # statements, more than a process may have files open on some systems
-
-# Texts of statements, and what `where` writes of each behind the name of the file.
-REFUSED = [
-    (
-        "-- a ; in a comment, and a '\nSELECT 'it''s; so';\n\n"
-        "SELECT JSON_VALUE(doc, '$.a'), -- one\n  JSON_VALUE(doc, '$.b' RETURNING VARCHAR2(9)),\n  2;\nSELECT ;\n",
-        ["lines 4 to 6: statement 2: syntax error", "line 5: value 2: JSON_VALUE(doc, '$.b' RETURNING VARCHAR2(9))"],
-        ["VARCHAR2 is no type here: write VARCHAR"],
-    ),
-    (
-        "SELECT * FROM JSON_TABLE(doc, '$.x[*]' COLUMNS (\n  a VARCHAR,\n  NESTED '$.y' COLUMNS (\n    b INTEGER PATH '$.c = 1')));",
-        ["lines 1 to 4: statement 1: path: lexical error", "lines 3 to 4: column 2: NESTED '$.y' COLUMNS ( b INTEGER PATH '$.c = 1')"],
-        ["in a path, equal is written =="],
-    ),
-    (
-        "SELECT 1;\nSELECT 2, 'a;\nSELECT 'b';",
-        ["line 2: statement 2: lexical error", "line 2: value 2: 'a"],
-        ["a string has no closing quotation mark"],
-    ),
-    ("SELECT 1\nSELECT 2;", ["line 1: statement 1: syntax error"], ["no ; ends the statement"]),
-    (
-        "SELECT a, b FROM JSON_TABLE(doc, '$' COLUMNS (a INTEGER));",
-        ["line 1: statement 1: unknown column", "line 1: value 2: b"],
-        [],
-    ),
-    (
-        "SELECT JSON_EXISTS(doc, '$.a == 1 and $.b == 2');",
-        ["line 1: statement 1: path: syntax error", "line 1: value 1: JSON_EXISTS(doc, '$.a == 1 and $.b == 2')"],
-        ["in a path, `and` is written &&", "a path that is a predicate is written as a filter: $ ? (@.x == 1)"],
-    ),
-    (
-        "SELECT 1.5, DOC IS JSON;",
-        ["line 1: statement 1: syntax error", "line 1: value 2: DOC IS JSON"],
-        ["the line is called doc, in small letters"],
-    ),
-    (
-        "SELECT * FROM JSON_TABLE(doc, '$' COLUMNS (\n  a BOOLEAN EXISTS,\n  b INTEGER EXISTS PATH '$.b'));",
-        ["lines 1 to 3: statement 1: syntax error", "line 3: column 2: b INTEGER EXISTS PATH '$.b'"],
-        ["a column EXISTS has the type BOOLEAN"],
-    ),
-    (
-        "SELECT JSON_VALUE(doc, '$.a.number()'), JSON_VALUE(doc, '$.a.decimal(5,2)');",
-        ["line 1: statement 1: path: syntax error", "line 1: value 2: JSON_VALUE(doc, '$.a.decimal(5,2)')"],
-        ["nothing stands between the parentheses of a method: name a type after RETURNING"],
-    ),
-    (
-        "SELECT 1.5 /* one */;",
-        ["line 1: statement 1: lexical error", "line 1: value 1: 1.5 /* one */"],
-        ["a comment begins with -- and ends with its line"],
-    ),
+# Two keys that differ by U+0000 alone, and what each way of taking them makes of them.
+TWO_KEYS = b"1\t1\tR\tno\0t\n1\t1\tR\tnot\n"
+NUL_WAYS = [
+    ([], 10, {"1.tsv": b"not\n", "errors.tsv": b"1\t1\tU0000\n"}, b"statement 1: 1 row, 1 error row (U0000: 1)\n"
+     b"U+0000 is in 1 row: see U0000 in errors.tsv\n"),
+    (["--keep-nul"], 0, {"1.tsv": b"no\0t\nnot\n", "errors.tsv": b""}, b"statement 1: 2 rows, 0 error rows\n"),
+    (["--drop-nul"], 0, {"1.tsv": b"not\nnot\n", "errors.tsv": b""}, b"statement 1: 2 rows, 0 error rows\n"
+     b"U+0000 was left out of 1 row\n"),
 ]
+# What looks like a row of sqljson, and is none.
+NO_ROW = [
+    b"", b"{}", b"1\t1\tR", b"1\t1\tE", b"0\t1\tR\tx", b"1\t01\tR\tx", b"1\t12345678\tR\tx", b" 1\t1\tR\tx", b"1\t1\tQ\tx",
+    b"1 1\tR\tx", b"1\t1\tE\t2203", b"1\t1\tE\t2203g", b"1\t1\tE\t22032\tx", b"\0001\t1\tR\tx", b"1\t1\tE\t2203\0",
+    "\u0661\t1\tR\tx".encode(),
+]
+MANY = 300  # statements, more than a process may have files open on some systems
 
 
 def check_companions(tally, program, top):
@@ -80,7 +44,6 @@ def check_companions(tally, program, top):
             tally.check(f"{name} --help", None if tells else "it doesn't tell of itself")
             tally.check(f"{name} with a wrong word", None if wrong.status == 1 and b"usage:" in wrong.note else f"it ended with {wrong}")
         check_split(tally, room)
-        check_where(tally, room)
         check_parallel(tally, room)
 
 
@@ -92,24 +55,85 @@ def check_split(tally, room):
     tally.check("split-rows", difference(Ended(10, note=SAID), room.run([*split, *command], LINES)) or in_folder(room, SPLIT))
     rows = room.run(command[1:], LINES).output
     tally.check("split-rows over a pipe", difference(Ended(10, note=SAID), room.run(split, rows)) or in_folder(room, SPLIT))
-    ended = room.run([*split, "--numbers", "--keep-nul", *command], LINES)
-    tally.check("split-rows with numbers", difference(Ended(10, note=SAID[: SAID.index(b"U+")]), ended) or in_folder(room, NUMBERED))
+    allowing = [split[0], "--allow-error-rows", *split[1:]]
+    tally.check("split-rows that allows error rows", difference(Ended(0, note=SAID), room.run([*allowing, *command], LINES)))
+    tally.check("split-rows that allows error rows", in_folder(room, SPLIT))
+    ended = room.run([*allowing, *command[:-1], "none.sql"])
+    tally.check("split-rows that allows error rows, and a run that fails", status_fault(3, ended))
     quiet = b"statement 1: 1 row, 0 error rows\n"
     cases = [
         ("no error row", split[:1] + split[3:], b"1\t1\tR\tE\n", Ended(0, note=quiet)),
         ("a row that is cut off", split[:1] + split[3:], b"1\t1\tR\tE\n1\t2\tR\ta", Ended(11, note=quiet + b"split-rows: row 2 is cut off\n")),
-        ("no rows", split[:1] + split[3:], b"1\t1\tR\tE\n{}\n", Ended(11, note=quiet + b"split-rows: row 2 is no row of sqljson\n")),
         ("a run that fails", [*split[:1], *split[3:], *command[:-1], "none.sql"], b"", Ended(3)),
+        ("a command that writes no rows", [*split, "--", "seq", "1000000"], b"", Ended(11)),
         ("a command that isn't there", [*split, "--", "no-such-command"], b"", Ended(12)),
+        ("two ways for U+0000", [*split[:1], "--keep-nul", "--drop-nul", "split"], b"", Ended(1)),
     ]
     for name, words, given, wanted in cases:
         ended = room.run(words, given)
         tally.check(f"split-rows: {name}", difference(wanted, ended if wanted.note else Ended(ended.status, ended.output)))
+    for text in NO_ROW:
+        ended = room.run(split[:1] + split[3:], b"1\t1\tR\tE\n" + text + b"\n1\t1\tR\tF\n")
+        wanted = Ended(11, note=quiet + b"split-rows: row 2 is no row of sqljson\n")
+        tally.check(f"split-rows: {text} is no row", difference(wanted, ended) or in_folder(room, {"1.tsv": b"E\n"}))
+    for words, status, files, said in NUL_WAYS:
+        ended = room.run([split[0], *words, "split"], TWO_KEYS)
+        tally.check(f"split-rows {words} of U+0000", difference(Ended(status, note=said), ended) or in_folder(room, files))
+    room.run(split, b"")
     tally.check("split-rows empties older files", in_folder(room, {"1.tsv": b"", "2.tsv": b"", "3.tsv": b"", "errors.tsv": b""}))
+    check_split_columns(tally, room)
+    check_split_blocks(tally, room)
+    check_split_streams(tally, room)
+
+
+def check_split_columns(tally, room):
+    """Line numbers stand before the values, and columns that are NULL in every row are told."""
+    rows = b"1\t1\tR\t\\N\ta\t\\N\n1\t2\tR\t\\N\n2\t1\tR\t\\N\t\\N\t\\N\n2\t3\tR\t\\N\n2\t3\tR\t\\\\N\n"
+    ended = room.run(["sqljson-split-rows", "--numbers", "--null-columns", "split"], rows)
+    said = b"""statement 1: 2 rows, 0 error rows
+statement 1: NULL in every row: columns 1, 3
+statement 2: 1 row, 0 error rows
+statement 2: NULL in every row: column 1
+statement 3: 2 rows, 0 error rows
+"""
+    files = {"1.tsv": b"1\t\\N\ta\t\\N\n2\t\\N\t\\N\t\\N\n", "2.tsv": b"1\t\\N\n", "3.tsv": b"2\t\\N\n2\t\\\\N\n"}
+    tally.check("split-rows with numbers and columns of NULL", difference(Ended(0, note=said), ended) or in_folder(room, files))
+
+
+def check_split_blocks(tally, room):
+    """Rows are split alike wherever the input is cut into blocks, whatever a block has in it, and for any number of statements."""
+    chance = random.Random(1)
+    kinds = [lambda _: 1, lambda line: 1 + line % 3, lambda _: chance.choice([1, 2, 3])]
+    for number, (statement, errors, longest) in enumerate([(of, share, most) for of in kinds for share in (0, 0.1) for most in (5, 200_000)]):
+        wanted, rows = {"errors": [], 1: [], 2: [], 3: []}, []
+        for line in range(1, 20_000 if longest == 5 else 12):
+            name, text = statement(line), b"x\tE\t22032" if chance.random() < 0.1 else b"\\N" * chance.randrange(longest)
+            wrong = chance.random() < errors
+            rows.append(b"%d\t%d\t" % (line, name) + (b"E\t22012" if wrong else b"R\t" + text))
+            wanted["errors" if wrong else name].append(b"%d\t%d\t22012" % (line, name) if wrong else text)
+        ended = room.run(["sqljson-split-rows", "--statements", "3", "split"], b"".join(row + b"\n" for row in rows))
+        files = {f"{name}.tsv": b"".join(row + b"\n" for row in found) for name, found in wanted.items()}
+        tally.check(f"split-rows over blocks {number}", status_fault(10 if wanted["errors"] else 0, ended) or in_folder(room, files))
     rows = b"".join(b"1\t%d\tR\t%d\n" % (it, it) for it in range(1, MANY + 1))
     ended = room.run(["bash", "-c", "ulimit -n 64; exec sqljson-split-rows split"], rows)
-    tally.check("split-rows with many statements", None if ended.status == 0 else str(ended))
+    tally.check("split-rows with many statements", status_fault(0, ended))
     tally.check("split-rows with many statements", in_folder(room, {"1.tsv": b"1\n", f"{MANY}.tsv": b"%d\n" % MANY}))
+
+
+def check_split_streams(tally, room):
+    """A statement file may be a descriptor of the shell, and closed streams give a stated status and no traceback."""
+    cases = [
+        ("of a statement file from <(..)", "sqljson-split-rows split -- sqljson run <(echo 'SELECT 1;') <<< '{}'", 0, b"statement 1: 1 row, 0 error rows\n"),
+        ("without standard input", "sqljson-split-rows split <&-", 12, b"split-rows: standard input: Bad file descriptor\n"),
+        ("of a run without standard input", "sqljson-split-rows split -- sqljson run orders.sql <&-", 4, b"input failed\n"
+         b"statement 1: 0 rows, 0 error rows\nsplit-rows: sqljson ended with status 4\n"),
+        ("without standard error", "sqljson-split-rows split -- sqljson run orders.sql < orders.jsonl 2>&-", 10, b""),
+        ("with standard error on a full disk", "sqljson-split-rows split -- sqljson run orders.sql < orders.jsonl 2>/dev/full", 10, b""),
+        ("with wrong words and without standard error", "sqljson-split-rows --no-such-word 2>&- >&-", 1, b""),
+        ("without standard output", "sqljson-split-rows split -- sqljson run <(echo 'SELECT 1;') <<< '{}' >&-", 0, b"statement 1: 1 row, 0 error rows\n"),
+    ]
+    for name, command, status, said in cases:
+        tally.check(f"split-rows {name}", difference(Ended(status, note=said), room.run(["bash", "-c", command])))
 
 
 def in_folder(room, wanted):
@@ -119,46 +143,3 @@ def in_folder(room, wanted):
         if not path.is_file() or path.read_bytes() != text:
             return f"{name} has {path.read_bytes() if path.is_file() else 'gone'}, and not {text}"
     return None
-
-
-def check_where(tally, room):
-    """A refused statement is found, with the value or the column, and hints."""
-    for number, (text, places, hints) in enumerate(REFUSED, 1):
-        (room.folder / "refused.sql").write_text(text, encoding="utf-8")
-        wanted = [f"refused.sql: {place}" for place in places] + [f"hint: {hint}" for hint in hints]
-        ended = room.run(["sqljson-where", "refused.sql"])
-        tally.check(f"where, text {number}", difference(Ended(2, "\n".join([*wanted, ""]).encode()), ended))
-    tally.check("where of an accepted file", difference(Ended(0, b"accepted 2\n"), room.run(["sqljson-where", "orders.sql"])))
-    (room.folder / "empty.sql").write_text("SELECT 'a[-1]', JSON_VALUE(doc, '$ ? (@ == \"[-1]\")'),\n  JSON_VALUE(doc, '$[ \"x\"].a[-1]');")
-    wanted = """accepted 1
-hint: empty.sql: line 2: a subscript that is a text finds nothing: a member is written ."any key"
-hint: empty.sql: line 2: a subscript below 0 finds nothing: the last element is [last]
-"""
-    tally.check("where of paths that find nothing", difference(Ended(0, wanted.encode()), room.run(["sqljson-where", "empty.sql"])))
-    tally.check("where without a file", status_fault(126, room.run(["sqljson-where", "none.sql"])))
-
-
-def check_parallel(tally, room):
-    """Pieces of any size give the rows of one run, with its line numbers and its status."""
-    chance = random.Random(1)
-    lines = [b"" if chance.random() < 0.2 else b'{"s":"%s"}' % (b"x" * chance.randrange(60)) for _ in range(400)] + [b'{"s":']
-    given = b"\n".join([*lines, b'{"s":"last"}'])
-    (room.folder / "values.sql").write_bytes(VALUES)
-    short = [(3, 1, given[:900]), (2, 10, b"\n\n"), (2, 10, b"")]
-    for jobs, piece, text in [(1, 1000, given), (3, 700, given), (3, 700, given + b"\n"), (2, 10**6, given), *short]:
-        (room.folder / "input").write_bytes(text)
-        one = room.run(["sqljson", "run", "values.sql"], text)
-        ended = room.run(["sqljson-in-parallel", "--piece", str(piece), str(jobs), "values.sql", "input"])
-        tally.check(f"in-parallel with {jobs} jobs and pieces of {piece} bytes", difference(one, ended))
-    (room.folder / "refused.sql").write_bytes(b"SELECT ;")
-    (room.folder / "input").write_bytes(given)
-    refused = Ended(2, note=b"statement 1: syntax error\n")
-    tally.check("in-parallel of a refused file", difference(refused, room.run(["sqljson-in-parallel", "2", "refused.sql", "input"])))
-    full = Ended(5, note=b"in-parallel: output failed\n")
-    ended = room.run(["bash", "-c", "sqljson-in-parallel 2 values.sql input > /dev/full"])
-    tally.check("in-parallel onto a full disk", difference(full, ended))
-    tally.check("in-parallel without input", status_fault(126, room.run(["sqljson-in-parallel", "2", "values.sql", "none"])))
-
-
-def status_fault(wanted, ended):
-    return None if ended.status == wanted else f"it ended with {ended}, and not with {wanted}"

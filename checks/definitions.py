@@ -18,7 +18,7 @@ from checks.crates import listed as listed_crates
 PAGE = "docs/DEFINITIONS.md"
 MOST_LINES = 5000
 # Modules that say how the code holds, finds or reads a value, and not what a contract of `run` means.
-VIEWS = {"Boxes", "Building", "Cells", "Coding", "Filling", "HeldLines", "MadeValues", "SoFar", "Layouts", "Looks", "Machine", "Nodes", "Raw", "Reading", "Seen", "Sequel", "View"}
+VIEWS = {"Boxes", "Building", "Cells", "Coding", "Filling", "Found", "HeldLines", "MadeValues", "SoFar", "Layouts", "Looks", "Machine", "Nodes", "Reading", "Seen", "Sequel", "View"}
 IMPORT = re.compile(r"^[ \t]*(?:pub )?(?:ghost )?use Rattle\.(\w+)\.specs\.([\w.]+?)(?:\.\{([^}]*)\}| as (\w+))?;?$", re.M)
 # The first line of a definition, or of a block of several; and the name that a line within a block defines.
 WORDS = r"(?:(?:abbrev|unfoldable|pub|data|record) )*"
@@ -34,6 +34,13 @@ LAWS = {
     ("sj_json/specs/Numbers.antt", "number_of"): ("sj_value/src/law.rt", "one_number"),
     ("sj_json/specs/UniqueKeys.antt", "has_unique_keys"): ("sj_json/src/lib.rt", "unique_keys"),
 }
+# The traits whose ghost members the contract of `run` names, and the module that says what the objects in memory tell: without such objects
+# the contract speaks of no bytes.
+TRAITS = "sj_outside/src/outside.rt"
+IN_MEMORY = "sj_outside/specs/InMemory.antt"
+TRAIT = re.compile(r"^pub trait (\w+) \{\n(.*?)^\}", re.M | re.S)
+GHOST = re.compile(r"^    ghost (\w+): \{ Self →", re.M)
+TYPE = re.compile(r"^pub (?:struct|enum) (\w+)\b")
 NUMBER = re.compile(r"(?:pub )?@0 : \S*ℕ\n@0 = \d+(?: \S+ \d+)*")  # a limit, maybe as 2 ^ 32: that two have one value is chance
 INTRODUCTION = """# The definitions behind the contract of `run`
 
@@ -45,13 +52,23 @@ counted. `checks/definitions.py` makes it of the sources, and fails where the pa
 words.
 
 The list begins with what the contract of `run` names (`crates/sj_run/src/command.rt`), and goes on with what these
-definitions name. Lines are counted with the comments above a definition, and without imports and empty lines. Types that
-are written in the code, such as the kinds of refusals, are not counted, and neither are the kit's own definitions, of
-lists and numbers.
+definitions name. Lines are counted with the comments above a definition, and without imports and empty lines. What
+[stands in the code](#what-stands-in-the-code) and what the kit defines is counted apart.
 
 Four definitions are functions with a law. A reader has to believe what the law says, so the list goes on with that. The
 way in which such a function finds its value is [at the end](#ways-of-functions-that-have-a-law), and needs no belief.
 """
+
+IN_CODE = """The contract of `run` speaks of the shelf, the input and the output by ghost members of three traits:
+
+{traits}.
+
+What they mean is said by the clauses of the traits: {lines} lines of `crates/{file}`.
+The clauses on bytes hold of objects that tell their bytes, as those in memory do: `InMemory` of sj_outside, {memory} lines.
+The adapters over files and standard streams tell none.
+
+Also named are {types} types of the code, with {type_lines} lines of fields, variants and comments, and {kit} definitions of
+the kit, of lists, numbers and texts."""
 
 
 @dataclass
@@ -60,6 +77,8 @@ class Module:
 
     parts: dict = field(default_factory=dict)
     named: dict = field(default_factory=dict)  # each name that is imported: the module, and its name there
+    typed: dict = field(default_factory=dict)  # each name that is imported of a type of the code: the crate, and the type
+    kit: dict = field(default_factory=dict)  # each name that is imported of the kit: its whole path
     called: dict = field(default_factory=dict)  # each module that is imported whole, by the name that it has here
 
 
@@ -71,6 +90,8 @@ class Rests:
     found: dict = field(default_factory=dict)
     told: set = field(default_factory=set)
     ways: dict = field(default_factory=dict)
+    types: set = field(default_factory=set)  # the types of the code that were named, as (crate, type)
+    kit: set = field(default_factory=set)  # the whole paths of the kit's definitions that were named
 
     def follow(self, names, by_law=True):
         left = list(names)
@@ -102,6 +123,10 @@ class Rests:
                     names.append((file, word))
                 elif word in module.named:
                     names.append(module.named[word])
+                elif word in module.typed:
+                    self.types.add(module.typed[word])
+                elif word in module.kit:
+                    self.kit.add(module.kit[word])
             if head in module.called and rest:
                 names.append((module.called[head], rest.split(".")[0]))
         return names
@@ -118,13 +143,19 @@ class Rests:
 
     def read_imports(self, module, text):
         for crate, path, some, alias in IMPORT.findall(text):
-            file = self.file(crate, path.split("."))
-            if file and some:
-                for it in some.split(","):
-                    there, _, here = it.strip().partition(" as ")
+            file, parts = self.file(crate, path.split(".")), path.split(".")
+            if file and not some:
+                module.called[alias or parts[-1]] = file
+            for it in some.split(",") if some else []:
+                there, _, here = it.strip().partition(" as ")
+                if file:
                     module.named[here or there] = file, there
-            elif file:
-                module.called[alias or path.split(".")[-1]] = file
+                elif parts[0] == "declared":
+                    module.typed[here or there] = crate, next(it for it in parts[1:] if it[0].isupper())
+                elif not (self.crates / crate).is_dir():
+                    module.kit[here or there] = f"{crate}.{path}.{there}"
+            if not file and not some and parts[0] == "declared":
+                module.typed[alias or parts[-1]] = crate, next(it for it in parts[1:] if it[0].isupper())
 
     def file(self, crate, parts):
         """The file of a module of definitions. The compiler makes those of the types of the code, which have none."""
@@ -180,10 +211,40 @@ def rests(top):
 def page(top):
     it = rests(top)
     parts = [INTRODUCTION.format(most=MOST_LINES), f"Together: {summary(it.found)}.", "", table(top, it.found)]
+    parts += ["", "## What stands in the code", "", *in_code(top, it)]
     parts += ["", "## Ways of functions that have a law", ""]
     parts += [f"- `{name}`: the law is `{call}` in `crates/{file}`{';' if at < len(LAWS) else '.'}" for at, ((_, name), (file, call)) in enumerate(LAWS.items(), 1)]
     parts += ["", f"How they find their values: {summary(it.ways)}.", "", table(top, it.ways)]
     return "\n".join(parts) + "\n"
+
+
+def in_code(top, it):
+    """What the list leaves out: ghost members of traits, objects in memory, types of the code, names of the kit."""
+    traits = TRAIT.findall((top / "crates" / TRAITS).read_text(encoding="utf-8"))
+    members = [f"- `{trait}`: {', '.join(f'`{ghost}`' for ghost in GHOST.findall(body))}" for trait, body in traits]
+    lines = sum(full_lines(body) + 2 for _, body in traits)
+    memory = sum(len(part) for _, part in blocks((top / "crates" / IN_MEMORY).read_text(encoding="utf-8")))
+    types = sum(type_lines(top / "crates" / crate / "src", name) for crate, name in it.types)
+    return [IN_CODE.format(
+        traits=";\n".join(members), file=TRAITS, lines=lines, memory=memory, types=len(it.types), type_lines=types, kit=len(it.kit))]
+
+
+def full_lines(text):
+    return sum(1 for line in text.splitlines() if line.strip())
+
+
+def type_lines(folder, name):
+    """How many lines a type of the code has, with the comments above it, or 0 where it is a name of the compiler's own."""
+    for file in sorted(folder.glob("**/*.rt")):
+        above = 0
+        lines = file.read_text(encoding="utf-8").splitlines()
+        for number, line in enumerate(lines):
+            found = TYPE.match(line)
+            if found and found[1] == name:
+                end = number if line.rstrip().endswith(";") else next(at for at in range(number, len(lines)) if lines[at].startswith("}"))
+                return above + full_lines("\n".join(lines[number : end + 1]))
+            above = above + 1 if line.startswith(("///", "#[")) else 0
+    return 0
 
 
 def summary(found):

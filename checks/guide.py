@@ -8,9 +8,11 @@ lines.jsonl, and may go on in a next line behind a backslash. A block tagged wit
 part of that recipe. A block without a tag is not run.
 
 In the table of other dialects the first cell of a row is a text, the second what the program says of it, and the third
-a text that it accepts. A text that is no statement is a value of one.
+a text that it accepts. In the table of texts that are written alike the first cell is a text, the second a line and the
+third what the text gives for it. A text that is no statement is a value of one.
 """
 import re
+import shutil
 import tempfile
 from pathlib import Path
 
@@ -21,12 +23,15 @@ FENCE = re.compile(r"^```(.*)\n((?:.*\n)*?)```$", re.M)
 COMMAND = re.compile(r"^\$ ((?:.*\\\n)*.*)\n((?:(?!\$ ).*\n)*)", re.M)
 RECIPE = re.compile(r"\w+ (recipes/.*)")
 DIALECTS = "## From other dialects"
+ALIKE = "### Written alike, answered otherwise"
 ROW = re.compile(r"^\| `(.+?)` \| `(.+?)` \| `(.+?)` \|$", re.M)
+ALIKE_ROW = re.compile(r"^\| `(.+?)` \| `(.+?)` \| `(.+?)` \| .+ \|$", re.M)
 FOLDER = "examples"
+OPTIONAL = ["sqlite3"]  # programs whose commands are passed over where they are not installed
 
 
 def check_guide(tally, program, top):
-    """Runs each example of both documents, and looks at the table of other dialects."""
+    """Runs each example of both documents, and looks at the tables of other dialects."""
     for document in [top / "README.md", top / "docs" / "GUIDE.md"]:
         text = document.read_text(encoding="utf-8")
         file, given, runs = None, b"", 0
@@ -40,10 +45,24 @@ def check_guide(tally, program, top):
                 tally.check(name, fault(tag, body, file, given, program, top))
                 runs += 1
         tally.check(document.name, None if runs else "it has no example")
-    rows = ROW.findall(text.partition(DIALECTS)[2].partition("\n## ")[0])
-    tally.check(DIALECTS, None if rows else "it has no row")
-    for row in rows:
-        tally.check(f"{document.name}, `{row[0]}`", row_fault(program, *(cell.replace("\\|", "|") for cell in row)))
+    for heading, rows, look in [(DIALECTS, dialect_rows(text), row_fault), (ALIKE, alike_rows(text), alike_fault)]:
+        tally.check(heading, None if rows else "it has no row")
+        for row in rows:
+            tally.check(f"{document.name}, `{row[0]}`", look(program, *row))
+
+
+def dialect_rows(text):
+    """The cells of each row of the table of other dialects."""
+    return cells(ROW, text.partition(DIALECTS)[2].partition("\n##")[0])
+
+
+def alike_rows(text):
+    """The tested cells of each row of the table of texts that are answered otherwise elsewhere."""
+    return cells(ALIKE_ROW, text.partition(ALIKE)[2].partition("\n##")[0])
+
+
+def cells(row, text):
+    return [[cell.replace("\\|", "|") for cell in found] for found in row.findall(text)]
 
 
 def blocks(text):
@@ -85,6 +104,10 @@ def console_fault(text, file, given, program, top):
         (room.folder / "statements.sql").write_bytes(file or b"")
         (room.folder / "lines.jsonl").write_bytes(given)
         for command, wanted in COMMAND.findall(text):
+            tool = command.split()[0]
+            if tool in OPTIONAL and not shutil.which(tool):
+                print(f"passed over `{command}`: {tool} is not installed", flush=True)
+                continue
             showed = room.shown(command)
             if showed != wanted.encode():
                 return f"`{command}` shows {shown(showed)}, and not {shown(wanted.encode())}"
@@ -100,5 +123,17 @@ def row_fault(program, elsewhere, says, here):
 
 def checked(program, text):
     with tempfile.TemporaryDirectory() as folder:
-        Path(folder, "text.sql").write_text(text if text.startswith("SELECT") else f"SELECT {text};", encoding="utf-8")
+        Path(folder, "text.sql").write_text(statement(text), encoding="utf-8")
         return program.run(["check", "text.sql"], b"", folder)
+
+
+def statement(text):
+    return text if text.startswith("SELECT") else f"SELECT {text};"
+
+
+def alike_fault(program, text, line, gives):
+    """Says what the text gives for the line, where it is something else, or nothing."""
+    ended = run(program, statement(text).encode(), line.encode())
+    rows = [row.split("\t")[2:] for row in ended.output.decode().split("\n")[:-1]]
+    given = "; ".join(f"error {values[0]}" if kind == "E" else ", ".join(values) for kind, *values in rows) or "no row"
+    return None if (ended.status, given) == (0, gives) else f"it gives {given}, with {ended}"

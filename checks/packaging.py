@@ -1,9 +1,10 @@
-"""The man page, the completion for bash, tools/install and tools/debian."""
+"""The man page, the completion for bash, tools/install, tools/debian and tools/release."""
+import platform
 import re
 import shutil
 import subprocess
 
-from checks.program import Ended, difference
+from checks.program import Ended, difference, status_fault
 from checks.room import COMPANIONS, room_of
 
 VERSION = re.compile(r"\d+\.\d+\.\d+\n")
@@ -20,9 +21,17 @@ COMPLETED = [
     ("sqljson", ["selfrun", "1"], ""),
     ("sqljson-where", ["ord"], "orders.sql"),
     ("sqljson-where", ["--p"], "--program"),
-    ("sqljson-split-rows", ["--n"], "--numbers"),
+    ("sqljson-split-rows", ["--n"], "--null-columns --numbers"),
     ("sqljson-in-parallel", ["4", "orders.j"], "orders.jsonl"),
+    ("sqljson-in-parallel", ["--pi"], "--piece"),
+    ("sqljson-load", ["--t"], "--table --tables-only"),
+    ("sqljson-load", ["x.db", "orders.s"], "orders.sql"),
+    ("sqljson-why", ["--u"], "--unique-keys"),
+    ("sqljson-why", ["orders.sql", "rows", "orders.j"], "orders.jsonl"),
 ]
+ODD = ["-g.sql", "x y.sql", "x\nz.sql", "x.txt"]  # names of files, of which the second and third are completed
+# Programs that can't be installed: none, what is none, and the whole of the installed one but its end.
+WRONG_PROGRAMS = ["none", "orders.sql", "cut-off"]
 
 
 def check_packaging(tally, program, top):
@@ -33,6 +42,7 @@ def check_packaging(tally, program, top):
     with room_of(program, top) as room:
         check_completion(tally, room, top)
         check_install(tally, room, program, top, version.strip())
+        check_release(tally, room, program, top, version.strip())
         if shutil.which("dpkg-deb"):
             check_package(tally, room, program, top, version.strip())
         else:
@@ -65,6 +75,12 @@ def check_completion(tally, room, top):
         script += "; echo \"${COMPREPLY[*]}\""
         got = sorted(room.run(["bash", "-c", script]).output.decode().split())
         tally.check(f"completion of {typed}", None if got == sorted(wanted.split()) else f"it is {got}")
+    for name in ODD:
+        (room.folder / "odd" / name).parent.mkdir(exist_ok=True)
+        (room.folder / "odd" / name).write_bytes(b"")
+    script = f"source {top}/tools/sqljson.bash; cd odd; COMP_WORDS=(sqljson run ''); COMP_CWORD=2; _sqljson; printf '%s\\0' \"${{COMPREPLY[@]}}\""
+    got = room.run(["bash", "-c", script]).output.decode().split("\0")[:-1]
+    tally.check("completion of odd names", None if sorted(got) == sorted(ODD[1:3]) else f"it is {got}")
 
 
 def check_install(tally, room, program, top, version):
@@ -76,12 +92,47 @@ def check_install(tally, room, program, top, version):
     has = page.is_file() and f"sqljson {version}" in page.read_text(encoding="utf-8")
     tally.check("the installed man page", None if has else "it lacks the version")
     tally.check("the installed program", run_fault(room, prefix))
-    for words in [[], ["--no-such-word"], ["one", "two"]]:
-        ended = room.run([top / "tools" / "install", *words])
-        tally.check(f"tools/install {words}", None if ended.status == 1 and b"usage:" in ended.note else f"it ended with {ended}")
-    for tool in ["install", "debian"]:
+    check_kept(tally, room, program, top, prefix)
+    for tool in ["install", "debian", "release"]:
+        for words in [[], ["--no-such-word"], ["one", "two"]]:
+            ended = room.run([top / "tools" / tool, *words])
+            tally.check(f"tools/{tool} {words}", None if ended.status == 1 and b"usage:" in ended.note else f"it ended with {ended}")
         helped = room.run([top / "tools" / tool, "--help"])
         tally.check(f"tools/{tool} --help", None if helped.status == 0 and b"usage:" in helped.output else f"it ended with {helped}")
+
+
+def check_kept(tally, room, program, top, prefix):
+    """What is installed stays and runs where the next one can't be put in its place, or is the same."""
+    installed = prefix / "bin" / "sqljson"
+    (room.folder / "cut-off").write_bytes(program.path.read_bytes()[:200_000])
+    (room.folder / "cut-off").chmod(0o755)
+    for given in WRONG_PROGRAMS:
+        ended = room.run([top / "tools" / "install", "--program", given, prefix])
+        tally.check(f"tools/install --program {given}", run_fault(room, prefix) or status_fault(1, ended))
+    ended = room.run([top / "tools" / "install", "--program", installed, prefix])
+    tally.check("tools/install of what is installed", run_fault(room, prefix) or status_fault(0, ended))
+    # No file may grow past a part of the program, as on a full disk.
+    ended = room.run(["bash", "-c", f"trap '' XFSZ; ulimit -f 200; '{top}/tools/install' --program '{program.path}' '{prefix}'"])
+    tally.check("tools/install on a full disk", run_fault(room, prefix) or status_fault(1, ended))
+    left = [it.name for it in prefix.rglob("*.new")]
+    tally.check("tools/install leaves nothing behind", left and f"it left {left}")
+    for tool in ["install", "debian", "release"] if shutil.which("dpkg-deb") else ["install", "release"]:
+        script = f"cd '{top}' && export CDPATH=. && tools/{tool} --program '{program.path}' '{room.folder}/cdpath-{tool}'"
+        tally.check(f"tools/{tool} with CDPATH", status_fault(0, room.run(["bash", "-c", script])))
+
+
+def check_release(tally, room, program, top, version):
+    """The archive has the right checksum, is the same the next time, and its program and companions run."""
+    name = f"sqljson-{version}-{platform.machine()}"
+    script = f"'{top}/tools/release' --program '{program.path}' %s && cd %s && sha256sum --check --quiet *.sha256"
+    for folder in ["first", "second"]:
+        ended = room.run(["bash", "-c", script % (folder, folder)])
+        wanted = f"{folder}/{name}.tar.gz\n{folder}/{name}.tar.gz.sha256\n".encode()
+        tally.check("tools/release", difference(Ended(0, wanted, ended.note), ended))
+    first, second = (room.folder / folder / f"{name}.tar.gz" for folder in ["first", "second"])
+    tally.check("the archive", None if first.read_bytes() == second.read_bytes() else "it is another the next time")
+    room.run(["tar", "-xzf", first])
+    tally.check("the program of the archive", run_fault(room, room.folder / name))
 
 
 def run_fault(room, prefix):
@@ -102,7 +153,7 @@ def check_package(tally, room, program, top, version):
         tally.check(f"the package's {field.split(':')[0]}", None if field in said else f"it says {said}")
     unpacked = room.folder / "unpacked"
     room.run(["dpkg-deb", "--extract", package, unpacked])
-    files = ["bin/sqljson", *(f"bin/sqljson-{it}" for it in COMPANIONS), "share/man/man1/sqljson.1.gz"]
+    files = ["bin/sqljson", *(f"bin/sqljson-{it}" for it in COMPANIONS), "share/man/man1/sqljson.1.gz", "share/doc/sqljson/CHANGELOG.md"]
     lacking = [it for it in files if not (unpacked / "usr" / it).is_file()]
     tally.check("the package", lacking and f"it lacks {lacking}")
     tally.check("the program of the package", run_fault(room, unpacked / "usr"))

@@ -97,6 +97,11 @@ def difference(wanted, ended):
     return None
 
 
+def status_fault(wanted, ended):
+    """Says that a run ended with another status, or nothing."""
+    return None if ended.status == wanted else f"it ended with {ended}, and not with {wanted}"
+
+
 def front_problem(rows, lines, taken, output):
     """Says what is wrong with the output of a run that gave up when so many bytes of the lines were taken.
 

@@ -7,7 +7,7 @@ usage, at the top of the repository: python3 -m checks.refusals > docs/REFUSALS.
 """
 import re
 import sys
-from dataclasses import dataclass
+from dataclasses import dataclass, replace
 from pathlib import Path
 
 PAGE = "docs/REFUSALS.md"
@@ -42,6 +42,8 @@ LEFT_ANYWHERE = {
     ("print_list", "out"): "it is cut back to what stood there",
     ("print_list", "operations"): "their inquiries and cursors begin anew at their next use",
     ("print_list", "stack"): "it is cleared before its next use",
+    ("find_list", "operations"): "their inquiries and cursors begin anew at their next use",
+    ("find_list", "stack"): "it is cleared before its next use",
     ("take_all", "all"): "they begin anew before their next use",
     ("take_all", "stack"): "it is cleared before its next use",
     ("finish_all", "all"): "they begin anew before their next use",
@@ -50,6 +52,16 @@ LEFT_ANYWHERE = {
     ("QueryCall::outcome", "self"): "its cursor is rewound before its next use",
     ("RowHead::begin", "self"): "it is turned to the next row's line and statement",
     ("RowsOf::print", "self"): "the rows are rewound before their next use",
+    ("RowsOf::next", "self"): "the rows are rewound before their next use",
+}
+# The arguments of which no clause says what a refusal leaves, since nothing uses them afterwards.
+USED_NO_MORE = {
+    ("TakesPieces::take_piece", "self"): "the run is over",
+    ("TakesPieces::finish", "self"): "the run is over",
+    ("LinesOf::take_piece", "self"): "the run is over",
+    ("LinesOf::finish", "self"): "the run is over",
+    ("PrintsLines::print_lines", "self"): "the run is over",
+    ("PrintsLines::print_lines", "lines"): "the run is over",
 }
 INTRODUCTION = """# What a refused call leaves
 
@@ -62,10 +74,11 @@ after a refusal, and the clauses of the contract that say what it is. [PROOFS.md
   `Status` the one that it speaks of is in parentheses; *before the input* is each that comes before any input is read.
 - *At Ok*: it says it of the good answer alone.
 
-A call of a trait is listed with the trait, and again with each object that meets it. `checks/refusals.py` makes this page
-of the sources, and fails if the page differs, if an argument has no clause in the columns *at every answer* and *when
-refused*, or if it may change when memory runs out and its row does not say why that does no harm. It looks at names and
-forms alone: whether a clause says all that is to be said, a reader has to judge.
+A call of a trait is listed with the trait, and again with each object that meets it, which has the trait's clauses if it
+states none of its own. `checks/refusals.py` makes this page of the sources, and fails if the page differs, if an argument
+has no clause in the columns *at every answer* and *when refused* and its row does not say why nothing uses it afterwards,
+or if it may change when memory runs out and its row does not say why that does no harm. It looks at names and forms alone:
+whether a clause says all that is to be said, a reader has to judge.
 """
 
 
@@ -77,6 +90,7 @@ class Call:
     refusal: str
     mutable: list  # the names of its `&mut` arguments
     clauses: list  # the names and the texts of its `ensures`
+    met: str = ""  # the name of the trait's call that it meets, if it does
 
 
 def check_refusals(tally, top):
@@ -85,8 +99,9 @@ def check_refusals(tally, top):
     page = top / PAGE
     same = page.is_file() and page.read_text(encoding="utf-8") == page_of(calls)
     tally.check(PAGE, None if same else "it is not what python3 -m checks.refusals makes")
-    bare = [f"{call.name}, {argument}" for found in calls.values() for call in found for argument in without_clause(call)]
-    tally.check("what a refused call leaves", bare and f"no clause says it: {'; '.join(bare)}")
+    bare = {(call.name, argument) for found in calls.values() for call in found for argument in without_clause(call)}
+    told = [", ".join(it) for it in sorted(bare ^ USED_NO_MORE.keys())]
+    tally.check("what a refused call leaves", told and f"no clause says it, or USED_NO_MORE says that none does: {'; '.join(told)}")
     loose = {(call.name, argument) for found in calls.values() for call in found for argument in changed_without_memory(call)}
     odd = [" of ".join(reversed(it)) for it in sorted(loose ^ LEFT_ANYWHERE.keys())]
     tally.check("what a call out of memory leaves", odd and f"it is not as LEFT_ANYWHERE says: {'; '.join(odd)}")
@@ -95,7 +110,14 @@ def check_refusals(tally, top):
 def calls_of(top):
     """The public calls that can refuse and have a `&mut` argument, by the names of the crates, in the order of crates.txt."""
     crates = [line.split()[0].rstrip(":") for line in (top / "crates.txt").read_text(encoding="utf-8").split("\n") if line.strip()]
-    return {crate: found for crate in crates if (found := sorted(in_crate(top / "crates" / crate / "src"), key=lambda call: call.name))}
+    return {crate: found for crate in crates if (found := sorted(with_met(in_crate(top / "crates" / crate / "src")), key=lambda call: call.name))}
+
+
+def with_met(calls):
+    """The calls of a crate. One with no clause of its own has those of the trait's call that it meets."""
+    calls = list(calls)
+    stated = {call.name: call.clauses for call in calls}
+    return [call if call.clauses else replace(call, clauses=stated.get(call.met, [])) for call in calls]
 
 
 def in_crate(folder):
@@ -121,12 +143,12 @@ def in_file(text, names):
         trait, kind = (head[2] or head[4], head[3] or head[4]) if head else (None, None)
         is_public = (kind or found[2]) in names and bool(found[1] or trait)
         if is_public:
-            call = call_at(text, found.end(), f"{kind}::{found[2]}" if kind else found[2])
+            call = call_at(text, found.end(), f"{kind}::{found[2]}" if kind else found[2], f"{trait}::{found[2]}")
             if call:
                 yield call
 
 
-def call_at(text, at, name):
+def call_at(text, at, name, met):
     """The call whose name ends at this place, or nothing where it can't refuse or has no `&mut` argument."""
     opened = text.index("(", generics_end(text, at))
     closed = end_of(text, opened)
@@ -135,7 +157,7 @@ def call_at(text, at, name):
     refusal = refusal_of(told[1]) if told else None
     if not refusal or not mutable:
         return None
-    return Call(name, refusal, mutable, list(clauses_from(text, told.end())))
+    return Call(name, refusal, mutable, list(clauses_from(text, told.end())), met)
 
 
 def generics_end(text, at):
@@ -260,8 +282,8 @@ def page_of(calls):
 def row_of(call, argument):
     told = told_of(call, argument)
     others = [f"{name} ({it})" for it in told if it not in (EVERY, OK, REFUSED) for name in told[it]]
-    why = LEFT_ANYWHERE.get((call.name, argument))
-    left = f"{BY_CLAUSES}; {why}" if why else left_by(call, argument)
+    why, over = LEFT_ANYWHERE.get((call.name, argument)), USED_NO_MORE.get((call.name, argument))
+    left = f"{BY_CLAUSES}; {why}" if why else f"anything; {over}" if over else left_by(call, argument)
     cells = [left, ", ".join(told.get(EVERY, [])), ", ".join([*told.get(REFUSED, []), *others]), ", ".join(told.get(OK, []))]
     return f"| `{call.name}` | `{call.refusal}` | `{argument}` | " + " | ".join(cell or "–" for cell in cells) + " |"
 

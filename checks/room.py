@@ -8,7 +8,9 @@ from pathlib import Path
 
 from checks.program import Ended
 
-COMPANIONS = ["split-rows", "where", "in-parallel"]
+TOOLS = Path(__file__).resolve().parent.parent / "tools"
+# Each script of Python there is a companion of the program.
+COMPANIONS = sorted(it.name for it in TOOLS.iterdir() if it.is_file() and it.read_bytes().partition(b"\n")[0].endswith(b"python3"))
 LONGEST_RUN = 60  # seconds
 
 

@@ -1,6 +1,6 @@
 """Prints which functions of a crate take longest to prove.
 
-usage, at the top of the repository, once `./sqljson` has built the program: python3 -B -m checks.slowest CRATE
+usage, at the top of the repository, once `./sqljson build` has built the program: python3 -B -m checks.slowest CRATE
 
 One process proves the crate once more, over the libraries of the build, and keeps a file for each module that it has checked. The time from one file to the
 next is what the later one took. The table has the seconds by the clock for each function, and of these what its lifetimes and its goals took; the others

@@ -2,7 +2,7 @@
 # Reads compressed lines. With pipefail the status also tells of a file that is damaged or cut off.
 # Needs: gzip
 set -euo pipefail
-gzip -k orders.jsonl
+gzip -kf orders.jsonl
 
 zcat orders.jsonl.gz | sqljson run orders.sql > rows
 

@@ -3,7 +3,6 @@
 # Needs: mariadb, and a server that it finds, which allows LOAD DATA LOCAL.
 set -euo pipefail
 
-sqljson-split-rows --statements 2 loaded -- sqljson run orders.sql < orders.jsonl || test $? -eq 10 &&
-    mariadb --local-infile=1 < mariadb.sql
-
-mariadb --batch --skip-column-names -e 'SELECT * FROM orders; SELECT * FROM order_lines; SELECT * FROM errors;'
+sqljson-split-rows --allow-error-rows --statements 2 loaded -- sqljson run orders.sql < orders.jsonl &&
+    mariadb --local-infile=1 < mariadb.sql &&
+    mariadb --batch --skip-column-names -e 'SELECT * FROM orders; SELECT * FROM order_lines; SELECT * FROM errors;'

@@ -1,6 +1,9 @@
 -- The orders.
-SELECT JSON_VALUE(doc, '$.id' RETURNING BIGINT ERROR ON EMPTY ERROR ON ERROR), JSON_VALUE(doc, '$.customer.name'),
-       JSON_EXISTS(doc, '$ ? (@.customer.vip == true)'), JSON_VALUE(doc, '$.note');
+SELECT * FROM JSON_TABLE(doc, '$' COLUMNS (
+    id BIGINT ERROR ON EMPTY ERROR ON ERROR, name VARCHAR PATH '$.customer.name',
+    vip BOOLEAN EXISTS PATH '$ ? (@.customer.vip == true)', note VARCHAR) ERROR ON ERROR) AS orders;
 -- Their lines, each with the number of its order.
-SELECT id, sku, total FROM JSON_TABLE(doc, '$' COLUMNS (id BIGINT ERROR ON EMPTY ERROR ON ERROR,
-    NESTED '$.lines[*]' COLUMNS (sku VARCHAR, total NUMERIC(12,2) PATH '$.qty * $.price')) PLAN DEFAULT (INNER, UNION));
+SELECT * FROM JSON_TABLE(doc, '$' COLUMNS (
+    id BIGINT ERROR ON EMPTY ERROR ON ERROR,
+    NESTED '$.lines[*]' COLUMNS (sku VARCHAR, total NUMERIC(12,2) PATH '$.qty * $.price'))
+    PLAN DEFAULT (INNER, UNION) ERROR ON ERROR) AS order_lines;

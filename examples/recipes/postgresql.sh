@@ -3,7 +3,6 @@
 # Needs: psql, and a server that it finds.
 set -euo pipefail
 
-sqljson-split-rows --statements 2 loaded -- sqljson run orders.sql < orders.jsonl || test $? -eq 10 &&
-    psql -q -1 -v ON_ERROR_STOP=1 -f postgresql.sql
-
-psql -q -c 'COPY orders TO STDOUT' -c 'COPY order_lines TO STDOUT' -c 'COPY errors TO STDOUT'
+sqljson-split-rows --allow-error-rows --statements 2 loaded -- sqljson run orders.sql < orders.jsonl &&
+    psql -q -1 -v ON_ERROR_STOP=1 -f postgresql.sql &&
+    psql -q -c 'COPY orders TO STDOUT' -c 'COPY order_lines TO STDOUT' -c 'COPY errors TO STDOUT'

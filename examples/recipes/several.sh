@@ -1,8 +1,19 @@
 #!/usr/bin/env bash
 # Reads several files, first as one input, then each by itself with its name before its rows.
 set -euo pipefail
-printf '{"id":1}\n{"id":2}' > a.jsonl
-printf '{"id":3}\n' > b.jsonl
+mkdir -p parts
+printf '{"id":1}\n{"id":2}' > 'parts/a&b.jsonl'
+printf '{"id":3}\n' > $'parts/c|\\1\t.jsonl'
 
-awk 1 a.jsonl b.jsonl | sqljson run orders.sql
-for file in a.jsonl b.jsonl; do sqljson run orders.sql < "$file" | sed "s|^|$file\t|"; done
+# A text as a row has it.
+escaped() {
+    local text=${1//\\/\\\\}
+    text=${text//$'\t'/\\t}
+    text=${text//$'\n'/\\n}
+    printf '%s' "${text//$'\r'/\\r}"
+}
+
+awk 1 parts/*.jsonl | sqljson run orders.sql
+for file in parts/*.jsonl; do
+    sqljson run orders.sql < "$file" | name=$(escaped "$file") awk '{ print ENVIRON["name"] "\t" $0 }'
+done

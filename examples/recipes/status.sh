@@ -4,4 +4,6 @@ set -uo pipefail
 
 sqljson run orders.sql < orders.jsonl | awk -F '\t' '$3 == "E" { found = 1 } { print } END { exit found ? 10 : 0 }' > rows
 
-echo "status $?"
+status=$?
+echo "status $status"
+test "$status" -eq 10

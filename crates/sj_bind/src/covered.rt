@@ -8,7 +8,7 @@ ghost use Rattle.sj_path_tree.specs.Vars as spec;
 ghost use Rattle.sj_bind.specs.Names.{names_of};
 
 use crate::name_set::NameSet;
-use sj_path_tree::{Expr, Initial, Path, Pred, Step, Sub, Subs};
+use sj_path_tree::{Expr, Initial, Path, Pred, Step, Sub};
 
 /// Whether the name is there.
 pub fn has_name(names: &NameSet<'_>, name: &str) -> bool
@@ -39,7 +39,7 @@ fn covers_expr(e: &Expr, names: &NameSet<'_>) -> bool
 }
 
 #[cycle(covers)]
-#[tactic(auto, using(crate::proofs::Lists::all_of_both))]
+#[tactic(auto, using(crate::proofs::Lists::all_of_both, sj_path_tree::proofs::Rows::elements))]
 fn covers_step(step: &Step, names: &NameSet<'_>) -> bool
     ensures { result ≡ list_all (is_among (names_of names.now)) (spec.step_names (step_of step.now)) }
 {
@@ -63,13 +63,15 @@ fn covers_sub(sub: &Sub, names: &NameSet<'_>) -> bool
 
 #[cycle(covers)]
 #[tactic(auto, using(crate::proofs::Lists::all_of_both))]
-fn covers_subs(subs: &Subs, names: &NameSet<'_>) -> bool
+fn covers_subs(subs: &[Sub], names: &NameSet<'_>) -> bool
     ensures { result ≡ list_all (is_among (names_of names.now)) (spec.subs_names (subs_of subs.now)) }
 {
-    match subs {
-        Subs::Only(sub) => covers_sub(sub, names),
-        Subs::More(sub, others) => covers_sub(sub, names) && covers_subs(others, names),
+    for sub in subs {
+        if !covers_sub(sub, names) {
+            return false;
+        }
     }
+    true
 }
 
 #[cycle(covers)]

@@ -8,7 +8,7 @@ use Rattle.sj_path_tree.specs.declared.parts.Mode.TheVariants.{Lax, Strict}
 use Rattle.sj_path_tree.specs.declared.parts.Arith.TheVariants.{Add}
 use Rattle.sj_path_tree.specs.declared.parts.Method.TheVariants as methods
 use Rattle.sj_path_tree.specs.declared.parts.Literal.TheVariants as literals
-use Rattle.sj_path_tree.specs.Tree.{Expr, Root, Context, Last, Lit, Access, Minus, Binary, Member, AllElements, Elements, Filter, Call, One, Range, Only, More, Compares, IsUnknown}
+use Rattle.sj_path_tree.specs.Tree.{Expr, Root, Context, Last, Lit, Access, Minus, Binary, Member, AllElements, Elements, Filter, Call, One, Range, NoSubs, More, Compares, IsUnknown}
 use Rattle.sj_item.specs.Items.{ItemValue, node, made_number}
 use Rattle.sj_item.specs.Pairs.{trees_compare}
 use Rattle.sj_step.specs.Trace.{Trace, items, fault_of, visits}
@@ -82,7 +82,7 @@ not_unwrapped = refl
 -- ---- [10,20,30] and $[last, 0 to 1, 5]
 
 abbrev picks : Expr
-picks = Access Root (Elements (More (One Last) (More (Range (index 0) (index 1)) (Only (One (index 5))))))
+picks = Access Root (Elements (More (One Last) (More (Range (index 0) (index 1)) (More (One (index 5)) NoSubs))))
 
 picked : items (trace Strict picks (three (whole 10) (whole 20) (whole 30))) ≡ node 3 (whole 30) ∷ node 1 (whole 10) ∷ node 2 (whole 20) ∷ []
 unfolding path_trace reach last element_part range_part subscript_of operand_of
@@ -107,7 +107,7 @@ turned_signs = refl
 -- ---- [[1,2],[3,4,5]] and $[*] ? (@.size() > 2)[last]
 
 abbrev long_ones : Expr
-long_ones = Access (Access elements (Filter (Compares comparisons.Gt (Access Context (Call methods.Size)) (index 2)))) (Elements (Only (One Last)))
+long_ones = Access (Access elements (Filter (Compares comparisons.Gt (Access Context (Call methods.Size)) (index 2)))) (Elements (More (One Last) NoSubs))
 
 abbrev lists : Tree
 lists = two (two (whole 1) (whole 2)) (three (whole 3) (whole 4) (whole 5))

@@ -3,7 +3,7 @@ use Rattle.std.specs.Prelude.{if◌then◌else◌}
 use Rattle.std.proofs.Common.{◌≡◌, Bool, true, false, ◌+◌, ◌≤◌, ap, sym, ◌∙◌, refl, arith}
 use Rattle.sj_path_tree.specs.Tree as t
 use Rattle.sj_path_tree.specs.declared.parts.Method.{Method}
-use Rattle.sj_path_tree.specs.Nodes.{expr_nodes, sub_nodes, subs_nodes}
+use Rattle.sj_path_tree.specs.Nodes.{expr_nodes, sub_nodes}
 use Rattle.sj_item.specs.Items.{ItemValue}
 use Rattle.sj_step.specs.Trace.{stop, only, join, each}
 use Rattle.sj_step.specs.Reach.{spread}
@@ -64,7 +64,3 @@ expr_some (t.Binary op a b) = omega arith
 pub sub_some : (s : t.Sub) → 1 ≤ sub_nodes s
 sub_some (t.One e) = omega arith
 sub_some (t.Range e f) = omega arith
-
-pub subs_some : (s : t.Subs) → 1 ≤ subs_nodes s
-subs_some (t.Only s) = sub_some s
-subs_some (t.More s others) = omega (arith, sub_some s)

@@ -10,7 +10,7 @@ use Rattle.sj_path_tree.specs.Tree as t
 use Rattle.sj_path_tree.specs.declared.parts.Literal.TheVariants.{Num}
 use Rattle.sj_path_tree.specs.declared.parts.Mode.TheVariants.{Lax}
 use Rattle.sj_item.specs.Items.{ItemValue, made_number, item_tree}
-use Rattle.sj_step.specs.Trace.{Trace, only, each}
+use Rattle.sj_step.specs.Trace.{Trace, stop, only, join, each}
 use Rattle.sj_step.specs.Reach.{reach, by_key, all_elements, by_range, unwrap, last, last_on}
 use Rattle.sj_step.proofs.Traces.{join-stop, each_assoc, each_cong}
 use Rattle.sj_method.specs.Numbers.{operand_of, subscript_of}
@@ -49,11 +49,11 @@ index_part index x = ap (λ (z : ℤ). reach (by_range z z) Lax x) (whole_index 
 
 -- the subscript is asked on each item, at no price
 index_on : (index : ℕ) (x : ItemValue) (env : Env) → env.mode ≡ Lax
-    → where_array (last env.mode x) (λ n. parts (t.Only (t.One (t.Lit (Num (pos index, 0))))) (at_last env n) x) ≡ linked (links.Element index) x
+    → where_array (last env.mode x) (λ n. parts (t.More (t.One (t.Lit (Num (pos index, 0)))) t.NoSubs) (at_last env n) x) ≡ linked (links.Element index) x
 unfolding last
 index_on index x env lax =
-    ap (λ m. where_array (last_on (kind_of (item_tree x)) m x) (λ n. element_part m (only (made_number (pos index, 0))) x)) lax
-    ∙ last_some (kind_of (item_tree x)) x _ _ (λ n. index_part index x)
+    ap (λ m. where_array (last_on (kind_of (item_tree x)) m x) (λ n. join (element_part m (only (made_number (pos index, 0))) x) stop)) lax
+    ∙ last_some (kind_of (item_tree x)) x _ _ (λ n. join-stop _ ∙ index_part index x)
 
 linked_on : (l : Link) (e : t.Expr) (env : Env) → env.mode ≡ Lax → meaning (t.Access e (accessor l)) env ≡ each (meaning e env) (linked l)
 linked_on (links.Member key) e env lax =

@@ -212,6 +212,11 @@ roomy_taken ms places after old fs f room stacked same e =
     let taken = stacked_before (length ms) 0 fs f (rw e at stacked) in
     record { room = omega (arith, room, same); stacked = taken.0; within = omega (arith, taken.1.0); at = taken.1.1 }
 
+-- there are no more frames than moves
+pub stacked_few : (n i : ℕ) (fs : List Frame) → Stacked n i fs → length fs ≤ n - i
+stacked_few n i [] s = omega arith
+stacked_few n i (f ∷ fs) s = omega (arith, s.0, s.1.0, stacked_few n (i + 1) fs s.1.1)
+
 -- a frame is put back
 pub stacked_put : (ms : List Move) (places : ℕ) (fs new : List Frame) (f g : Frame) → IsRoomy ms places fs f → g.at ≡ f.at → new ≡ fs ++ g ∷ [] → Stacked (length ms) 0 new
 stacked_put ms places fs new f g k same e = rw e (stacked_behind (length ms) 0 fs g k.stacked (omega (arith, k.within, same)) (omega (arith, k.at, same)))

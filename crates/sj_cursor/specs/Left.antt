@@ -92,7 +92,8 @@ abbrev mutual
   doing (operators.Elements' p subs at) = Picks (parts_core subs)
 
   pub parts_core : Parts → t.Subs
-  parts_core (parts_.Only' bounds reached) = t.Only (bounds_core bounds)
+  parts_core parts_.Empty = t.NoSubs
+  parts_core (parts_.Only' bounds reached) = t.More (bounds_core bounds) t.NoSubs
   parts_core (parts_.More' bounds reached p others) = t.More (bounds_core bounds) (parts_core others)
 
   pub bounds_core : Bounds → t.Sub
@@ -154,6 +155,7 @@ begun_left reacheds.Unasked t = t
 begun_left (reacheds.Walk w) t = walk_left w
 
 abbrev pub parts_left : Parts → Env → ItemValue → Trace
+parts_left parts_.Empty env x = stop
 parts_left (parts_.Only' bounds reached) env x = begun_left reached (part (bounds_core bounds) env x)
 parts_left (parts_.More' bounds reached p others) env x = join (begun_left reached (part (bounds_core bounds) env x)) (parts_left others env x)
 

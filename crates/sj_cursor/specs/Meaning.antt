@@ -8,10 +8,9 @@ use Rattle.sj_path_tree.specs.declared.parts.Method.TheVariants as methods
 use Rattle.sj_path_tree.specs.declared.parts.Literal.{Literal}
 use Rattle.sj_path_tree.specs.declared.parts.Initial.{Initial}
 use Rattle.sj_path_tree.specs.declared.parts.Initial.TheVariants as initials
-use Rattle.sj_path_tree.specs.Tree.{Path, Expr, Root, Var, Context, Last, Lit, Access, Plus, Minus, Binary, Step, Member, AllMembers, AllElements, Elements, Filter, Call, Double, Datetime, DatetimeBy, Sub, One, Range, Subs, Only, More, Pred, Compares, And, Or, Not, IsUnknown, Exists, StartsWith, LikeRegex, LikeRegexBy}
+use Rattle.sj_path_tree.specs.Tree.{Path, Expr, Root, Var, Context, Last, Lit, Access, Plus, Minus, Binary, Step, Member, AllMembers, AllElements, Elements, Filter, Call, Sub, One, Range, Subs, NoSubs, More, Pred, Compares, And, Or, Not, IsUnknown, Exists, StartsWith}
 use Rattle.sj_item.specs.Items.{ItemValue, made_number, made_text, made_null}
 use Rattle.sj_item.specs.Pairs.{items_compare, item_starts_with}
-use Rattle.sj_item.specs.declared.truth.Truth.TheVariants.{Unknown}
 use Rattle.sj_path_tree.specs.Vars.{Variables}
 use Rattle.sj_step.specs.Trace.{Trace, stop, fail, only, join, each}
 use Rattle.sj_step.specs.Literals.{literal_item}
@@ -66,13 +65,6 @@ abbrev pub where_array : Option ℤ → (ℤ → Trace) → Trace
 where_array (Some n) parts = parts n
 where_array None parts = fail S22039
 
--- a path that is evaluated has none of the parts that are refused by name
-abbrev pub refused : Trace
-refused = stop
-
-abbrev pub refused_verdict : Verdict
-refused_verdict = record { truth = Unknown; allow = 0 }
-
 abbrev mutual
   -- the trace of an expression
   pub meaning : Expr → Env → Trace
@@ -94,13 +86,10 @@ abbrev mutual
   step_on (Elements subs) t env = each t (λ x. where_array (last env.mode x) (λ n. parts subs (at_last env n) x))
   step_on (Filter p) t env = each (spread env.mode t) (λ x. filtered (verdict p (at_item env x)) x)
   step_on (Call m) t env = each (method_input m env.mode t) (method_of m)
-  step_on Double t env = refused
-  step_on Datetime t env = refused
-  step_on (DatetimeBy template) t env = refused
 
   -- the parts of a list of subscripts on one item, in order
   pub parts : Subs → Env → ItemValue → Trace
-  parts (Only s) env x = part s env x
+  parts NoSubs env x = stop
   parts (More s others) env x = join (part s env x) (parts others env x)
 
   pub part : Sub → Env → ItemValue → Trace
@@ -116,8 +105,6 @@ abbrev mutual
   verdict (IsUnknown p) env = unknown_verdict (verdict p env)
   verdict (Exists e) env = exists_verdict env.mode (meaning e env)
   verdict (StartsWith e initial) env = compare_verdict env.mode item_starts_with (spread env.mode (meaning e env)) (only (initial_value env initial))
-  verdict (LikeRegex e pattern) env = refused_verdict
-  verdict (LikeRegexBy e pattern flags) env = refused_verdict
 
 -- at the start `@` is the root and `last` is 0; a path that is read from a text never asks for these
 abbrev pub start_env : Path → Variables → ItemValue → Env

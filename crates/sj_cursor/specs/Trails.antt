@@ -1,9 +1,10 @@
 -- What is left of the items of a path that is gone through by moves.
-use Rattle.std.specs.Prelude.{◌≡◌, ◌≤◌, ◌<◌, ◌+◌, ◌-◌, ℕ, List, [], ◌∷◌, false, map, length, drop, get_or, Option, Some, None, vec_capacity}
+use Rattle.std.specs.Prelude.{◌≡◌, ◌≤◌, ◌<◌, ◌+◌, ◌*◌, ◌-◌, ℕ, List, [], ◌∷◌, false, map, length, drop, get_or, Option, Some, None, vec_capacity}
 use Rattle.sj_base.specs.Count.{raised}
 use Rattle.sj_json.specs.Tree.{children, numbered, NumberedChild}
 use Rattle.sj_doc.specs.Listed.{node_id, node_tree}
 use Rattle.sj_doc.specs.declared.doc.NodeRef.{NodeRef}
+use Rattle.sj_path_tree.specs.Nodes.{expr_nodes}
 use Rattle.sj_path_tree.specs.Tree as t
 use Rattle.sj_path_tree.specs.declared.parts.Mode.TheVariants.{Lax}
 use Rattle.sj_item.specs.Items.{ItemValue, PullValue, item_value, gives, ends}
@@ -129,4 +130,5 @@ pub record IsTrail (trail : Trail) : Type 0 where
 pub record IsTrailOf (path : t.Path) (trail : Trail) : Type 0 where
   pub lax : path.mode ≡ Lax
   pub means : AreMovesOf path.expr trail.moves.items
+  pub few : length trail.moves.items + 2 ≤ 2 * expr_nodes path.expr
   pub is_trail : IsTrail trail

@@ -15,7 +15,7 @@ use crate::cells::{
 };
 use crate::one::made;
 use sj_base::{Memory, boxed};
-use sj_path_tree::{Arith, Compare, Expr, Initial, Pred, Step, Sub, Subs};
+use sj_path_tree::{Arith, Compare, Expr, Initial, Pred, Step, Sub};
 use sj_walk::Walk;
 use std::alloc::Global;
 
@@ -126,6 +126,7 @@ fn give_up_test<'d>(_test: Box<Test<'d>>, memory: Memory) -> Memory {
 // An accessor on an expression.
 #[cycle(build)]
 #[inline(never)]
+#[tactic(auto, using(sj_path_tree::proofs::Rows::elements))]
 fn step_cell<'d>(
     alloc: Global,
     step: &'d Step,
@@ -200,12 +201,13 @@ fn filter<'d>(
 
 #[cycle(build)]
 #[inline(never)]
-fn parts_cell<'d>(alloc: Global, subs: &'d Subs) -> Result<Box<Parts<'d>>, Memory>
+fn parts_cell<'d>(alloc: Global, subs: &'d [Sub]) -> Result<Box<Parts<'d>>, Memory>
     ensures { IfOk result (λ p. parts_core p.value ≡ subs_of subs.now) }
 {
     match subs {
-        Subs::Only(sub) => only(alloc, ends_cell(alloc, sub)?),
-        Subs::More(sub, others) => {
+        [] => no_parts(alloc),
+        [sub] => only(alloc, ends_cell(alloc, sub)?),
+        [sub, others @ ..] => {
             let first = ends_cell(alloc, sub)?;
             match parts_cell(alloc, others) {
                 Ok(others) => more(alloc, first, others),
@@ -258,8 +260,15 @@ fn part<'d>(ends: Ends<'d>) -> Part<'d>
 }
 
 #[inline(never)]
+fn no_parts<'d>(alloc: Global) -> Result<Box<Parts<'d>>, Memory>
+    ensures { IfOk result (λ p. parts_core p.value ≡ tree.NoSubs) }
+{
+    boxed(alloc, Parts::Empty)
+}
+
+#[inline(never)]
 fn only<'d>(alloc: Global, ends: Ends<'d>) -> Result<Box<Parts<'d>>, Memory>
-    ensures { IfOk result (λ p. parts_core p.value ≡ tree.Only (ends_core ends.entry)) }
+    ensures { IfOk result (λ p. parts_core p.value ≡ tree.More (ends_core ends.entry) tree.NoSubs) }
 {
     boxed(alloc, Parts::Only(part(ends)))
 }

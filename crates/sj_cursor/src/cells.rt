@@ -156,6 +156,8 @@ pub(crate) struct Subscripted<'d> {
 /// The parts of a list of subscripts.
 #[cycle(cells)]
 pub(crate) enum Parts<'d> {
+    /// No part. The parser never leaves a list empty.
+    Empty,
     Only(Part<'d>),
     More(MoreParts<'d>),
 }
@@ -165,7 +167,7 @@ impl<'d> Drop for Parts<'d> {
     fn drop(mut self) {
         loop {
             match self {
-                Parts::Only(_) => return,
+                Parts::Empty | Parts::Only(_) => return,
                 Parts::More(MoreParts { first: _, others }) => self = Box::into_inner(others),
             }
         }

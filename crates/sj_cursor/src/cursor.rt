@@ -273,15 +273,15 @@ impl<'d> Cursor<'d> {
         self.stands = Stands::AtTheBeginning;
     }
 
-    /// How many items the cursor holds, with the root. It is at most three for each node of the path. A trail holds none: its frames are
-    /// places in the document.
+    /// How many items the cursor holds, with the root. It is at most three for each node of the path. A trail holds an item for each
+    /// node whose children it is among.
     ///
     /// The program does not call this; its tests do, and a host may.
     pub fn held(&self) -> u64
         ensures { result ≤ 3 * nodes (path_of self.now.path) }
     {
         match &self.by {
-            Means::Trail(_) => 1,
+            Means::Trail(trail) => trail.held(),
             Means::Cells(cell) => cell.held().saturating_add(1),
         }
     }

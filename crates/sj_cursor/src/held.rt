@@ -70,6 +70,7 @@ impl<'d> Parts<'d> {
         ensures { result ≤ 3 * subs_nodes (left_of.parts_core self.now) }
     {
         match self {
+            Parts::Empty => 0,
             Parts::Only(part) => part.held(),
             Parts::More(more) => plus(more.first.held(), more.others.held()),
         }

@@ -1,10 +1,11 @@
 // A path that is asked on one item after another.
-ghost use Rattle.std.specs.Prelude.{◌≡◌, ◌≤◌, IfOk};
+ghost use Rattle.std.specs.Prelude.{◌≡◌, ◌≤◌, ◌*◌, IfOk};
 ghost use Rattle.sj_base.specs.Count.{raised};
 ghost use Rattle.sj_cursor.specs.Answers.{exists_answer, single_value};
 ghost use Rattle.sj_cursor.specs.Inquiries.{IsAsking};
 ghost use Rattle.sj_cursor.specs.Single.{need, single};
 ghost use Rattle.sj_item.specs.Items.{item_value};
+ghost use Rattle.sj_path_tree.specs.Nodes.{nodes};
 ghost use Rattle.sj_path_tree.specs.View.{path_of};
 
 use crate::arrival::look_on;
@@ -179,6 +180,19 @@ impl<'d> Inquiry<'d> {
                 cursor.rewind(root);
                 cursor.single(several, steps)
             }
+        }
+    }
+
+    /// How many items the inquiry holds from one answer to the next. It is at most three for each node of the path. For a plain path it
+    /// holds none.
+    ///
+    /// The program does not call this; its tests do, and a host may.
+    pub fn held(&self) -> u64
+        ensures { result ≤ 3 * nodes (path_of self.now.path) }
+    {
+        match &self.by {
+            Asking::Chain(_) => 0,
+            Asking::Cursor(cursor) => cursor.held(),
         }
     }
 }

@@ -1,10 +1,11 @@
 // Paths in lax mode as moves from node to node. They need no cells.
-ghost use Rattle.std.specs.Prelude.{◌≡◌, true, [], IfOk, IfSome};
+ghost use Rattle.std.specs.Prelude.{◌≡◌, ◌≤◌, ◌+◌, ◌*◌, true, [], length, IfOk, IfSome, OnOk};
 ghost use Rattle.sj_item.specs.Items.{ItemValue, item_value};
 ghost use Rattle.sj_item.specs.Pairs.{items_compare};
 ghost use Rattle.sj_path_tree.specs.declared.parts.Mode.TheVariants.{Lax};
 ghost use Rattle.sj_plain_path.specs.Pairings.{PairingSeen};
 ghost use Rattle.sj_step.specs.Reach.{by_key, reach, unwrap};
+ghost use Rattle.sj_path_tree.specs.Nodes.{expr_nodes};
 ghost use Rattle.sj_path_tree.specs.Tree as tree;
 ghost use Rattle.sj_path_tree.specs.View.{expr_of, step_of, pred_of};
 ghost use Rattle.sj_step.specs.Trace.{Trace, each};
@@ -146,13 +147,14 @@ impl<'d> Move<'d> {
 
 // ---- the moves of a path
 
-/// Puts the moves of an expression in order, and tells whether it has moves alone.
+/// Puts the moves of an expression in order, at most two for each accessor, and tells whether it has moves alone.
 ///
 /// # Errors
 /// [`Memory`] where memory runs out.
 pub(crate) fn collect<'d>(expr: &'d Expr, moves: &mut Vec<Move<'d>>) -> Result<bool, Memory>
     requires { moves.now.items ≡ [] }
-    ensures { IfOk result (λ plain. plain ≡ true → AreMovesOf (expr_of expr.now) moves.new.items) }
+    ensures means { IfOk result (λ plain. plain ≡ true → AreMovesOf (expr_of expr.now) moves.new.items) }
+    ensures few { OnOk result (length moves.new.items + 2 ≤ 2 * expr_nodes (expr_of expr.now)) }
 {
     match expr {
         Expr::Root => Ok(true),
@@ -169,7 +171,8 @@ pub(crate) fn collect<'d>(expr: &'d Expr, moves: &mut Vec<Move<'d>>) -> Result<b
 // Puts the moves of an accessor behind those of the expression that it stands on, and tells whether it has moves alone. All that have
 // begin by unwrapping arrays.
 fn add<'d>(step: &'d Step, moves: &mut Vec<Move<'d>>) -> Result<bool, Memory>
-    ensures { IfOk result (λ plain. plain ≡ true → (e : tree.Expr) → AreMovesOf e moves.old.items → AreMovesOf (tree.Access e (step_of step.now)) moves.new.items) }
+    ensures means { IfOk result (λ plain. plain ≡ true → (e : tree.Expr) → AreMovesOf e moves.old.items → AreMovesOf (tree.Access e (step_of step.now)) moves.new.items) }
+    ensures few { OnOk result (length moves.new.items ≤ length moves.old.items + 2) }
 {
     moves.push(Move::Unwrap)?;
     match step {

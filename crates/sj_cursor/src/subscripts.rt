@@ -90,6 +90,7 @@ impl<'d> Parts<'d> {
         ensures same { left_of.parts_core self.new ≡ left_of.parts_core self.old }
     {
         match self {
+            Parts::Empty => Answer::End,
             Parts::Only(part) => part.next(env, item, steps, place),
             Parts::More(more) => more.next(env, item, steps, place),
         }
@@ -102,6 +103,7 @@ impl<'d> Parts<'d> {
         ensures same { left_of.parts_core self.new ≡ left_of.parts_core self.old }
     {
         match self {
+            Parts::Empty => {}
             Parts::Only(part) => part.reached = Reached::Unasked,
             Parts::More(more) => {
                 more.first.reached = Reached::Unasked;

@@ -1,5 +1,5 @@
 // The items of a path in lax mode, one at a time and without cells.
-ghost use Rattle.std.specs.Prelude.{◌≡◌, ◌≤◌, ◌<◌, ◌-◌, length, drop, vec_capacity, IfOk, IfSome};
+ghost use Rattle.std.specs.Prelude.{◌≡◌, ◌≤◌, ◌<◌, ◌+◌, ◌-◌, length, drop, vec_capacity, IfOk, IfSome};
 ghost use Rattle.sj_step.specs.Trace.{join};
 ghost use Rattle.sj_base.specs.Count.{raised};
 ghost use Rattle.sj_item.specs.Items.{item_value};
@@ -74,6 +74,14 @@ impl<'d> Trail<'d> {
         }
         let frames = Vec::with_capacity(alloc, moves.len())?;
         Ok(Some(Trail { moves, frames }))
+    }
+
+    /// How many items the trail holds: the root, and for each frame the node whose children are left.
+    pub(crate) fn held(&self) -> u64
+        requires { IsTrail self.now }
+        ensures { result ≤ length self.now.moves.items + 1 }
+    {
+        (self.frames.len() as u64).saturating_add(1)
     }
 
     /// The first item on a root.

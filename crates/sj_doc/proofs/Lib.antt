@@ -7,6 +7,8 @@ pub mod Numerals
 pub mod Docs
 -- for `Doc::root`
 pub mod NumbersOfNodes
+-- for `Doc::root`
+pub mod Roots
 -- for `CopiedLine::hold`, `DocBuilder::begin`, `DocBuilder::close`, `DocBuilder::depth`, `DocBuilder::finish`,
 -- `DocBuilder::key_at`, `DocBuilder::key_bytes`, `DocBuilder::null`, `DocBuilder::number`, `DocBuilder::number_at`,
 -- `DocBuilder::over`, `DocBuilder::over_line`, `DocBuilder::text_at`, `DocBuilder::text_bytes`, `DocBuilder::truth`,

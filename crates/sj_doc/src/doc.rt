@@ -97,12 +97,14 @@ fn value_of(numeral: &str) -> Num<'_>
 }
 
 impl Doc {
-    ghost use Rattle.sj_doc.specs.Listed.{node_id, node_tree};
+    ghost use Rattle.sj_doc.specs.Listed.{node_id, node_key, node_tree};
 
     /// The whole document.
+    #[tactic(auto, unfolding(crate::specs::Listed::node_key), using(crate::proofs::Roots::no_key))]
     pub fn root(&self) -> NodeRef<'_>
         ensures tree { node_tree result ≡ self.now }
         ensures number { node_id result ≡ 0 }
+        ensures key { node_key result ≡ None }
         ensures made { IsTree self.now }
     {
         // shows the proof that the numbers are well made

@@ -1,7 +1,7 @@
 // A document is built, walked and built anew.
-use crate::cases::{expect, expect_count};
-use sj_base::{Memory, Steps};
-use sj_decimal::Decimal;
+use crate::cases::{Counts, expect, expect_count};
+use sj_base::Memory;
+use sj_decimal::{Decimal, Parsed};
 use sj_doc::{Doc, DocBuilder, Kind, Num, Want};
 use std::alloc::Global;
 use std::process::Abort;
@@ -24,8 +24,8 @@ fn built(rt: &impl Abort, alloc: Global) -> Result<Doc, Memory> {
     Ok(builder.finish())
 }
 
-fn walks(rt: &impl Abort, doc: &Doc) -> Result<(), Fail> {
-    let mut steps = Steps::new();
+fn walks(rt: &(impl Abort + Counts), doc: &Doc) -> Result<(), Fail> {
+    let mut steps = rt.steps();
     let mut members = doc.root().children();
     let first = members.next(&mut steps).ok_or("no member")?;
     expect(rt, first.key.ok_or("no key")?, "a", "key");
@@ -41,8 +41,8 @@ fn walks(rt: &impl Abort, doc: &Doc) -> Result<(), Fail> {
 }
 
 // The search for the children under a key.
-fn searches(rt: &impl Abort, doc: &Doc) -> Result<(), Fail> {
-    let mut steps = Steps::new();
+fn searches(rt: &(impl Abort + Counts), doc: &Doc) -> Result<(), Fail> {
+    let mut steps = rt.steps();
     let mut under = doc.root().children();
     let found = under
         .next_under("a", &mut steps)
@@ -85,8 +85,8 @@ fn numbers(alloc: Global) -> Result<Doc, Fail> {
     Ok(builder.finish())
 }
 
-fn expect_numbers(rt: &impl Abort, doc: &Doc) -> Result<(), Fail> {
-    let mut steps = Steps::new();
+fn expect_numbers(rt: &(impl Abort + Counts), doc: &Doc) -> Result<(), Fail> {
+    let mut steps = rt.steps();
     let mut elements = doc.root().children();
     for wanted in ["1.5", "-7"] {
         let element = elements.next(&mut steps).ok_or("no element")?;
@@ -99,8 +99,46 @@ fn expect_numbers(rt: &impl Abort, doc: &Doc) -> Result<(), Fail> {
     Ok(())
 }
 
+// A document of one number that is put in by its spelling.
+fn spelled(alloc: Global, spelling: &str) -> Result<Doc, Fail> {
+    let mut builder = DocBuilder::new(alloc);
+    match Decimal::parse(spelling.as_bytes()) {
+        Parsed::Exact(_) if spelling.len() <= 64 => {
+            builder.number(spelling)?;
+            Ok(builder.finish())
+        }
+        Parsed::Wide => {
+            builder.wide(spelling)?;
+            Ok(builder.finish())
+        }
+        _ => Err("no short number")?,
+    }
+}
+
+// What the number at the root of a document is told as.
+fn told(alloc: Global, doc: &Doc) -> Result<String, Fail> {
+    let root = doc.root();
+    if root.kind() != Kind::Number {
+        return Err("the root is no number".into());
+    }
+    match root.number() {
+        Num::Exact(n) => Ok(format!(in alloc; "exact {}", n.text().as_str())?),
+        Num::Wide(spelling) => Ok(format!(in alloc; "wide {spelling}")?),
+    }
+}
+
 #[test]
 fn keeps_numbers(rt: HostRuntime) -> Result<(), Fail> {
     let doc = numbers(rt.alloc())?;
-    expect_numbers(&rt, &doc)
+    expect_numbers(&rt, &doc)?;
+    for (spelling, want) in [
+        ("1.50", "exact 1.5"),
+        ("-0", "exact 0"),
+        ("1e400", "wide 1e400"),
+    ] {
+        let doc = spelled(rt.alloc(), spelling)?;
+        let found = told(rt.alloc(), &doc)?;
+        expect(&rt, found.as_str(), want, spelling);
+    }
+    Ok(())
 }

@@ -1,7 +1,6 @@
 //! The examples that the documentation of `sj_decimal` and `sj_read` names.
 
-use crate::cases::expect;
-use sj_base::Steps;
+use crate::cases::{Counts, expect};
 use sj_decimal::{Decimal, NumFault, Parsed, is_number};
 use sj_doc::Doc;
 use sj_read::{LineRead, ReadRefusal, read, read_over};
@@ -60,8 +59,8 @@ fn numbers_are_rounded(rt: HostRuntime) -> Result<(), Fail> {
 }
 
 /// How many children the root has.
-fn size(doc: &Doc) -> u64 {
-    let mut steps = Steps::new();
+fn size(rt: &impl Counts, doc: &Doc) -> u64 {
+    let mut steps = rt.steps();
     let mut children = doc.root().children();
     for _ in 0..100 {
         if children.next(&mut steps).is_none() {
@@ -71,15 +70,15 @@ fn size(doc: &Doc) -> u64 {
     steps.count()
 }
 
-fn expect_lines(rt: &impl Abort, alloc: Global) -> Result<(), Fail> {
+fn expect_lines(rt: &(impl Abort + Counts), alloc: Global) -> Result<(), Fail> {
     let first = read(alloc, b"{\"a\":1,\"a\":2}")?;
-    assert!(rt; size(&first) == 2);
+    assert!(rt; size(rt, &first) == 2);
     let mut buffer = Vec::new(alloc);
     let LineRead::Json(second) = read_over(alloc, first.recycle(), &mut buffer, b"[1, 2, 3]")?
     else {
         return Err("the line is JSON".into());
     };
-    assert!(rt; size(&second) == 3);
+    assert!(rt; size(rt, &second) == 3);
     Ok(())
 }
 

@@ -1,7 +1,6 @@
 // Lines that are cut at each place, what a document then has, and the limits. Which texts are JSON and what they are read as
 // is in `checks/rows/json.txt`.
-use crate::cases::{expect, expect_count};
-use sj_base::Steps;
+use crate::cases::{Counts, expect, expect_count};
 use sj_doc::{Doc, Kind, Visit};
 use sj_read::{LineRead, ReadRefusal, read, read_over};
 use std::alloc::Global;
@@ -56,8 +55,8 @@ fn refuses_a_truncated_line(rt: HostRuntime) -> Result<(), Fail> {
 const MEMBERS: &[u8] = b"{\"a\":null,\"b\":[true,\"x\"],\"a\":{}}";
 
 /// They have these keys, kinds, numbers and sizes.
-fn expect_members(rt: &impl Abort, doc: &Doc) -> Result<(), Fail> {
-    let mut steps = Steps::new();
+fn expect_members(rt: &(impl Abort + Counts), doc: &Doc) -> Result<(), Fail> {
+    let mut steps = rt.steps();
     let mut children = doc.root().children();
     let wanted = [
         ("a", Kind::Null, 1, 0),
@@ -140,8 +139,8 @@ fn shape(visit: Visit<'_>) -> (char, u64) {
     }
 }
 
-fn expect_tour(rt: &impl Abort, doc: &Doc) -> Result<(), Fail> {
-    let mut steps = Steps::new();
+fn expect_tour(rt: &(impl Abort + Counts), doc: &Doc) -> Result<(), Fail> {
+    let mut steps = rt.steps();
     let mut tour = doc.root().tour();
     let wanted = [
         ('[', 0),

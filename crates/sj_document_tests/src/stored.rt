@@ -41,7 +41,7 @@ fn lends_windows_of_short_texts(rt: HostRuntime) -> Result<(), Fail> {
         ("a key of 17 bytes", false, "seventeen letters", false),
         ("last", true, "\n", false),
     ];
-    let mut steps = Steps::new();
+    let mut steps = Steps::new(&rt);
     let mut members = doc.root().children();
     for (key, key_has, text, text_has) in wanted {
         let member = members.next(&mut steps).ok_or("a member is missing")?;

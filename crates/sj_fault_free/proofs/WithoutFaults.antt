@@ -9,7 +9,7 @@ use Rattle.sj_doc.specs.declared.node.Kind.TheVariants as kinds
 use Rattle.sj_path_tree.specs.declared.parts.Mode.{Mode}
 use Rattle.sj_path_tree.specs.declared.parts.Mode.TheVariants.{Lax, Strict}
 use Rattle.sj_path_tree.specs.declared.parts.Literal.TheVariants as literals
-use Rattle.sj_path_tree.specs.Tree.{Path, Expr, Root, Var, Context, Last, Lit, Access, Plus, Minus, Binary, Step, Member, AllMembers, AllElements, Elements, Filter, Call, Double, Datetime, DatetimeBy, Sub, One, Range, Subs, Only, More}
+use Rattle.sj_path_tree.specs.Tree.{Path, Expr, Root, Var, Context, Last, Lit, Access, Plus, Minus, Binary, Step, Member, AllMembers, AllElements, Elements, Filter, Call, Sub, One, Range, Subs, NoSubs, More}
 use Rattle.sj_item.specs.Items.{ItemValue, made_number, item_tree}
 use Rattle.sj_item.specs.declared.truth.Truth.{Truth}
 use Rattle.sj_item.specs.declared.truth.Truth.TheVariants.{True, False, Unknown}
@@ -154,7 +154,7 @@ part_well (Range e f) env x m h =
     (λ i. fixed_well f env (λ j. reach (by_range i j) env.mode x) hs.1 (λ j. reach_well (by_range i j) env.mode x m))
 
 parts_well : (subs : Subs) (env : Env) (x : ItemValue) → env.mode ≡ Lax → subs_fault_free subs ≡ true → fault_of (parts subs env x) ≡ None
-parts_well (Only s) env x m h = part_well s env x m h
+parts_well NoSubs env x m h = refl
 parts_well (More s others) env x m h =
     let hs = both (sub_fault_free s) (subs_fault_free others) h in
     join_well (part s env x) (parts others env x) (part_well s env x m hs.0) (parts_well others env x m hs.1)
@@ -178,9 +178,6 @@ step_well (Elements subs) t env m h e =
 step_well (Filter p) t env m h e =
     each_well (spread env.mode t) (λ x. filtered (verdict p (at_item env x)) x) (spread_well env.mode t m e) (λ x. filtered_well (verdict p (at_item env x)) x)
 step_well (Call method) t env m h e = cc
-step_well Double t env m h e = cc
-step_well Datetime t env m h e = cc
-step_well (DatetimeBy template) t env m h e = cc
 
 -- ---- paths
 

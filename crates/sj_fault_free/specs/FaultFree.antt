@@ -5,7 +5,7 @@ use Rattle.sj_path_tree.specs.declared.parts.Mode.{Mode}
 use Rattle.sj_path_tree.specs.declared.parts.Mode.TheVariants.{Lax, Strict}
 use Rattle.sj_path_tree.specs.declared.parts.Literal.{Literal}
 use Rattle.sj_path_tree.specs.declared.parts.Literal.TheVariants as literals
-use Rattle.sj_path_tree.specs.Tree.{Path, Expr, Root, Var, Context, Last, Lit, Access, Step, Member, AllMembers, AllElements, Elements, Filter, Sub, One, Range, Subs, Only, More}
+use Rattle.sj_path_tree.specs.Tree.{Path, Expr, Root, Var, Context, Last, Lit, Access, Step, Member, AllMembers, AllElements, Elements, Filter, Sub, One, Range, Subs, NoSubs, More}
 
 abbrev pub is_number : Literal → Bool
 is_number (literals.Num d) = true
@@ -22,7 +22,7 @@ sub_fault_free (One e) = is_fixed e
 sub_fault_free (Range from to) = is_fixed from && is_fixed to
 
 abbrev pub subs_fault_free : Subs → Bool
-subs_fault_free (Only s) = sub_fault_free s
+subs_fault_free NoSubs = true
 subs_fault_free (More s others) = sub_fault_free s && subs_fault_free others
 
 abbrev pub step_fault_free : Step → Bool

@@ -3,7 +3,7 @@ ghost use Rattle.std.specs.Prelude.{◌≡◌};
 ghost use Rattle.sj_path_tree.specs.View.{path_of, expr_of, step_of, sub_of, subs_of};
 ghost use Rattle.sj_fault_free.specs.FaultFree.{is_number, is_fixed, sub_fault_free, subs_fault_free, step_fault_free, expr_fault_free, fault_free};
 
-use sj_path_tree::{Expr, Literal, Mode, Path, Step, Sub, Subs};
+use sj_path_tree::{Expr, Literal, Mode, Path, Step, Sub};
 
 /// Whether the form of a path rules out a fault on every item: it is in lax mode, has no method, sign or arithmetic, and each subscript is
 /// the literal of a number or `last`. A filter has no fault, whatever its predicate. The law `fault_free_paths_end_well` says that such
@@ -27,6 +27,7 @@ fn is_expr_fault_free(expr: &Expr) -> bool
     }
 }
 
+#[tactic(auto, using(sj_path_tree::proofs::Rows::elements))]
 fn is_step_fault_free(step: &Step) -> bool
     ensures { result ≡ step_fault_free (step_of step.now) }
 {
@@ -37,13 +38,15 @@ fn is_step_fault_free(step: &Step) -> bool
     }
 }
 
-fn are_subs_fault_free(subs: &Subs) -> bool
+fn are_subs_fault_free(subs: &[Sub]) -> bool
     ensures { result ≡ subs_fault_free (subs_of subs.now) }
 {
-    match subs {
-        Subs::Only(sub) => is_sub_fault_free(sub),
-        Subs::More(sub, others) => is_sub_fault_free(sub) && are_subs_fault_free(others),
+    for sub in subs {
+        if !is_sub_fault_free(sub) {
+            return false;
+        }
     }
+    true
 }
 
 fn is_sub_fault_free(sub: &Sub) -> bool

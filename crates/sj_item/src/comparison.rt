@@ -25,7 +25,7 @@ use std::cmp::Ordering;
 /// their code points. Of the truth values false is below true. Any other pair is Unknown: each of two kinds,
 /// and each with a number that is not exact, an array or an object.
 ///
-/// The program compares items that are lent, by [`Item::compare`].
+/// The program compares items that are lent, by [`Item::compare`]; this is for tests and for hosts.
 pub fn compare<'d>(op: Compare, a: Item<'d>, b: Item<'d>) -> Truth
     ensures { result ≡ items_compare op (item_value a.entry) (item_value b.entry) }
 {
@@ -34,7 +34,7 @@ pub fn compare<'d>(op: Compare, a: Item<'d>, b: Item<'d>) -> Truth
 
 /// Whether the string `a` starts with the string `b`, by code points. Any other pair is Unknown.
 ///
-/// The program asks this of items that are lent, by [`Item::starts_with`].
+/// The program asks this of items that are lent, by [`Item::starts_with`]; this is for tests and for hosts.
 pub fn starts_with<'d>(a: Item<'d>, b: Item<'d>) -> Truth
     ensures { result ≡ item_starts_with (item_value a.entry) (item_value b.entry) }
 {

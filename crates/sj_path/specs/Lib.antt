@@ -1,2 +1,2 @@
-pub mod Raw
+pub mod Found
 pub mod Nests

@@ -4,10 +4,10 @@ use Rattle.std.specs.declared.alloc.Global.{Global}
 use Rattle.std.specs.Borrow.{Bor}
 use Rattle.sj_base.specs.declared.refusal.ParseRefusal.{ParseRefusal}
 use Rattle.sj_base.specs.Gives.{Gives}
-use Rattle.sj_path.specs.declared.raw.ExprOrPred.{ExprOrPred}
+use Rattle.sj_path.specs.declared.found.ExprOrPred.{ExprOrPred}
 use Rattle.sj_path_grammar.specs.Grammar.{Tokens}
 use Rattle.sj_path_grammar.specs.Reading.{expr_or_pred_at}
-use Rattle.sj_path.specs.Raw.{expr_or_pred_of}
+use Rattle.sj_path.specs.Found.{expr_or_pred_of}
 
 pub record Nests (depth : ℕ) (pre : Global → ℕ → Bor Tokens → Type 0)
     (post : Global → ℕ → Bor Tokens → Result (ExprOrPred × Bor Tokens) ParseRefusal → Type 0) : Type 0 where

@@ -2,9 +2,9 @@
 
 ghost use Rattle.std.specs.Prelude.{◌≡◌};
 ghost use Rattle.sj_path_grammar.specs.Misplaced as misplaced;
-ghost use Rattle.sj_path.specs.Raw.{expr_of, step_of, sub_of, subs_of, pred_of};
+ghost use Rattle.sj_path_tree.specs.View.{expr_of, step_of, sub_of, subs_of, pred_of};
 
-use crate::raw::{Expr, Pred, Step, Sub, Subs};
+use sj_path_tree::{Expr, Pred, Step, Sub};
 
 /// Whether an `@` stands in no filter or a `last` in no subscript list.
 #[cycle(misplaced)]
@@ -26,19 +26,14 @@ pub fn misplaced_expr(e: &Expr, filtered: bool, listed: bool) -> bool
 }
 
 #[cycle(misplaced)]
+#[tactic(auto, using(sj_path_tree::proofs::Rows::elements))]
 fn misplaced_step(step: &Step, filtered: bool, listed: bool) -> bool
     ensures { result ≡ misplaced.misplaced_step (step_of step.now) filtered listed }
 {
     match step {
         Step::Elements(subs) => misplaced_subs(subs, filtered),
         Step::Filter(p) => misplaced_pred(p, listed),
-        Step::Member(_)
-        | Step::AllMembers
-        | Step::AllElements
-        | Step::Method(_)
-        | Step::Double
-        | Step::Datetime
-        | Step::DatetimeBy(_) => false,
+        Step::Member(_) | Step::AllMembers | Step::AllElements | Step::Method(_) => false,
     }
 }
 
@@ -55,15 +50,15 @@ fn misplaced_sub(sub: &Sub, filtered: bool) -> bool
 }
 
 #[cycle(misplaced)]
-fn misplaced_subs(subs: &Subs, filtered: bool) -> bool
+fn misplaced_subs(subs: &[Sub], filtered: bool) -> bool
     ensures { result ≡ misplaced.misplaced_subs (subs_of subs.now) filtered }
 {
-    match subs {
-        Subs::Only(sub) => misplaced_sub(sub, filtered),
-        Subs::More(sub, others) => {
-            misplaced_sub(sub, filtered) || misplaced_subs(others, filtered)
+    for sub in subs {
+        if misplaced_sub(sub, filtered) {
+            return true;
         }
     }
+    false
 }
 
 #[cycle(misplaced)]
@@ -75,9 +70,6 @@ fn misplaced_pred(p: &Pred, listed: bool) -> bool
             || misplaced_expr(b, true, listed),
         Pred::And(p, q) | Pred::Or(p, q) => misplaced_pred(p, listed) || misplaced_pred(q, listed),
         Pred::Not(p) | Pred::IsUnknown(p) => misplaced_pred(p, listed),
-        Pred::Exists(e)
-        | Pred::StartsWith(e, _)
-        | Pred::LikeRegex(e, _)
-        | Pred::LikeRegexBy(e, _, _) => misplaced_expr(e, true, listed),
+        Pred::Exists(e) | Pred::StartsWith(e, _) => misplaced_expr(e, true, listed),
     }
 }

@@ -3,13 +3,16 @@
 ghost use Rattle.std.specs.Prelude.{◌≡◌, length};
 ghost use Rattle.sj_base.specs.Gives.{Gives};
 ghost use Rattle.sj_path_grammar.specs.Reading as reading;
-ghost use Rattle.sj_path.specs.Raw.{expr_of, step_of, sub_of, subs_of, pred_of, expr_or_pred_of};
+ghost use Rattle.sj_path_tree.specs.View.{expr_of, step_of, sub_of, subs_of, pred_of};
+ghost use Rattle.sj_path.specs.Found.{expr_or_pred_of};
 ghost use Rattle.sj_path.specs.Nests.{Nests};
 
-use crate::raw::{Expr, ExprOrPred, Pred, Step, Sub, Subs};
+use crate::found::ExprOrPred;
+use crate::make::with_first;
 use crate::{make, predicate, single, step};
 use sj_base::{ParseRefusal, boxed};
 use sj_path_token::{Keyword, Token};
+use sj_path_tree::{Expr, Pred, Step, Sub};
 use std::alloc::Global;
 
 #[derive(Clone, Copy)]
@@ -45,39 +48,41 @@ impl<F: Fn(Global, usize, &[Token]) -> Result<(ExprOrPred, &[Token]), ParseRefus
     }
 
     #[tactic(auto, unfolding(sj_path_grammar::specs::Reading::sub_at))]
-    fn sub<'a>(&self, tokens: &'a [Token]) -> Result<(Sub, &'a [Token]), ParseRefusal>
+    fn sub<'a>(&self, tokens: &'a [Token]) -> Result<(Box<Sub>, &'a [Token]), ParseRefusal>
         requires { Nests self.now.depth (F.pre self.now.inner) (F.post self.now.inner) }
-        ensures { Gives (λ x. (sub_of x.0, x.1.now)) result (reading.sub_at (reading.expr_or_pred_at self.now.depth) tokens.now) }
+        ensures { Gives (λ x. (sub_of x.0.value, x.1.now)) result (reading.sub_at (reading.expr_or_pred_at self.now.depth) tokens.now) }
     {
         let (from, rest) = self.inner_expr(tokens)?;
         let Some(rest) = single::to(rest) else {
-            return Ok((Sub::One(from), rest));
+            return Ok((boxed(self.alloc, Sub::One(Box::into_inner(from)))?, rest));
         };
         let (to, rest) = self.inner_expr(rest)?;
-        Ok((Sub::Range(from, to), rest))
+        let range = Sub::Range(Box::into_inner(from), Box::into_inner(to));
+        Ok((boxed(self.alloc, range)?, rest))
     }
 
+    /// A list of subscripts, which has at least one. The limit on commas keeps it short.
     #[tactic(auto, unfolding(sj_path_grammar::specs::Reading::subs_at))]
     fn subs<'a>(
         &self,
         turns: usize,
         tokens: &'a [Token],
-    ) -> Result<(Box<Subs>, &'a [Token]), ParseRefusal>
+    ) -> Result<(Vec<Sub>, &'a [Token]), ParseRefusal>
         requires { Nests self.now.depth (F.pre self.now.inner) (F.post self.now.inner) }
-        ensures { Gives (λ x. (subs_of x.0.value, x.1.now)) result (reading.subs_at (reading.expr_or_pred_at self.now.depth) turns tokens.now) }
+        ensures { Gives (λ x. (subs_of x.0.items, x.1.now)) result (reading.subs_at (reading.expr_or_pred_at self.now.depth) turns tokens.now) }
     {
         if turns == 0 {
             return Err(ParseRefusal::Syntax);
         }
         let (sub, rest) = self.sub(tokens)?;
         let Some(rest) = single::comma(rest) else {
-            return Ok((boxed(self.alloc, Subs::Only(sub))?, rest));
+            return Ok((with_first(Vec::new(self.alloc), sub)?, rest));
         };
         let (others, rest) = self.subs(turns - 1, rest)?;
-        Ok((boxed(self.alloc, Subs::More(sub, others))?, rest))
+        Ok((with_first(others, sub)?, rest))
     }
 
-    #[tactic(auto, unfolding(sj_path_grammar::specs::Reading::after_bracket))]
+    #[tactic(auto, using(sj_path_tree::proofs::Rows::elements), unfolding(sj_path_grammar::specs::Reading::after_bracket))]
     fn after_bracket<'a>(&self, tokens: &'a [Token]) -> Result<(Step, &'a [Token]), ParseRefusal>
         requires { Nests self.now.depth (F.pre self.now.inner) (F.post self.now.inner) }
         ensures { Gives (λ x. (step_of x.0, x.1.now)) result (reading.after_bracket (reading.expr_or_pred_at self.now.depth) tokens.now) }
@@ -274,7 +279,10 @@ impl<F: Fn(Global, usize, &[Token]) -> Result<(ExprOrPred, &[Token]), ParseRefus
         match tokens {
             [Token::Compare(op), rest @ ..] => {
                 let (b, rest) = self.expr(rest)?;
-                let p = boxed(self.alloc, Pred::Compare(*op, e, b))?;
+                let p = boxed(
+                    self.alloc,
+                    Pred::Compare(*op, Box::into_inner(e), Box::into_inner(b)),
+                )?;
                 Ok((ExprOrPred::Test(p), rest))
             }
             [Token::Word(Keyword::Starts, _), rest @ ..] => {
@@ -284,8 +292,8 @@ impl<F: Fn(Global, usize, &[Token]) -> Result<(ExprOrPred, &[Token]), ParseRefus
                 predicate::initial(self.alloc, e, rest)
             }
             [Token::Word(Keyword::LikeRegex, _), rest @ ..] => {
-                let (pattern, rest) = single::quoted(self.alloc, rest)?;
-                predicate::flags(self.alloc, e, pattern, rest)
+                let (_pattern, rest) = single::quoted(self.alloc, rest)?;
+                predicate::flags(self.alloc, e, rest)
             }
             _ => Ok((ExprOrPred::Value(e), tokens)),
         }
@@ -333,7 +341,7 @@ impl<F: Fn(Global, usize, &[Token]) -> Result<(ExprOrPred, &[Token]), ParseRefus
         let Some(rest) = single::close(rest) else {
             return Err(ParseRefusal::Syntax);
         };
-        Ok((boxed(self.alloc, Pred::Exists(e))?, rest))
+        Ok((boxed(self.alloc, Pred::Exists(Box::into_inner(e)))?, rest))
     }
 
     #[tactic(auto, unfolding(sj_path_grammar::specs::Reading::delim_at))]

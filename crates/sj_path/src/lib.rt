@@ -7,18 +7,18 @@
 
 mod check;
 mod depth;
-mod finish;
+mod found;
 mod level;
 mod make;
 mod parse;
 mod predicate;
-mod raw;
 mod single;
 mod step;
+mod unsupported;
 
 pub use parse::parse_path;
 pub use sj_path_grammar::{Name, PathRefusal};
 pub use sj_path_tree::{
-    Arith, Compare, Expr, Initial, Literal, Method, Mode, Path, Pred, Step, Sub, Subs, Vars,
-    member_path, nodes,
+    Arith, Compare, Expr, Initial, Literal, Method, Mode, Path, Pred, Step, Sub, Vars, member_path,
+    nodes,
 };

@@ -4,14 +4,13 @@ ghost use Rattle.std.specs.Prelude.{◌≡◌, IfOk, IfErr, MatchResult};
 ghost use Rattle.sj_base.specs.Gives.{Gives};
 ghost use Rattle.sj_path_grammar.specs.Reading as reading;
 ghost use Rattle.sj_path_grammar.specs.Answers.{Allows, Forbids, Accepts, Refuses};
-ghost use Rattle.sj_path.specs.Raw as raw;
 ghost use Rattle.sj_path_tree.specs.View.{path_of};
 
 use crate::check::misplaced_expr;
 use crate::depth::is_too_deep;
-use crate::finish::finished;
 use crate::level::{Level, expr_or_pred};
-use crate::{raw, single};
+use crate::single;
+use crate::unsupported::unsupported;
 use sj_base::ParseRefusal;
 use sj_path_grammar::PathRefusal;
 use sj_path_token::{Token, tokens_of};
@@ -20,8 +19,8 @@ use std::alloc::Global;
 
 /// A path, behind its mode.
 #[tactic(auto, unfolding(sj_path_grammar::specs::Reading::whole_at))]
-fn in_mode(alloc: Global, mode: Mode, tokens: &[Token]) -> Result<raw::Path, ParseRefusal>
-    ensures { Gives raw.path_of result (reading.in_mode mode tokens.now) }
+fn in_mode(alloc: Global, mode: Mode, tokens: &[Token]) -> Result<Path, ParseRefusal>
+    ensures { Gives path_of result (reading.in_mode mode tokens.now) }
 {
     let level = Level {
         alloc,
@@ -30,14 +29,17 @@ fn in_mode(alloc: Global, mode: Mode, tokens: &[Token]) -> Result<raw::Path, Par
     };
     let (expr, rest) = level.inner_expr(tokens)?;
     match rest {
-        [] => Ok(raw::Path { mode, expr }),
+        [] => Ok(Path {
+            mode,
+            expr: Box::into_inner(expr),
+        }),
         _ => Err(ParseRefusal::Syntax),
     }
 }
 
 #[tactic(auto, unfolding(sj_path_grammar::specs::Reading::path_at))]
-fn path(alloc: Global, tokens: &[Token]) -> Result<raw::Path, ParseRefusal>
-    ensures { Gives raw.path_of result (reading.path_at tokens.now) }
+fn path(alloc: Global, tokens: &[Token]) -> Result<Path, ParseRefusal>
+    ensures { Gives path_of result (reading.path_at tokens.now) }
 {
     if let Some(rest) = single::lax(tokens) {
         return in_mode(alloc, Mode::Lax, rest);
@@ -63,7 +65,10 @@ fn parse_tokens(alloc: Global, tokens: &[Token]) -> Result<Path, PathRefusal>
     if misplaced_expr(&path.expr, false, false) {
         return Err(PathRefusal::Misplaced);
     }
-    finished(alloc, path)
+    match unsupported(tokens) {
+        Some(name) => Err(PathRefusal::Unsupported(name)),
+        None => Ok(path),
+    }
 }
 
 /// The path that the text spells (ISO/IEC 9075-2, 9.46), or the first refusal in the order of

@@ -3,13 +3,14 @@
 ghost use Rattle.std.specs.Prelude.{◌≡◌};
 ghost use Rattle.sj_base.specs.Gives.{Gives};
 ghost use Rattle.sj_path_grammar.specs.Reading as reading;
-ghost use Rattle.sj_path.specs.Raw.{expr_of, pred_of, expr_or_pred_of};
+ghost use Rattle.sj_path_tree.specs.View.{expr_of, pred_of};
+ghost use Rattle.sj_path.specs.Found.{expr_or_pred_of};
 
-use crate::raw::{Expr, ExprOrPred, Pred};
+use crate::found::ExprOrPred;
 use crate::single;
-use sj_base::{ParseRefusal, Text, boxed};
+use sj_base::{ParseRefusal, boxed};
 use sj_path_token::Token;
-use sj_path_tree::Initial;
+use sj_path_tree::{Expr, Initial, Pred};
 use std::alloc::Global;
 
 /// Behind `starts with`.
@@ -24,34 +25,33 @@ pub fn initial(
     match tokens {
         [Token::Quoted(text), rest @ ..] => {
             let initial = Initial::Lit(single::copy(alloc, text)?);
-            let p = boxed(alloc, Pred::StartsWith(e, initial))?;
+            let p = boxed(alloc, Pred::StartsWith(Box::into_inner(e), initial))?;
             Ok((ExprOrPred::Test(p), rest))
         }
         [Token::Variable(name), rest @ ..] => {
             let initial = Initial::Var(single::copy(alloc, name)?);
-            let p = boxed(alloc, Pred::StartsWith(e, initial))?;
+            let p = boxed(alloc, Pred::StartsWith(Box::into_inner(e), initial))?;
             Ok((ExprOrPred::Test(p), rest))
         }
         _ => Err(ParseRefusal::Syntax),
     }
 }
 
-/// Behind `like_regex` and its pattern.
+/// Behind `like_regex` and its pattern. `exists` stands in for it, since the path is refused (`unsupported`).
 #[tactic(auto, unfolding(sj_path_grammar::specs::Reading::flags_at))]
 pub fn flags(
     alloc: Global,
     e: Box<Expr>,
-    pattern: Text,
     tokens: &[Token],
 ) -> Result<(ExprOrPred, &[Token]), ParseRefusal>
-    ensures { Gives (λ x. (expr_or_pred_of x.0, x.1.now)) result (reading.flags_at (expr_of e.value) pattern tokens.now) }
+    ensures { Gives (λ x. (expr_or_pred_of x.0, x.1.now)) result (reading.flags_at (expr_of e.value) tokens.now) }
 {
     let Some(rest) = single::flag(tokens) else {
-        let p = boxed(alloc, Pred::LikeRegex(e, pattern))?;
+        let p = boxed(alloc, Pred::Exists(Box::into_inner(e)))?;
         return Ok((ExprOrPred::Test(p), tokens));
     };
-    let (flags, rest) = single::quoted(alloc, rest)?;
-    let p = boxed(alloc, Pred::LikeRegexBy(e, pattern, flags))?;
+    let (_flags, rest) = single::quoted(alloc, rest)?;
+    let p = boxed(alloc, Pred::Exists(Box::into_inner(e)))?;
     Ok((ExprOrPred::Test(p), rest))
 }
 

@@ -4,13 +4,12 @@ ghost use Rattle.std.specs.Prelude.{◌≡◌, option_map, IfOk};
 ghost use Rattle.std.specs.Option.{option_copied};
 ghost use Rattle.sj_base.specs.Gives.{Gives};
 ghost use Rattle.sj_path_grammar.specs.Signs as sign;
-ghost use Rattle.sj_path.specs.Raw.{expr_of};
+ghost use Rattle.sj_path_tree.specs.View.{expr_of};
 ghost use Rattle.sj_path_grammar.specs.Reading as reading;
 
-use crate::raw::Expr;
 use sj_base::{Memory, ParseRefusal, Text};
 use sj_path_token::{Keyword, Token};
-use sj_path_tree::{Arith, Literal};
+use sj_path_tree::{Arith, Expr, Literal};
 use std::alloc::Global;
 
 pub fn add_sign(tokens: &[Token]) -> Option<(Arith, &[Token])>

@@ -4,14 +4,20 @@ ghost use Rattle.std.specs.Prelude.{◌≡◌, option_map};
 ghost use Rattle.sj_base.specs.Gives.{Gives};
 ghost use Rattle.sj_path_grammar.specs.Reading as reading;
 ghost use Rattle.sj_path_grammar.specs.Signs as sign;
-ghost use Rattle.sj_path.specs.Raw.{step_of};
+ghost use Rattle.sj_path_tree.specs.View.{step_of};
 
-use crate::raw::Step;
 use crate::single;
 use sj_base::{ParseRefusal, Text};
 use sj_path_token::{Keyword, Token};
-use sj_path_tree::Method;
+use sj_path_tree::{Method, Step};
 use std::alloc::Global;
+
+/// What stands in for a method that is not supported, since the path is refused (`unsupported`).
+fn stand_in() -> Step
+    ensures { step_of result ≡ sign.stand_in }
+{
+    Step::Method(Method::TypeOf)
+}
 
 /// The method without an argument that the word names.
 fn method(keyword: Keyword) -> Option<Step>
@@ -30,27 +36,27 @@ fn method(keyword: Keyword) -> Option<Step>
         Keyword::Integer => Some(Step::Method(Method::Integer)),
         Keyword::Number => Some(Step::Method(Method::Number)),
         Keyword::String => Some(Step::Method(Method::Text)),
-        Keyword::Double => Some(Step::Double),
+        Keyword::Double => Some(stand_in()),
         _ => None,
     }
 }
 
 #[tactic(auto, unfolding(sj_path_grammar::specs::Reading::datetime_at))]
-fn datetime(alloc: Global, tokens: &[Token]) -> Result<(Step, &[Token]), ParseRefusal>
+fn datetime(tokens: &[Token]) -> Result<(Step, &[Token]), ParseRefusal>
     ensures { Gives (λ x. (step_of x.0, x.1.now)) result (reading.datetime_at tokens.now) }
 {
     match tokens {
-        [Token::Quoted(text), rest @ ..] => {
+        [Token::Quoted(_), rest @ ..] => {
             let Some(rest) = single::close(rest) else {
                 return Err(ParseRefusal::Syntax);
             };
-            Ok((Step::DatetimeBy(single::copy(alloc, text)?), rest))
+            Ok((stand_in(), rest))
         }
         _ => {
             let Some(rest) = single::close(tokens) else {
                 return Err(ParseRefusal::Syntax);
             };
-            Ok((Step::Datetime, rest))
+            Ok((stand_in(), rest))
         }
     }
 }
@@ -65,7 +71,7 @@ fn called(
     ensures { Gives (λ x. (step_of x.0, x.1.now)) result (reading.called keyword tokens.now) }
 {
     match keyword {
-        Keyword::Datetime => datetime(alloc, tokens),
+        Keyword::Datetime => datetime(tokens),
         _ => {
             let Some(rest) = single::close(tokens) else {
                 return Err(ParseRefusal::Syntax);

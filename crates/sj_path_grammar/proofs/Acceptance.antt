@@ -84,21 +84,21 @@ too_deep_missed ts h (inr many) = lt_not _ _ (or_right (is_deep_within ts (lengt
 -- ---- the path
 
 -- what the steps of an acceptance give
-taken : (o : Option Path) (p : Path) → (o >>= λ q. cond (is_misplaced q) None (if_supported (unsupported q) q)) ≡ Some p → (o ≡ Some p) × (is_misplaced p ≡ false) × (unsupported p ≡ None)
-taken None p h = cc
-taken (Some q) p h = go (is_misplaced q) (unsupported q) refl refl h
+taken : (u : Option Name) (o : Option Path) (p : Path) → (o >>= λ q. cond (is_misplaced q) None (if_supported u q)) ≡ Some p → (o ≡ Some p) × (is_misplaced p ≡ false) × (u ≡ None)
+taken v None p h = cc
+taken v (Some q) p h = go (is_misplaced q) v refl refl h
   where
-    go : (b : Bool) (u : Option Name) → is_misplaced q ≡ b → unsupported q ≡ u → cond b None (if_supported u q) ≡ Some p → (Some q ≡ Some p) × (is_misplaced p ≡ false) × (unsupported p ≡ None)
+    go : (b : Bool) (u : Option Name) → is_misplaced q ≡ b → v ≡ u → cond b None (if_supported u q) ≡ Some p → (Some q ≡ Some p) × (is_misplaced p ≡ false) × (v ≡ None)
     go true u m s e = cc
     go false (Some name) m s e = cc
-    go false None m s e = let same : q ≡ p = cc in (e, ap is_misplaced (sym same) ∙ m, ap unsupported (sym same) ∙ s)
+    go false None m s e = let same : q ≡ p = cc in (e, ap is_misplaced (sym same) ∙ m, s)
 
-allowed_by : (ts : Tokens) (p : Path) → cond (is_too_deep ts) None (path_at ts >>= λ q. cond (is_misplaced q) None (if_supported (unsupported q) q)) ≡ Some p → Allows ts p
+allowed_by : (ts : Tokens) (p : Path) → cond (is_too_deep ts) None (path_at ts >>= λ q. cond (is_misplaced q) None (if_supported (unsupported ts) q)) ≡ Some p → Allows ts p
 allowed_by ts p h = go (is_too_deep ts) refl h
   where
-    go : (b : Bool) → is_too_deep ts ≡ b → cond b None (path_at ts >>= λ q. cond (is_misplaced q) None (if_supported (unsupported q) q)) ≡ Some p → Allows ts p
+    go : (b : Bool) → is_too_deep ts ≡ b → cond b None (path_at ts >>= λ q. cond (is_misplaced q) None (if_supported (unsupported ts) q)) ≡ Some p → Allows ts p
     go true d e = cc
-    go false d e = let f = taken (path_at ts) p e in record {
+    go false d e = let f = taken (unsupported ts) (path_at ts) p e in record {
       spells = record { shallow = too_deep_missed ts d; tree = path_sound ts p f.0 };
       placed = f.1;
       supported = f.2;
@@ -108,7 +108,7 @@ pub path_accepted : (text : List ℕ) (p : Path) → accepted_path text ≡ Some
 unfolding accepted_path lex
 path_accepted text p h = go (lex text) refl h
   where
-    go : (o : Option Tokens) → lex text ≡ o → (o >>= λ ts. cond (is_too_deep ts) None (path_at ts >>= λ q. cond (is_misplaced q) None (if_supported (unsupported q) q))) ≡ Some p → Accepts text p
+    go : (o : Option Tokens) → lex text ≡ o → (o >>= λ ts. cond (is_too_deep ts) None (path_at ts >>= λ q. cond (is_misplaced q) None (if_supported (unsupported ts) q))) ≡ Some p → Accepts text p
     go None e f = cc
     go (Some ts) e f = record { tokens = ts; breaks = lex_sound (length text) text ts (omega arith) e; allowed = allowed_by ts p f }
 
@@ -116,19 +116,19 @@ no_test : (b : Bool) → (b ≡ true → ⊥) → b ≡ false
 no_test true h = absurd (h refl)
 no_test false h = refl
 
-kept : (p : Path) → is_misplaced p ≡ false → unsupported p ≡ None → cond (is_misplaced p) None (if_supported (unsupported p) p) ≡ Some p
-kept p placed supported = ap (λ (b : Bool). cond b None (if_supported (unsupported p) p)) placed ∙ ap (λ (u : Option Name). if_supported u p) supported
+kept : (v : Option Name) (p : Path) → is_misplaced p ≡ false → v ≡ None → cond (is_misplaced p) None (if_supported v p) ≡ Some p
+kept v p placed supported = ap (λ (b : Bool). cond b None (if_supported v p)) placed ∙ ap (λ (u : Option Name). if_supported u p) supported
 
-read_so : (ts : Tokens) (p : Path) → Allows ts p → cond (is_too_deep ts) None (path_at ts >>= λ q. cond (is_misplaced q) None (if_supported (unsupported q) q)) ≡ Some p
+read_so : (ts : Tokens) (p : Path) → Allows ts p → cond (is_too_deep ts) None (path_at ts >>= λ q. cond (is_misplaced q) None (if_supported (unsupported ts) q)) ≡ Some p
 read_so ts p a =
-    ap (λ (b : Bool). cond b None (path_at ts >>= λ q. cond (is_misplaced q) None (if_supported (unsupported q) q))) (no_test (is_too_deep ts) (λ d. a.spells.shallow (too_deep_found ts d)))
-    ∙ ap (λ (o : Option Path). o >>= λ q. cond (is_misplaced q) None (if_supported (unsupported q) q)) (path_full a.spells.tree)
-    ∙ kept p a.placed a.supported
+    ap (λ (b : Bool). cond b None (path_at ts >>= λ q. cond (is_misplaced q) None (if_supported (unsupported ts) q))) (no_test (is_too_deep ts) (λ d. a.spells.shallow (too_deep_found ts d)))
+    ∙ ap (λ (o : Option Path). o >>= λ q. cond (is_misplaced q) None (if_supported (unsupported ts) q)) (path_full a.spells.tree)
+    ∙ kept (unsupported ts) p a.placed a.supported
 
 pub accepted_is : (text : List ℕ) (p : Path) → Accepts text p → accepted_path text ≡ Some p
 unfolding accepted_path lex
 accepted_is text p a =
-    ap (λ (o : Option Tokens). o >>= λ ts. cond (is_too_deep ts) None (path_at ts >>= λ q. cond (is_misplaced q) None (if_supported (unsupported q) q))) (lex_full a.breaks (length text) (omega arith))
+    ap (λ (o : Option Tokens). o >>= λ ts. cond (is_too_deep ts) None (path_at ts >>= λ q. cond (is_misplaced q) None (if_supported (unsupported ts) q))) (lex_full a.breaks (length text) (omega arith))
     ∙ read_so a.tokens p a.allowed
 
 -- a refused text has no path

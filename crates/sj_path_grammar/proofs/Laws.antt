@@ -7,7 +7,6 @@ use Rattle.sj_path_grammar.specs.declared.refusal.PathRefusal.TheVariants as r
 use Rattle.sj_path_tree.specs.Tree.{Path}
 use Rattle.sj_path_grammar.specs.Grammar.{Tokens, IsPath}
 use Rattle.sj_path_grammar.specs.Misplaced.{is_misplaced}
-use Rattle.sj_path_grammar.specs.Unsupported.{unsupported}
 use Rattle.sj_path_grammar.specs.Answers.{HasTree, Allows, Forbids, Accepts, Refuses}
 use Rattle.sj_path_grammar.proofs.ReadTokens.{some_is}
 use Rattle.sj_path_grammar.proofs.Paths as paths
@@ -29,7 +28,7 @@ allowed ts p r.Lex a f = absurd f
 allowed ts p r.TooDeep a f = absurd (a.spells.shallow f)
 allowed ts p r.Syntax a f = absurd (f.1 p a.spells.tree)
 allowed ts p r.Misplaced a f = let same = paths.one_tree ts p f.0 a.spells.tree f.1.tree in absurd (apart (sym f.2 ∙ sym (ap is_misplaced same) ∙ a.placed))
-allowed ts p (r.Unsupported name) a f = let same = paths.one_tree ts p f.0 a.spells.tree f.1.tree in absurd (none_some (sym a.supported ∙ ap unsupported same ∙ f.3))
+allowed ts p (r.Unsupported name) a f = absurd (none_some (sym a.supported ∙ f.3))
 allowed ts p r.Memory a f = refl
 
 -- the reasons exclude one another
@@ -59,8 +58,7 @@ same_reason ts (r.Unsupported name) r.Lex f g m n = absurd g
 same_reason ts (r.Unsupported name) r.TooDeep f g m n = absurd (f.1.shallow g)
 same_reason ts (r.Unsupported name) r.Syntax f g m n = absurd (g.1 f.0 f.1.tree)
 same_reason ts (r.Unsupported name) r.Misplaced f g m n = let same = paths.one_tree ts f.0 g.0 f.1.tree g.1.tree in absurd (apart (sym g.2 ∙ sym (ap is_misplaced same) ∙ f.2))
-same_reason ts (r.Unsupported name) (r.Unsupported other) f g m n =
-    let same = paths.one_tree ts f.0 g.0 f.1.tree g.1.tree in ap r.Unsupported (some_is (sym f.3 ∙ ap unsupported same ∙ g.3))
+same_reason ts (r.Unsupported name) (r.Unsupported other) f g m n = ap r.Unsupported (some_is (sym f.3 ∙ g.3))
 
 -- ---- answers of texts
 

@@ -13,10 +13,8 @@ use Rattle.sj_path_grammar.specs.Grammar.{Tokens, IsExpr, IsPath}
 use Rattle.sj_path_grammar.specs.Reading.{Read, ExprOrPred, Value, Test, on_some, lax_at, strict_at, as_value, inner_expr, expr_or_pred_at, ended, whole_at, with_mode, in_mode, path_at}
 use Rattle.sj_path_grammar.specs.declared.refusal.PathRefusal.{PathRefusal}
 use Rattle.sj_path_grammar.specs.declared.refusal.PathRefusal.TheVariants as r
-use Rattle.sj_path_grammar.specs.Finishes.{Finishes}
 use Rattle.sj_path_grammar.specs.Depth.{IsTooDeep}
 use Rattle.sj_path_grammar.specs.Misplaced.{is_misplaced}
-use Rattle.sj_path_grammar.specs.Unsupported.{unsupported}
 use Rattle.sj_path_grammar.specs.Answers.{Spells, Allows, Forbids}
 use Rattle.sj_path_grammar.proofs.ReadTokens.{some_is, lax_word, strict_word}
 use Rattle.sj_path_grammar.proofs.Soundness.{Spells as SpellsExprOrPred, expr_or_pred_reads}
@@ -104,10 +102,3 @@ unread ts shallow h = (shallow, λ p d. none_some (sym h ∙ path_full d))
 
 pub spelled : (ts : Tokens) (p : Path) → (IsTooDeep ts → ⊥) → path_at ts ≡ Some p → Spells ts p
 spelled ts p shallow h = record { shallow = shallow; tree = path_sound ts p h }
-
-pub finishes : {X : Type 0} (view : X → Path) (ts : Tokens) (p : Path) (x : Result X PathRefusal) → Spells ts p → is_misplaced p ≡ false → Finishes view x p (unsupported p)
-    → MatchResult x (λ q. Allows ts (view q)) (λ e. Forbids ts e)
-finishes view ts p (Ok x) s m h = subst (λ (q : Path). Allows ts q) (sym h.0) (record { spells = s; placed = m; supported = h.1 })
-finishes view ts p (Err (r.Unsupported n)) s m h = (p, s, m, h)
-finishes view ts p (Err r.Memory) s m h = tt
-finishes view ts p (Err _) s m h = absurd h

@@ -6,7 +6,7 @@ use Rattle.sj_path_token.specs.declared.keyword.Keyword.{Keyword}
 use Rattle.sj_path_token.specs.declared.keyword.Keyword.TheVariants as w
 use Rattle.sj_path_tree.specs.Tree as t
 use Rattle.sj_path_tree.specs.Tree.{Expr, Pred, Binary, Access}
-use Rattle.sj_path_grammar.specs.Signs.{add_sign, mul_sign, method_of}
+use Rattle.sj_path_grammar.specs.Signs.{add_sign, mul_sign, method_of, stand_in}
 use Rattle.sj_path_grammar.specs.Grammar as g
 use Rattle.sj_path_grammar.specs.Grammar.{Tokens, IsExpr, IsSum, IsTerm, IsProduct, IsUnary, IsAccess, IsPrimary, IsStep, IsSub, IsSubs, IsPred, IsOr, IsConj, IsAnd, IsNeg, IsDelim, IsPrim}
 use Rattle.sj_path_grammar.specs.Reading.{begins_step, Parser, ExprOrPred, Value, Test, close_at, with_at, quoted_at, inner_expr, inner_pred, as_value, as_test, datetime_at, called, named, after_dot, sub_at, subs_at, after_bracket, after_question, step_at, primary_at, access_from, access_at, unary_at, product_from, term_at, sum_from, expr_at, expr_from, initial_at, flags_at, test_from, tested, unknown_from, after_group, exists_at, group_at, delim_at, neg_at, test_at, and_from, conj_at, or_from, pred_from, expr_or_pred_over, expr_or_pred_at}
@@ -26,8 +26,8 @@ SpellsNeg ts (Test p) rest = IsNeg ts p rest
 datetime_reads : (text : List ℕ) (ts : Tokens) → IfRead (IsStep (k.Dot ∷ k.Word w.Datetime text ∷ k.Open ∷ ts)) (datetime_at ts)
 unfolding datetime_at
 datetime_reads text ts = either _ _ _
-    (λ _. given _ _ (λ rest c. here (subst (λ x. IsStep (k.Dot ∷ k.Word w.Datetime text ∷ k.Open ∷ x) t.Datetime rest) (sym (closes ts rest c)) g.datetime)))
-    (λ v q. given _ _ (λ rest c. here (subst (λ x. IsStep (k.Dot ∷ k.Word w.Datetime text ∷ k.Open ∷ x) (t.DatetimeBy v.0) rest)
+    (λ _. given _ _ (λ rest c. here (subst (λ x. IsStep (k.Dot ∷ k.Word w.Datetime text ∷ k.Open ∷ x) stand_in rest) (sym (closes ts rest c)) g.datetime)))
+    (λ v q. given _ _ (λ rest c. here (subst (λ x. IsStep (k.Dot ∷ k.Word w.Datetime text ∷ k.Open ∷ x) stand_in rest)
     (sym (quotes ts v.0 v.1 q ∙ ap (λ x. k.Quoted v.0 ∷ x) (closes v.1 rest c))) g.datetime_by)))
 
 method_reads : (keyword : Keyword) (text : List ℕ) (ts : Tokens)
@@ -163,7 +163,7 @@ module _ (inner : Parser ExprOrPred) (reads : (ts : Tokens) → IfRead (Spells t
   initial_reads starts with ts e (k.Variable v ∷ mid) d = here (g.prim (g.starts_variable d))
   initial_reads starts with ts e (_ ∷ mid) d = nothing
 
-  flags_reads : (like : List ℕ) (ts : Tokens) (e : Expr) (v : List ℕ) (mid : Tokens) → IsExpr ts e (k.Word w.LikeRegex like ∷ k.Quoted v ∷ mid) → IfRead (SpellsNeg ts) (flags_at e v mid)
+  flags_reads : (like : List ℕ) (ts : Tokens) (e : Expr) (v : List ℕ) (mid : Tokens) → IsExpr ts e (k.Word w.LikeRegex like ∷ k.Quoted v ∷ mid) → IfRead (SpellsNeg ts) (flags_at e mid)
   unfolding flags_at
   flags_reads like ts e v mid d = either _ _ _ (λ _. here (g.prim (g.like d)))
       (λ m f. let p = flag_word mid m f in then _ _ (quoted_reads m) (λ u rest q. here (g.prim (g.like_by
@@ -173,7 +173,7 @@ module _ (inner : Parser ExprOrPred) (reads : (ts : Tokens) → IfRead (Spells t
   starts_reads starts ts e mid d = given _ _ (λ m h. let p = with_word mid m h in
       initial_reads starts p.0 ts e m (subst (λ x. IsExpr ts e (k.Word w.Starts starts ∷ x)) p.1 d))
 
-  like_reads : (like : List ℕ) (ts : Tokens) (e : Expr) (mid : Tokens) → IsExpr ts e (k.Word w.LikeRegex like ∷ mid) → IfRead (SpellsNeg ts) (quoted_at mid >>= λ p. flags_at e p.0 p.1)
+  like_reads : (like : List ℕ) (ts : Tokens) (e : Expr) (mid : Tokens) → IsExpr ts e (k.Word w.LikeRegex like ∷ mid) → IfRead (SpellsNeg ts) (quoted_at mid >>= λ p. flags_at e p.1)
   like_reads like ts e mid d = then _ _ (quoted_reads mid) (λ v m q. flags_reads like ts e v m (subst (λ x. IsExpr ts e (k.Word w.LikeRegex like ∷ x)) q d))
 
   test_from_reads : (ts : Tokens) (e : Expr) (mid : Tokens) → IsExpr ts e mid → IfRead (SpellsNeg ts) (test_from inner e mid)

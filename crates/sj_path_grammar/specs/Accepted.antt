@@ -30,4 +30,4 @@ if_supported (Some name) p = None
 -- The path that the text is accepted as, and none where it is refused. By the law `one_path` this is all that there is
 -- to say of it, and nobody needs to read how it is found.
 unfoldable pub accepted_path : List ℕ → Option Path
-accepted_path text = lex text >>= λ ts. cond (is_too_deep ts) None (path_at ts >>= λ p. cond (is_misplaced p) None (if_supported (unsupported p) p))
+accepted_path text = lex text >>= λ ts. cond (is_too_deep ts) None (path_at ts >>= λ p. cond (is_misplaced p) None (if_supported (unsupported ts) p))

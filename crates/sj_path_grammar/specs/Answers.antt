@@ -24,7 +24,7 @@ pub record Spells (ts : Tokens) (p : Path) : Type 0 where
 pub record Allows (ts : Tokens) (p : Path) : Type 0 where
   pub spells : Spells ts p
   pub placed : is_misplaced p ≡ false
-  pub supported : unsupported p ≡ None
+  pub supported : unsupported ts ≡ None
 
 -- why tokens are refused: each reason stands only where no earlier one does
 abbrev pub Forbids : Tokens → PathRefusal → Type 0
@@ -32,7 +32,7 @@ Forbids ts r.Lex = ⊥
 Forbids ts r.TooDeep = IsTooDeep ts
 Forbids ts r.Syntax = (IsTooDeep ts → ⊥) × ((p : Path) → IsPath ts p → ⊥)
 Forbids ts r.Misplaced = (p : Path) × Spells ts p × (is_misplaced p ≡ true)
-Forbids ts (r.Unsupported name) = (p : Path) × Spells ts p × (is_misplaced p ≡ false) × (unsupported p ≡ Some name)
+Forbids ts (r.Unsupported name) = (p : Path) × Spells ts p × (is_misplaced p ≡ false) × (unsupported ts ≡ Some name)
 Forbids ts r.Memory = Unit {0}
 
 -- the text is accepted as this path

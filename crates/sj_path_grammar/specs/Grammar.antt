@@ -1,5 +1,8 @@
 -- The grammar of paths, one constructor for each alternative of a rule. `IsExpr ts e rest` says that the
 -- tokens ts begin with a spelling of the expression e, and that rest follows it; the others say the same of theirs.
+-- A part that is not supported has no tree of its own. Another part stands in for it, with the same expressions inside:
+-- what is misplaced in them is a reason to refuse that comes before (`Answers`). No accepted path has a part that
+-- stands in for another: `Unsupported` tells it by its tokens, and the path is refused.
 use Rattle.std.specs.Prelude.{◌≡◌, ℕ, List, [], ◌∷◌, Some}
 use Rattle.sj_path_token.specs.declared.token.Token.{Token}
 use Rattle.sj_path_token.specs.declared.token.Token.TheVariants as k
@@ -9,8 +12,8 @@ use Rattle.sj_decimal.specs.declared.comparing.Compare.{Compare}
 use Rattle.sj_path_tree.specs.declared.parts.Arith.{Arith}
 use Rattle.sj_path_tree.specs.declared.parts.Initial.TheVariants as initial
 use Rattle.sj_path_tree.specs.declared.parts.Mode.TheVariants as mode
-use Rattle.sj_path_tree.specs.Tree.{Path, Expr, Plus, Minus, Binary, Access, Step, Member, AllMembers, AllElements, Elements, Filter, Datetime, DatetimeBy, Sub, One, Range, Subs, Only, More, Pred, Compares, And, Or, Not, IsUnknown, Exists, StartsWith, LikeRegex, LikeRegexBy}
-use Rattle.sj_path_grammar.specs.Signs.{add_sign, mul_sign, token_expr, method_of}
+use Rattle.sj_path_tree.specs.Tree.{Path, Expr, Plus, Minus, Binary, Access, Step, Member, AllMembers, AllElements, Elements, Filter, Sub, One, Range, Subs, NoSubs, More, Pred, Compares, And, Or, Not, IsUnknown, Exists, StartsWith}
+use Rattle.sj_path_grammar.specs.Signs.{add_sign, mul_sign, token_expr, method_of, stand_in}
 
 abbrev pub Tokens : Type 0
 Tokens = List Token
@@ -63,9 +66,9 @@ mutual
     all_members : {rest : Tokens} → IsStep (k.Dot ∷ k.Star ∷ rest) AllMembers rest
     method : {keyword : Keyword} {text : List ℕ} {s : Step} {rest : Tokens} → method_of keyword ≡ Some s
         → IsStep (k.Dot ∷ k.Word keyword text ∷ k.Open ∷ k.Close ∷ rest) s rest
-    datetime : {text : List ℕ} {rest : Tokens} → IsStep (k.Dot ∷ k.Word w.Datetime text ∷ k.Open ∷ k.Close ∷ rest) Datetime rest
+    datetime : {text : List ℕ} {rest : Tokens} → IsStep (k.Dot ∷ k.Word w.Datetime text ∷ k.Open ∷ k.Close ∷ rest) stand_in rest
     datetime_by : {text template : List ℕ} {rest : Tokens}
-        → IsStep (k.Dot ∷ k.Word w.Datetime text ∷ k.Open ∷ k.Quoted template ∷ k.Close ∷ rest) (DatetimeBy template) rest
+        → IsStep (k.Dot ∷ k.Word w.Datetime text ∷ k.Open ∷ k.Quoted template ∷ k.Close ∷ rest) stand_in rest
     all_elements : {rest : Tokens} → IsStep (k.OpenBracket ∷ k.Star ∷ k.CloseBracket ∷ rest) AllElements rest
     elements : {ts rest : Tokens} {subs : Subs} → IsSubs ts subs (k.CloseBracket ∷ rest) → IsStep (k.OpenBracket ∷ ts) (Elements subs) rest
     filter : {ts rest : Tokens} {p : Pred} → IsPred ts p (k.Close ∷ rest) → IsStep (k.Question ∷ k.Open ∷ ts) (Filter p) rest
@@ -77,7 +80,7 @@ mutual
 
   -- sub { "," sub }
   pub data IsSubs : Tokens → Subs → Tokens → Type 0 where
-    only : {ts rest : Tokens} {s : Sub} → IsSub ts s rest → IsSubs ts (Only s) rest
+    only : {ts rest : Tokens} {s : Sub} → IsSub ts s rest → IsSubs ts (More s NoSubs) rest
     more : {ts mid rest : Tokens} {s : Sub} {others : Subs} → IsSub ts s (k.Comma ∷ mid) → IsSubs mid others rest → IsSubs ts (More s others) rest
 
   -- pred = conj { "||" conj }
@@ -116,9 +119,10 @@ mutual
         → IsExpr ts e (k.Word w.Starts starts ∷ k.Word w.With with ∷ k.Quoted text ∷ rest) → IsPrim ts (StartsWith e (initial.Lit text)) rest
     starts_variable : {starts with name : List ℕ} {ts rest : Tokens} {e : Expr}
         → IsExpr ts e (k.Word w.Starts starts ∷ k.Word w.With with ∷ k.Variable name ∷ rest) → IsPrim ts (StartsWith e (initial.Var name)) rest
-    like : {like pattern : List ℕ} {ts rest : Tokens} {e : Expr} → IsExpr ts e (k.Word w.LikeRegex like ∷ k.Quoted pattern ∷ rest) → IsPrim ts (LikeRegex e pattern) rest
+    -- a predicate that is not supported: `Exists` stands in
+    like : {like pattern : List ℕ} {ts rest : Tokens} {e : Expr} → IsExpr ts e (k.Word w.LikeRegex like ∷ k.Quoted pattern ∷ rest) → IsPrim ts (Exists e) rest
     like_by : {like flag pattern flags : List ℕ} {ts rest : Tokens} {e : Expr}
-        → IsExpr ts e (k.Word w.LikeRegex like ∷ k.Quoted pattern ∷ k.Word w.Flag flag ∷ k.Quoted flags ∷ rest) → IsPrim ts (LikeRegexBy e pattern flags) rest
+        → IsExpr ts e (k.Word w.LikeRegex like ∷ k.Quoted pattern ∷ k.Word w.Flag flag ∷ k.Quoted flags ∷ rest) → IsPrim ts (Exists e) rest
 
 -- path = [ "lax" | "strict" ] expr, where the tokens are the whole text; a path without a mode word is lax
 pub data IsPath : Tokens → Path → Type 0 where

@@ -5,5 +5,4 @@ pub mod Misplaced
 pub mod Unsupported
 pub mod Answers
 pub mod Reading
-pub mod Finishes
 pub mod Accepted

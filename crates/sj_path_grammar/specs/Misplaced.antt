@@ -1,7 +1,7 @@
 -- Whether an `@` stands in no filter, or a `last` in no list of subscripts. `filtered` says whether a filter is
 -- around, and `listed` whether a list of subscripts is.
 use Rattle.std.specs.Prelude.{Bool, true, false, not, ◌||◌}
-use Rattle.sj_path_tree.specs.Tree.{Path, Expr, Root, Var, Context, Last, Lit, Plus, Minus, Binary, Access, Step, Member, AllMembers, AllElements, Elements, Filter, Call, Double, Datetime, DatetimeBy, Sub, One, Range, Subs, Only, More, Pred, Compares, And, Or, Not, IsUnknown, Exists, StartsWith, LikeRegex, LikeRegexBy}
+use Rattle.sj_path_tree.specs.Tree.{Path, Expr, Root, Var, Context, Last, Lit, Plus, Minus, Binary, Access, Step, Member, AllMembers, AllElements, Elements, Filter, Call, Sub, One, Range, Subs, NoSubs, More, Pred, Compares, And, Or, Not, IsUnknown, Exists, StartsWith}
 
 abbrev mutual
   pub misplaced_expr : Expr → Bool → Bool → Bool
@@ -22,16 +22,13 @@ abbrev mutual
   misplaced_step (Elements subs) filtered listed = misplaced_subs subs filtered
   misplaced_step (Filter p) filtered listed = misplaced_pred p listed
   misplaced_step (Call m) filtered listed = false
-  misplaced_step Double filtered listed = false
-  misplaced_step Datetime filtered listed = false
-  misplaced_step (DatetimeBy template) filtered listed = false
 
   pub misplaced_sub : Sub → Bool → Bool
   misplaced_sub (One e) filtered = misplaced_expr e filtered true
   misplaced_sub (Range from to) filtered = misplaced_expr from filtered true || misplaced_expr to filtered true
 
   pub misplaced_subs : Subs → Bool → Bool
-  misplaced_subs (Only s) filtered = misplaced_sub s filtered
+  misplaced_subs NoSubs filtered = false
   misplaced_subs (More s others) filtered = misplaced_sub s filtered || misplaced_subs others filtered
 
   -- inside a filter
@@ -43,8 +40,6 @@ abbrev mutual
   misplaced_pred (IsUnknown p) listed = misplaced_pred p listed
   misplaced_pred (Exists e) listed = misplaced_expr e true listed
   misplaced_pred (StartsWith e initial) listed = misplaced_expr e true listed
-  misplaced_pred (LikeRegex e pattern) listed = misplaced_expr e true listed
-  misplaced_pred (LikeRegexBy e pattern flags) listed = misplaced_expr e true listed
 
 abbrev pub is_misplaced : Path → Bool
 is_misplaced p = misplaced_expr p.expr false false

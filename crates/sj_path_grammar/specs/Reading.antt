@@ -9,8 +9,8 @@ use Rattle.sj_path_tree.specs.declared.parts.Arith.{Arith}
 use Rattle.sj_path_tree.specs.declared.parts.Initial.TheVariants as initial
 use Rattle.sj_path_tree.specs.declared.parts.Mode.{Mode}
 use Rattle.sj_path_tree.specs.declared.parts.Mode.TheVariants as mode
-use Rattle.sj_path_tree.specs.Tree.{Path, Expr, Plus, Minus, Binary, Access, Step, Member, AllMembers, AllElements, Elements, Filter, Datetime, DatetimeBy, Sub, One, Range, Subs, Only, More, Pred, Compares, And, Or, Not, IsUnknown, Exists, StartsWith, LikeRegex, LikeRegexBy}
-use Rattle.sj_path_grammar.specs.Signs.{add_sign, mul_sign, token_expr, method_of}
+use Rattle.sj_path_tree.specs.Tree.{Path, Expr, Plus, Minus, Binary, Access, Step, Member, AllMembers, AllElements, Elements, Filter, Sub, One, Range, Subs, NoSubs, More, Pred, Compares, And, Or, Not, IsUnknown, Exists, StartsWith}
+use Rattle.sj_path_grammar.specs.Signs.{add_sign, mul_sign, token_expr, method_of, stand_in}
 use Rattle.sj_path_grammar.specs.Grammar.{Tokens}
 
 -- what was read, and what follows it
@@ -114,8 +114,8 @@ begins_step (_ ∷ ts) = false
 -- behind `.datetime(`
 unfoldable pub datetime_at : Parser Step
 datetime_at ts = on_some (quoted_at ts)
-    (close_at ts >>= λ rest. Some (Datetime, rest))
-    (λ w. close_at w.1 >>= λ rest. Some (DatetimeBy w.0, rest))
+    (close_at ts >>= λ rest. Some (stand_in, rest))
+    (λ w. close_at w.1 >>= λ rest. Some (stand_in, rest))
 
 -- behind a name and a parenthesis
 unfoldable pub called : Keyword → Parser Step
@@ -159,9 +159,9 @@ initial_at e (k.Quoted w ∷ ts) = Some (Test (StartsWith e (initial.Lit w)), ts
 initial_at e (k.Variable w ∷ ts) = Some (Test (StartsWith e (initial.Var w)), ts)
 initial_at e (_ ∷ ts) = None
 
-unfoldable pub flags_at : Expr → List ℕ → Parser ExprOrPred
-flags_at e w ts = on_some (flag_at ts) (Some (Test (LikeRegex e w), ts))
-    (λ mid. quoted_at mid >>= λ f. Some (Test (LikeRegexBy e w f.0), f.1))
+unfoldable pub flags_at : Expr → Parser ExprOrPred
+flags_at e ts = on_some (flag_at ts) (Some (Test (Exists e), ts))
+    (λ mid. quoted_at mid >>= λ f. Some (Test (Exists e), f.1))
 
 -- behind a predicate in parentheses
 unfoldable pub unknown_from : Pred → Parser ExprOrPred
@@ -185,7 +185,7 @@ module _ (inner : Parser ExprOrPred) where
   subs_at zero ts = None
   subs_at (suc n) ts = do
     s ← sub_at ts
-    on_some (comma_at s.1) (Some (Only s.0, s.1)) (λ mid. subs_at n mid >>= λ others. Some (More s.0 others.0, others.1))
+    on_some (comma_at s.1) (Some (More s.0 NoSubs, s.1)) (λ mid. subs_at n mid >>= λ others. Some (More s.0 others.0, others.1))
 
   unfoldable pub after_bracket : Parser Step
   after_bracket ts = on_some (star_at ts)
@@ -257,7 +257,7 @@ module _ (inner : Parser ExprOrPred) where
   test_from e [] = Some (Value e, [])
   test_from e (k.Compare op ∷ ts) = expr_at ts >>= λ b. Some (Test (Compares op e b.0), b.1)
   test_from e (k.Word w.Starts text ∷ ts) = with_at ts >>= initial_at e
-  test_from e (k.Word w.LikeRegex text ∷ ts) = quoted_at ts >>= λ p. flags_at e p.0 p.1
+  test_from e (k.Word w.LikeRegex text ∷ ts) = quoted_at ts >>= λ p. flags_at e p.1
   test_from e (t ∷ ts) = Some (Value e, t ∷ ts)
 
   unfoldable pub tested : Parser ExprOrPred

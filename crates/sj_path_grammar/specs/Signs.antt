@@ -8,7 +8,7 @@ use Rattle.sj_path_tree.specs.declared.parts.Arith.{Arith}
 use Rattle.sj_path_tree.specs.declared.parts.Arith.TheVariants.{Add, Sub, Mul, Div, Rem}
 use Rattle.sj_path_tree.specs.declared.parts.Method.TheVariants as m
 use Rattle.sj_path_tree.specs.declared.parts.Literal.TheVariants as l
-use Rattle.sj_path_tree.specs.Tree.{Expr, Root, Var, Context, Last, Lit, Step, Call, Double}
+use Rattle.sj_path_tree.specs.Tree.{Expr, Root, Var, Context, Last, Lit, Step, Call}
 
 -- "+" | "-"
 abbrev pub add_sign : Token → Option Arith
@@ -41,6 +41,10 @@ token_expr (k.Number n) = Some (Lit (l.Num n))
 token_expr (k.Word keyword text) = word_expr keyword
 token_expr _ = None
 
+-- what stands in for a method that is not supported (`Grammar`)
+abbrev pub stand_in : Step
+stand_in = Call m.TypeOf
+
 -- a method without an argument: "type" | "size" | "ceiling" | "floor" | "abs" | "keyvalue" | "bigint" | "boolean"
 --      | "decimal" | "integer" | "number" | "string" | "double"
 abbrev pub method_of : Keyword → Option Step
@@ -56,5 +60,5 @@ method_of w.Decimal = Some (Call m.Decimal)
 method_of w.Integer = Some (Call m.Integer)
 method_of w.Number = Some (Call m.Number)
 method_of w.String = Some (Call m.Text)
-method_of w.Double = Some Double
+method_of w.Double = Some stand_in
 method_of _ = None

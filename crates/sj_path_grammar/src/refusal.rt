@@ -32,7 +32,7 @@ pub enum PathRefusal {
     /// An `@` stands in no filter, or a `last` in no list of subscripts.
     #[error("refused")]
     Misplaced,
-    /// The tree has a part that this implementation does not have: the first such part in the text.
+    /// The path has a part that this implementation does not have: the first such part in the text.
     #[error("refused")]
     Unsupported(Name),
     /// Memory ran out.

@@ -1,4 +1,5 @@
 //! What the tests ask of texts and numbers.
+use sj_base::Steps;
 use std::process::Abort;
 
 /// Stops the test where a text is not what it should be. Each place with an assertion of its own takes a proof of how
@@ -10,4 +11,15 @@ pub(crate) fn expect(rt: &impl Abort, found: &str, want: &str, about: &str) {
 /// The same of a number.
 pub(crate) fn expect_count(rt: &impl Abort, found: u64, want: u64) {
     assert_eq!(rt; found, want);
+}
+
+/// What makes a counter, beside `Abort`: a function with a bound has no `HostRuntime`.
+pub(crate) trait Counts {
+    fn steps(&self) -> Steps;
+}
+
+impl Counts for HostRuntime {
+    fn steps(&self) -> Steps {
+        Steps::new(self)
+    }
 }

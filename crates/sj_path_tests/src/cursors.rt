@@ -1,10 +1,10 @@
 // What whole paths give of small documents, and how many steps a cursor takes.
 mod paths;
 
-use super::cases::{expect, expect_count};
+use super::cases::{Counts, expect, expect_count};
 use paths::PATHS;
-use sj_base::{Bytes, Steps, Text};
-use sj_cursor::Cursor;
+use sj_base::{Bytes, Text};
+use sj_cursor::{Cursor, Inquiry};
 use sj_decimal::Decimal;
 use sj_doc::{Doc, NodeRef};
 use sj_item::{Item, Pull};
@@ -41,9 +41,9 @@ fn word(answer: Pull<'_>) -> &'static str {
 }
 
 // The text of an answer, and a space.
-fn push_answer(answer: Pull<'_>, out: &mut Bytes) -> Result<(), Fail> {
+fn push_answer(rt: &impl Counts, answer: Pull<'_>, out: &mut Bytes) -> Result<(), Fail> {
     match answer {
-        Pull::Item(item) => item_text(item, out, &mut Steps::new())?,
+        Pull::Item(item) => item_text(item, out, &mut rt.steps())?,
         end => out.push(word(end).as_bytes())?,
     }
     out.push(b" ")?;
@@ -53,17 +53,17 @@ fn push_answer(answer: Pull<'_>, out: &mut Bytes) -> Result<(), Fail> {
 // The answers of a cursor up to its end, but at most so many, and the steps that they took. An end comes again without
 // a step.
 fn trail(
-    rt: &impl Abort,
+    rt: &(impl Abort + Counts),
     alloc: Global,
     cursor: &mut Cursor<'_>,
     may_hold: u64,
     most: usize,
 ) -> Result<String, Fail> {
-    let mut steps = Steps::new();
+    let mut steps = rt.steps();
     let mut out = Bytes::new(alloc);
     for _ in 0..most {
         let answer = cursor.next(&mut steps);
-        push_answer(answer, &mut out)?;
+        push_answer(rt, answer, &mut out)?;
         assert!(rt; cursor.held() <= may_hold);
         if !matches!(answer, Pull::Item(_)) {
             let count = steps.count();
@@ -82,7 +82,7 @@ fn trail(
 }
 
 fn expect_answers(
-    rt: &impl Abort,
+    rt: &(impl Abort + Counts),
     alloc: Global,
     cursor: &mut Cursor<'_>,
     may_hold: u64,
@@ -96,7 +96,7 @@ fn expect_answers(
 
 // From a new cursor, and from one that has gone through the document before.
 fn expect_answers_twice(
-    rt: &impl Abort,
+    rt: &(impl Abort + Counts),
     alloc: Global,
     tree: &Path,
     vars: &Vars,
@@ -114,7 +114,7 @@ fn expect_answers_twice(
 
 // A path's answers on a document.
 fn expect_trail(
-    rt: &impl Abort,
+    rt: &(impl Abort + Counts),
     alloc: Global,
     path: &str,
     vars: &Vars,
@@ -127,7 +127,7 @@ fn expect_trail(
 }
 
 fn expect_in_modes(
-    rt: &impl Abort,
+    rt: &(impl Abort + Counts),
     alloc: Global,
     path: &str,
     vars: &Vars,
@@ -232,7 +232,7 @@ fn goes_into_deep_paths(rt: HostRuntime) -> Result<(), Fail> {
 
 // A path's answers on one node, from a cursor that has given some answers on another one.
 fn expect_answers_on_second(
-    rt: &impl Abort,
+    rt: &(impl Abort + Counts),
     alloc: Global,
     tree: &Path,
     vars: &Vars,
@@ -250,7 +250,7 @@ fn expect_answers_on_second(
 
 // The same of a path on the first element and the second one of an array.
 fn expect_other_trail(
-    rt: &impl Abort,
+    rt: &(impl Abort + Counts),
     alloc: Global,
     path: &str,
     vars: &Vars,
@@ -258,7 +258,7 @@ fn expect_other_trail(
     pulls: usize,
     want: &str,
 ) -> Result<(), Fail> {
-    let mut steps = Steps::new();
+    let mut steps = rt.steps();
     let mut elements = doc.root().children();
     let first = elements.next(&mut steps).ok_or("no first element")?;
     let second = elements.next(&mut steps).ok_or("no second element")?;
@@ -291,6 +291,43 @@ fn begins_again_on_another_root(rt: HostRuntime) -> Result<(), Fail> {
     ] {
         let doc = read(alloc, text.as_bytes())?;
         expect_other_trail(&rt, alloc, path, &vars, &doc, pulls, want)?;
+    }
+    Ok(())
+}
+
+// What an inquiry holds once it was asked whether there is an item, and a cursor behind its first item and its end.
+fn held_by(
+    rt: &(impl Abort + Counts),
+    alloc: Global,
+    tree: &Path,
+    doc: &Doc,
+) -> Result<String, Fail> {
+    let (vars, mut steps) = (Vars::new(alloc), rt.steps());
+    let root = Item::Node(doc.root());
+    let may_hold = nodes(tree).saturating_mul(3);
+    let mut inquiry = Inquiry::new(alloc, tree, &vars)?;
+    assert!(rt; inquiry.exists(root, &mut steps)?);
+    let asked = inquiry.held();
+    let mut cursor = Cursor::new(alloc, tree, &vars, root)?;
+    cursor.next(&mut steps);
+    let first = cursor.held();
+    assert!(rt; asked <= may_hold && first <= may_hold);
+    cursor.next(&mut steps);
+    Ok(format!(in alloc; "{asked} {first} {}", cursor.held())?)
+}
+
+#[test]
+fn holds_items_of_its_path_alone(rt: HostRuntime) -> Result<(), Fail> {
+    let alloc = rt.alloc();
+    for (text, path, want) in [
+        ("{\"a\":1}", "lax $.a", "0 2 1"),
+        ("{\"a\":[{\"b\":1}]}", "lax $.a[*].b", "0 4 1"),
+        ("[{\"a\":1}]", "lax $[*] ? (@.a == 1)", "2 2 1"),
+    ] {
+        let doc = read(alloc, text.as_bytes())?;
+        let tree = parse_path(alloc, path)?;
+        let found = held_by(&rt, alloc, &tree, &doc)?;
+        expect(&rt, found.as_str(), want, path);
     }
     Ok(())
 }

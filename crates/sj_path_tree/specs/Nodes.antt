@@ -1,6 +1,6 @@
 -- How many expressions, accessors, subscripts and predicates a tree has.
 use Rattle.std.specs.Prelude.{ℕ, ◌+◌}
-use Rattle.sj_path_tree.specs.Tree.{Path, Expr, Root, Var, Context, Last, Lit, Plus, Minus, Binary, Access, Step, Member, AllMembers, AllElements, Elements, Filter, Call, Double, Datetime, DatetimeBy, Sub, One, Range, Subs, Only, More, Pred, Compares, And, Or, Not, IsUnknown, Exists, StartsWith, LikeRegex, LikeRegexBy}
+use Rattle.sj_path_tree.specs.Tree.{Path, Expr, Root, Var, Context, Last, Lit, Plus, Minus, Binary, Access, Step, Member, AllMembers, AllElements, Elements, Filter, Call, Sub, One, Range, Subs, NoSubs, More, Pred, Compares, And, Or, Not, IsUnknown, Exists, StartsWith}
 
 abbrev mutual
   pub expr_nodes : Expr → ℕ
@@ -21,9 +21,6 @@ abbrev mutual
   step_nodes (Elements subs) = 1 + subs_nodes subs
   step_nodes (Filter p) = 1 + pred_nodes p
   step_nodes (Call method) = 1
-  step_nodes Double = 1
-  step_nodes Datetime = 1
-  step_nodes (DatetimeBy template) = 1
 
   pub sub_nodes : Sub → ℕ
   sub_nodes (One e) = 1 + expr_nodes e
@@ -31,7 +28,7 @@ abbrev mutual
 
   -- the list itself is not counted
   pub subs_nodes : Subs → ℕ
-  subs_nodes (Only s) = sub_nodes s
+  subs_nodes NoSubs = 0
   subs_nodes (More s others) = sub_nodes s + subs_nodes others
 
   pub pred_nodes : Pred → ℕ
@@ -42,8 +39,6 @@ abbrev mutual
   pred_nodes (IsUnknown p) = 1 + pred_nodes p
   pred_nodes (Exists e) = 1 + expr_nodes e
   pred_nodes (StartsWith e initial) = 1 + expr_nodes e
-  pred_nodes (LikeRegex e pattern) = 1 + expr_nodes e
-  pred_nodes (LikeRegexBy e pattern flags) = 1 + expr_nodes e
 
 abbrev pub nodes : Path → ℕ
 nodes p = expr_nodes p.expr

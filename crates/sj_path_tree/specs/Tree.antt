@@ -1,5 +1,4 @@
--- The trees of paths, without where their parts lie in memory. `Double`, `Datetime`, `DatetimeBy`, `LikeRegex`
--- and `LikeRegexBy` are parts of the grammar that the type of parsed paths lacks.
+-- The trees of paths, without where their parts lie in memory.
 use Rattle.std.specs.Prelude.{ℕ, List}
 use Rattle.sj_decimal.specs.declared.comparing.Compare.{Compare}
 use Rattle.sj_path_tree.specs.declared.parts.Mode.{Mode}
@@ -27,16 +26,13 @@ mutual
     Elements : (subs : Subs) → Step
     Filter : (p : Pred) → Step
     Call : (method : Method) → Step
-    Double : Step
-    Datetime : Step
-    DatetimeBy : (template : List ℕ) → Step
 
   pub data Sub : Type 0 where
     One : (e : Expr) → Sub
     Range : (from to : Expr) → Sub
 
   pub data Subs : Type 0 where
-    Only : (s : Sub) → Subs
+    NoSubs : Subs
     More : (s : Sub) (others : Subs) → Subs
 
   pub data Pred : Type 0 where
@@ -47,8 +43,6 @@ mutual
     IsUnknown : (p : Pred) → Pred
     Exists : (e : Expr) → Pred
     StartsWith : (e : Expr) (initial : Initial) → Pred
-    LikeRegex : (e : Expr) (pattern : List ℕ) → Pred
-    LikeRegexBy : (e : Expr) (pattern flags : List ℕ) → Pred
 
 pub record Path : Type 0 where
   pub mode : Mode

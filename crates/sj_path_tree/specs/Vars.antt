@@ -5,7 +5,7 @@ use Rattle.std.specs.List.{list_all, list_any}
 use Rattle.sj_path_tree.specs.declared.parts.Literal.{Literal}
 use Rattle.sj_path_tree.specs.declared.parts.Initial.{Initial}
 use Rattle.sj_path_tree.specs.declared.parts.Initial.TheVariants as initial
-use Rattle.sj_path_tree.specs.Tree.{Path, Expr, Root, Var, Context, Last, Lit, Plus, Minus, Binary, Access, Step, Member, AllMembers, AllElements, Elements, Filter, Call, Double, Datetime, DatetimeBy, Sub, One, Range, Subs, Only, More, Pred, Compares, And, Or, Not, IsUnknown, Exists, StartsWith, LikeRegex, LikeRegexBy}
+use Rattle.sj_path_tree.specs.Tree.{Path, Expr, Root, Var, Context, Last, Lit, Plus, Minus, Binary, Access, Step, Member, AllMembers, AllElements, Elements, Filter, Call, Sub, One, Range, Subs, NoSubs, More, Pred, Compares, And, Or, Not, IsUnknown, Exists, StartsWith}
 
 -- names with their values
 abbrev pub Variables : Type 0
@@ -43,16 +43,13 @@ abbrev mutual
   step_names (Elements subs) = subs_names subs
   step_names (Filter p) = pred_names p
   step_names (Call method) = []
-  step_names Double = []
-  step_names Datetime = []
-  step_names (DatetimeBy template) = []
 
   pub sub_names : Sub → List (List ℕ)
   sub_names (One e) = expr_names e
   sub_names (Range from to) = expr_names from ++ expr_names to
 
   pub subs_names : Subs → List (List ℕ)
-  subs_names (Only s) = sub_names s
+  subs_names NoSubs = []
   subs_names (More s others) = sub_names s ++ subs_names others
 
   pub pred_names : Pred → List (List ℕ)
@@ -63,8 +60,6 @@ abbrev mutual
   pred_names (IsUnknown p) = pred_names p
   pred_names (Exists e) = expr_names e
   pred_names (StartsWith e initial) = expr_names e ++ initial_names initial
-  pred_names (LikeRegex e pattern) = expr_names e
-  pred_names (LikeRegexBy e pattern flags) = expr_names e
 
 abbrev pub names : Path → List (List ℕ)
 names p = expr_names p.expr

@@ -5,7 +5,7 @@ ghost use Rattle.std.specs.Io.Iter.{u64_saturate};
 ghost use Rattle.sj_path_tree.specs.Nodes as spec;
 ghost use Rattle.sj_path_tree.specs.View.{path_of, expr_of, step_of, sub_of, subs_of, pred_of};
 
-use crate::tree::{Expr, Path, Pred, Step, Sub, Subs};
+use crate::tree::{Expr, Path, Pred, Step, Sub};
 
 #[cycle(nodes)]
 fn expr_nodes(e: &Expr) -> u64
@@ -20,6 +20,7 @@ fn expr_nodes(e: &Expr) -> u64
 }
 
 #[cycle(nodes)]
+#[tactic(auto, using(crate::proofs::Rows::elements))]
 fn step_nodes(step: &Step) -> u64
     ensures { result ≡ u64_saturate (spec.step_nodes (step_of step.now)) }
 {
@@ -41,13 +42,14 @@ fn sub_nodes(sub: &Sub) -> u64
 }
 
 #[cycle(nodes)]
-fn subs_nodes(subs: &Subs) -> u64
+fn subs_nodes(subs: &[Sub]) -> u64
     ensures { result ≡ u64_saturate (spec.subs_nodes (subs_of subs.now)) }
 {
-    match subs {
-        Subs::Only(sub) => sub_nodes(sub),
-        Subs::More(sub, others) => sub_nodes(sub).saturating_add(subs_nodes(others)),
+    let mut count = 0u64;
+    for sub in subs {
+        count = count.saturating_add(sub_nodes(sub));
     }
+    count
 }
 
 #[cycle(nodes)]

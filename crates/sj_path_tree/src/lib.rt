@@ -16,5 +16,5 @@ pub use count::nodes;
 pub use member::member_path;
 pub use parts::{Arith, Initial, Literal, Method, Mode};
 pub use sj_decimal::Compare;
-pub use tree::{Expr, Path, Pred, Step, Sub, Subs};
+pub use tree::{Expr, Path, Pred, Step, Sub};
 pub use vars::Vars;

@@ -52,8 +52,8 @@ pub enum Step {
     AllMembers,
     /// `[*]`
     AllElements,
-    /// `[list]`
-    Elements(Box<Subs>),
+    /// `[list]`, which the parser never leaves empty
+    Elements(Vec<Sub>),
     /// `?(predicate)`
     Filter(Box<Pred>),
     /// `.method()`
@@ -67,14 +67,6 @@ pub enum Sub {
     One(Expr),
     /// `from to to`
     Range(Expr, Expr),
-}
-
-/// A list of subscripts, which is never empty.
-#[cycle(tree)]
-#[derive(Drop)]
-pub enum Subs {
-    Only(Sub),
-    More(Sub, Box<Subs>),
 }
 
 /// A predicate of a filter.

@@ -7,7 +7,7 @@ ghost use Rattle.sj_path_tree.specs.View.{path_of, expr_of, step_of, sub_of, sub
 ghost use Rattle.sj_path_tree.specs.Vars as spec;
 
 use crate::parts::{Initial, Literal};
-use crate::tree::{Expr, Path, Pred, Step, Sub, Subs};
+use crate::tree::{Expr, Path, Pred, Step, Sub};
 use sj_base::{Memory, Text};
 use std::alloc::Global;
 use std::marker::Model;
@@ -89,7 +89,7 @@ fn covers_expr(vars: &Vars, e: &Expr) -> bool
 }
 
 #[cycle(covers)]
-#[tactic(auto, using(crate::proofs::Names::all_of_both))]
+#[tactic(auto, using(crate::proofs::Names::all_of_both, crate::proofs::Rows::elements))]
 fn covers_step(vars: &Vars, step: &Step) -> bool
     ensures { result ≡ list_all (spec.has_name vars.now) (spec.step_names (step_of step.now)) }
 {
@@ -113,13 +113,15 @@ fn covers_sub(vars: &Vars, sub: &Sub) -> bool
 
 #[cycle(covers)]
 #[tactic(auto, using(crate::proofs::Names::all_of_both))]
-fn covers_subs(vars: &Vars, subs: &Subs) -> bool
+fn covers_subs(vars: &Vars, subs: &[Sub]) -> bool
     ensures { result ≡ list_all (spec.has_name vars.now) (spec.subs_names (subs_of subs.now)) }
 {
-    match subs {
-        Subs::Only(sub) => covers_sub(vars, sub),
-        Subs::More(sub, others) => covers_sub(vars, sub) && covers_subs(vars, others),
+    for sub in subs {
+        if !covers_sub(vars, sub) {
+            return false;
+        }
     }
+    true
 }
 
 #[cycle(covers)]

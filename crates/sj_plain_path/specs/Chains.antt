@@ -25,7 +25,7 @@ node_value n = node (node_id n) (node_tree n)
 abbrev pub accessor : Link → t.Step
 accessor (links.Member key) = t.Member key.now
 accessor links.AllElements = t.AllElements
-accessor (links.Element index) = t.Elements (t.Only (t.One (t.Lit (Num (pos index, 0)))))
+accessor (links.Element index) = t.Elements (t.More (t.One (t.Lit (Num (pos index, 0)))) t.NoSubs)
 
 -- the accessor of members under a key, wherever that lies
 abbrev pub member_under : List ℕ → Link

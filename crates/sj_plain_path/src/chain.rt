@@ -20,7 +20,7 @@ use crate::take::{Aim, Gathered, Search};
 use sj_base::{Memory, Steps};
 use sj_decimal::Decimal;
 use sj_doc::{Kind, NodeRef};
-use sj_path_tree::{Expr, Literal, Mode, Path, Step, Sub, Subs};
+use sj_path_tree::{Expr, Literal, Mode, Path, Step, Sub};
 use std::alloc::Global;
 
 /// An accessor of a plain path.
@@ -299,6 +299,7 @@ fn collect<'d>(expr: &'d Expr, links: &mut Vec<Link<'d>>) -> Result<bool, Memory
 }
 
 // An accessor, where a plain path may have it.
+#[tactic(auto, using(sj_path_tree::proofs::Rows::elements))]
 fn link_of<'d>(step: &'d Step) -> Option<Link<'d>>
     ensures { IfSome result (λ link. accessor link ≡ step_of step.now) }
 {
@@ -311,11 +312,11 @@ fn link_of<'d>(step: &'d Step) -> Option<Link<'d>>
 }
 
 // The only subscript of a list, where it is a literal that is an index.
-fn index_in(subs: &Subs) -> Option<u32>
+fn index_in(subs: &[Sub]) -> Option<u32>
     ensures { IfSome result (λ index. accessor (Link.Element index) ≡ tree.Elements (subs_of subs.now)) }
 {
     match subs {
-        Subs::Only(Sub::One(Expr::Lit(Literal::Num(number)))) => index_of(*number),
+        [Sub::One(Expr::Lit(Literal::Num(number)))] => index_of(*number),
         _ => None,
     }
 }

@@ -1,5 +1,6 @@
 -- What a step of the reader does, against the reader of bytes.
-use Rattle.std.specs.Prelude.{◌≡◌, ℕ, ◌+◌, ◌<◌, ◌≤◌, ◌==◌, List, length, drop, Bool, false, Some, None, Result, Ok, Err, ⊤}
+use Rattle.std.specs.Prelude.{◌≡◌, ℕ, ◌+◌, ◌<◌, ◌≤◌, ◌==◌, List, length, drop, Bool, false, Some, None, Result, Ok, Err, IfOk, slice_index, ⊤}
+use Rattle.sj_base.specs.ByteClasses.{is_blank}
 use Rattle.sj_json.specs.Tree.{Tree}
 use Rattle.sj_json.specs.Building.{Part, top, elements, pairs, State, TakesValue, TakesKey, with_value}
 use Rattle.sj_json.specs.Machine as machine
@@ -81,6 +82,18 @@ Ready (machine.quoted k x) s = ⊥
 Ready (machine.escaped k x e) s = ⊥
 Ready (machine.digits a) s = ⊥
 
+-- The builder takes what the mode wants, the line has a byte at the place, and as many nodes as the builder holds fit before it.
+pub record Poised (m : machine.Mode) (b : State × List ℕ) (at : ℕ) : Type 0 where
+  pub within : (at + feeds_behind < length b.1) × (length b.1 ≤ most_held)
+  pub ready : Ready m b.0
+  pub room : node_total b.0 ≤ at
+
+-- So it is poised, and the token that begins with this byte is at the place.
+pub record Token (m : machine.Mode) (b : State × List ℕ) (at byte : ℕ) : Type 0 where
+  pub poised : Poised m b at
+  pub here : slice_index b.1 at ≡ byte
+  pub not_blank : is_blank byte ≡ false
+
 abbrev pub TakesOneKey : State → Type 0
 TakesOneKey s = TakesKey s.0
 
@@ -97,3 +110,14 @@ abbrev pub Turns : ℕ → Mode → Result ℕ ReadRefusal → machine.Mode → 
 Turns limit n (Ok to) m s text at t = Went limit m s text at n to t
 Turns limit n (Err NotJson) m s text at t = run limit m s (drop at text) ≡ None
 Turns limit n (Err Memory) m s text at t = ⊤
+
+-- a step of a builder, which leaves the line that it holds as it is
+pub record Led (limit : ℕ) (n : Mode) (r : Result ℕ ReadRefusal) (m : machine.Mode) (old : State × List ℕ) (at : ℕ) (new : State × List ℕ) : Type 0 where
+  pub turns : Turns limit n r m old.0 old.1 at new.0
+  pub line : new.1 ≡ old.1
+
+-- such a step over a value
+pub record TookValue (limit : ℕ) (n : Mode) (r : Result ℕ ReadRefusal) (m : machine.Mode) (old : State × List ℕ) (at : ℕ) (new : State × List ℕ) : Type 0 where
+  pub turns : Turns limit n r m old.0 old.1 at new.0
+  pub taken : IfOk r (λ _. HasTaken old.0 new.0)
+  pub line : new.1 ≡ old.1

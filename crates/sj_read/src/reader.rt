@@ -7,7 +7,7 @@ ghost use Rattle.sj_json.specs.Machine.{value as value_mode, key as key_mode, co
 ghost use Rattle.sj_doc.specs.Builders.{feeds_behind, EndsInFeeds, node_total};
 ghost use Rattle.sj_read.specs.Numerals.{IsPlainNumber};
 ghost use Rattle.sj_read.specs.Scans.{EndsPlain};
-ghost use Rattle.sj_read.specs.Turns.{most_held, mode_of, closes_at, Ready, StandsIn, StoodIn, HasTaken, Turns};
+ghost use Rattle.sj_read.specs.Turns.{most_held, mode_of, closes_at, Poised, Token, StandsIn, StoodIn, Led, TookValue};
 
 use crate::numeral::{Numeral, is_one_digit, judged, plain_number_end};
 use crate::scan::{begins_number, follows, key_end, number_end, string_end, token_at};
@@ -112,14 +112,9 @@ fn key_text_end(text: &str, from: usize) -> Option<usize>
 // The string that begins with the byte c at the place, where it may have escapes.
 #[inline(never)]
 fn escaped_value(builder: &mut DocBuilder, buffer: &mut Vec<u8>, at: usize, c: u8) -> Advance
-    requires within { (at + feeds_behind < length builder.old.1) × (length builder.old.1 ≤ most_held) }
-    requires here { slice_index builder.old.1 at ≡ c }
+    requires token { Token value_mode builder.old at c }
     requires quote { c ≡ 34 }
-    requires ready { Ready value_mode builder.old.0 }
-    requires room { node_total builder.old.0 ≤ at }
-    ensures turns { Turns MAX_DEPTH Mode.AfterValue result value_mode builder.old.0 builder.old.1 at builder.new.0 }
-    ensures taken { IfOk result (λ _. HasTaken builder.old.0 builder.new.0) }
-    ensures line { builder.new.1 ≡ builder.old.1 }
+    ensures { TookValue MAX_DEPTH Mode.AfterValue result value_mode builder.old at builder.new }
 {
     match unescape(builder.line(), at + 1, buffer) {
         Ok(Some(found)) => after(
@@ -134,13 +129,9 @@ fn escaped_value(builder: &mut DocBuilder, buffer: &mut Vec<u8>, at: usize, c: u
 // The same of a key.
 #[inline(never)]
 fn escaped_key(builder: &mut DocBuilder, buffer: &mut Vec<u8>, at: usize, c: u8) -> Advance
-    requires within { (at + feeds_behind < length builder.old.1) × (length builder.old.1 ≤ most_held) }
-    requires here { slice_index builder.old.1 at ≡ c }
+    requires token { Token key_mode builder.old at c }
     requires quote { c ≡ 34 }
-    requires ready { Ready key_mode builder.old.0 }
-    requires room { node_total builder.old.0 ≤ at }
-    ensures turns { Turns MAX_DEPTH Mode.Colon result key_mode builder.old.0 builder.old.1 at builder.new.0 }
-    ensures line { builder.new.1 ≡ builder.old.1 }
+    ensures { Led MAX_DEPTH Mode.Colon result key_mode builder.old at builder.new }
 {
     match unescape(builder.line(), at + 1, buffer) {
         Ok(Some(found)) => after(
@@ -156,14 +147,9 @@ fn escaped_key(builder: &mut DocBuilder, buffer: &mut Vec<u8>, at: usize, c: u8)
 // of the other ways.
 #[inline(always)]
 fn rare_value(builder: &mut DocBuilder, buffer: &mut Vec<u8>, at: usize, c: u8) -> Advance
-    requires within { (at + feeds_behind < length builder.old.1) × (length builder.old.1 ≤ most_held) }
-    requires here { slice_index builder.old.1 at ≡ c }
+    requires token { Token value_mode builder.old at c }
     requires quote { c ≡ 34 }
-    requires ready { Ready value_mode builder.old.0 }
-    requires room { node_total builder.old.0 ≤ at }
-    ensures turns { Turns MAX_DEPTH Mode.AfterValue result value_mode builder.old.0 builder.old.1 at builder.new.0 }
-    ensures taken { IfOk result (λ _. HasTaken builder.old.0 builder.new.0) }
-    ensures line { builder.new.1 ≡ builder.old.1 }
+    ensures { TookValue MAX_DEPTH Mode.AfterValue result value_mode builder.old at builder.new }
 {
     anew(escaped_value(builder, buffer, at, c))
 }
@@ -172,13 +158,9 @@ fn rare_value(builder: &mut DocBuilder, buffer: &mut Vec<u8>, at: usize, c: u8) 
 // of the other ways.
 #[inline(always)]
 fn rare_key(builder: &mut DocBuilder, buffer: &mut Vec<u8>, at: usize, c: u8) -> Advance
-    requires within { (at + feeds_behind < length builder.old.1) × (length builder.old.1 ≤ most_held) }
-    requires here { slice_index builder.old.1 at ≡ c }
+    requires token { Token key_mode builder.old at c }
     requires quote { c ≡ 34 }
-    requires ready { Ready key_mode builder.old.0 }
-    requires room { node_total builder.old.0 ≤ at }
-    ensures turns { Turns MAX_DEPTH Mode.Colon result key_mode builder.old.0 builder.old.1 at builder.new.0 }
-    ensures line { builder.new.1 ≡ builder.old.1 }
+    ensures { Led MAX_DEPTH Mode.Colon result key_mode builder.old at builder.new }
 {
     anew(escaped_key(builder, buffer, at, c))
 }
@@ -186,14 +168,9 @@ fn rare_key(builder: &mut DocBuilder, buffer: &mut Vec<u8>, at: usize, c: u8) ->
 // The number that begins with the byte c at the place, with an exponent or without.
 #[inline(never)]
 fn any_number(builder: &mut DocBuilder, at: usize, c: u8) -> Advance
-    requires within { (at + feeds_behind < length builder.old.1) × (length builder.old.1 ≤ most_held) }
-    requires here { slice_index builder.old.1 at ≡ c }
+    requires token { Token value_mode builder.old at c }
     requires begins { beginning_byte c ≡ true }
-    requires ready { Ready value_mode builder.old.0 }
-    requires room { node_total builder.old.0 ≤ at }
-    ensures turns { Turns MAX_DEPTH Mode.AfterValue result value_mode builder.old.0 builder.old.1 at builder.new.0 }
-    ensures taken { IfOk result (λ _. HasTaken builder.old.0 builder.new.0) }
-    ensures line { builder.new.1 ≡ builder.old.1 }
+    ensures { TookValue MAX_DEPTH Mode.AfterValue result value_mode builder.old at builder.new }
 {
     let end = number_end(bytes(builder), at + 1);
     match judged(&bytes(builder)[at..end]) {
@@ -206,14 +183,9 @@ fn any_number(builder: &mut DocBuilder, at: usize, c: u8) -> Advance
 // `any_number` in the same way.
 #[inline(always)]
 fn rare_number(builder: &mut DocBuilder, at: usize, c: u8) -> Advance
-    requires within { (at + feeds_behind < length builder.old.1) × (length builder.old.1 ≤ most_held) }
-    requires here { slice_index builder.old.1 at ≡ c }
+    requires token { Token value_mode builder.old at c }
     requires begins { beginning_byte c ≡ true }
-    requires ready { Ready value_mode builder.old.0 }
-    requires room { node_total builder.old.0 ≤ at }
-    ensures turns { Turns MAX_DEPTH Mode.AfterValue result value_mode builder.old.0 builder.old.1 at builder.new.0 }
-    ensures taken { IfOk result (λ _. HasTaken builder.old.0 builder.new.0) }
-    ensures line { builder.new.1 ≡ builder.old.1 }
+    ensures { TookValue MAX_DEPTH Mode.AfterValue result value_mode builder.old at builder.new }
 {
     anew(any_number(builder, at, c))
 }
@@ -221,15 +193,10 @@ fn rare_number(builder: &mut DocBuilder, at: usize, c: u8) -> Advance
 // The number from the place up to the end, which begins with the byte c.
 #[inline(always)]
 fn plain_number(builder: &mut DocBuilder, at: usize, c: u8, end: usize) -> Advance
-    requires within { (at + feeds_behind < length builder.old.1) × (length builder.old.1 ≤ most_held) }
-    requires here { slice_index builder.old.1 at ≡ c }
+    requires token { Token value_mode builder.old at c }
     requires plain { IsPlainNumber builder.old.1 at c end }
     requires feeds { EndsInFeeds builder.old.1 }
-    requires ready { Ready value_mode builder.old.0 }
-    requires room { node_total builder.old.0 ≤ at }
-    ensures turns { Turns MAX_DEPTH Mode.AfterValue result value_mode builder.old.0 builder.old.1 at builder.new.0 }
-    ensures taken { IfOk result (λ _. HasTaken builder.old.0 builder.new.0) }
-    ensures line { builder.new.1 ≡ builder.old.1 }
+    ensures { TookValue MAX_DEPTH Mode.AfterValue result value_mode builder.old at builder.new }
 {
     after(builder.number_at(at, end), end)
 }
@@ -237,16 +204,10 @@ fn plain_number(builder: &mut DocBuilder, at: usize, c: u8, end: usize) -> Advan
 // The value that begins with the byte c at the place, where that opens no container.
 #[inline(always)]
 fn scalar(builder: &mut DocBuilder, buffer: &mut Vec<u8>, at: usize, c: u8) -> Advance
-    requires within { (at + feeds_behind < length builder.old.1) × (length builder.old.1 ≤ most_held) }
-    requires here { slice_index builder.old.1 at ≡ c }
-    requires not_blank { blank_byte c ≡ false }
+    requires token { Token value_mode builder.old at c }
     requires no_array { c ≢ 91 }
     requires no_object { c ≢ 123 }
-    requires ready { Ready value_mode builder.old.0 }
-    requires room { node_total builder.old.0 ≤ at }
-    ensures turns { Turns MAX_DEPTH Mode.AfterValue result value_mode builder.old.0 builder.old.1 at builder.new.0 }
-    ensures taken { IfOk result (λ _. HasTaken builder.old.0 builder.new.0) }
-    ensures line { builder.new.1 ≡ builder.old.1 }
+    ensures { TookValue MAX_DEPTH Mode.AfterValue result value_mode builder.old at builder.new }
 {
     match c {
         b'"' => match text_end(builder.line(), at + 1) {
@@ -297,14 +258,9 @@ fn behind_scalar(
     c: u8,
     place: Place,
 ) -> Advance
-    requires within { (at + feeds_behind < length builder.old.1) × (length builder.old.1 ≤ most_held) }
-    requires here { slice_index builder.old.1 at ≡ c }
-    requires not_blank { blank_byte c ≡ false }
-    requires ready { Ready after_mode builder.old.0 }
+    requires token { Token after_mode builder.old at c }
     requires stood { StoodIn place builder.old.0 }
-    requires room { node_total builder.old.0 ≤ at }
-    ensures turns { Turns MAX_DEPTH mode.new result after_mode builder.old.0 builder.old.1 at builder.new.0 }
-    ensures line { builder.new.1 ≡ builder.old.1 }
+    ensures { Led MAX_DEPTH mode.new result after_mode builder.old at builder.new }
 {
     match place {
         Place::Member if c == b',' => {
@@ -326,16 +282,11 @@ fn scalar_and_separator(
     c: u8,
     place: Place,
 ) -> Advance
-    requires within { (at + feeds_behind < length builder.old.1) × (length builder.old.1 ≤ most_held) }
-    requires here { slice_index builder.old.1 at ≡ c }
-    requires not_blank { blank_byte c ≡ false }
+    requires token { Token value_mode builder.old at c }
     requires no_array { c ≢ 91 }
     requires no_object { c ≢ 123 }
-    requires ready { Ready value_mode builder.old.0 }
     requires stands { StandsIn place builder.old.0 }
-    requires room { node_total builder.old.0 ≤ at }
-    ensures turns { Turns MAX_DEPTH mode.new result value_mode builder.old.0 builder.old.1 at builder.new.0 }
-    ensures line { builder.new.1 ≡ builder.old.1 }
+    ensures { Led MAX_DEPTH mode.new result value_mode builder.old at builder.new }
 {
     match scalar(builder, buffer, at, c) {
         Ok(end) => match token_at(bytes(builder), end) {
@@ -360,14 +311,9 @@ fn value(
     c: u8,
     place: Place,
 ) -> Advance
-    requires within { (at + feeds_behind < length builder.old.1) × (length builder.old.1 ≤ most_held) }
-    requires here { slice_index builder.old.1 at ≡ c }
-    requires not_blank { blank_byte c ≡ false }
-    requires ready { Ready value_mode builder.old.0 }
+    requires token { Token value_mode builder.old at c }
     requires stands { StandsIn place builder.old.0 }
-    requires room { node_total builder.old.0 ≤ at }
-    ensures turns { Turns MAX_DEPTH mode.new result value_mode builder.old.0 builder.old.1 at builder.new.0 }
-    ensures line { builder.new.1 ≡ builder.old.1 }
+    ensures { Led MAX_DEPTH mode.new result value_mode builder.old at builder.new }
 {
     match c {
         b'[' => {
@@ -391,13 +337,8 @@ fn value(
 // The key that begins with the byte c at the place.
 #[inline(always)]
 fn quoted_key(builder: &mut DocBuilder, buffer: &mut Vec<u8>, at: usize, c: u8) -> Advance
-    requires within { (at + feeds_behind < length builder.old.1) × (length builder.old.1 ≤ most_held) }
-    requires here { slice_index builder.old.1 at ≡ c }
-    requires not_blank { blank_byte c ≡ false }
-    requires ready { Ready key_mode builder.old.0 }
-    requires room { node_total builder.old.0 ≤ at }
-    ensures turns { Turns MAX_DEPTH Mode.Colon result key_mode builder.old.0 builder.old.1 at builder.new.0 }
-    ensures line { builder.new.1 ≡ builder.old.1 }
+    requires { Token key_mode builder.old at c }
+    ensures { Led MAX_DEPTH Mode.Colon result key_mode builder.old at builder.new }
 {
     if c != b'"' {
         return Err(ReadRefusal::NotJson);
@@ -420,12 +361,8 @@ fn colon_and_value(
     mode: &mut Mode,
     at: usize,
 ) -> Advance
-    requires within { (at + feeds_behind < length builder.old.1) × (length builder.old.1 ≤ most_held) }
-    requires here { slice_index builder.old.1 at ≡ 58 }
-    requires ready { Ready colon_mode builder.old.0 }
-    requires room { node_total builder.old.0 ≤ at }
-    ensures turns { Turns MAX_DEPTH mode.new result colon_mode builder.old.0 builder.old.1 at builder.new.0 }
-    ensures line { builder.new.1 ≡ builder.old.1 }
+    requires { Token colon_mode builder.old at 58 }
+    ensures { Led MAX_DEPTH mode.new result colon_mode builder.old at builder.new }
 {
     if let Some(c) = token_at(bytes(builder), at + 1) {
         return value(builder, buffer, mode, at + 1, c, Place::Member);
@@ -444,13 +381,8 @@ fn member(
     at: usize,
     c: u8,
 ) -> Advance
-    requires within { (at + feeds_behind < length builder.old.1) × (length builder.old.1 ≤ most_held) }
-    requires here { slice_index builder.old.1 at ≡ c }
-    requires not_blank { blank_byte c ≡ false }
-    requires ready { Ready key_mode builder.old.0 }
-    requires room { node_total builder.old.0 ≤ at }
-    ensures turns { Turns MAX_DEPTH mode.new result key_mode builder.old.0 builder.old.1 at builder.new.0 }
-    ensures line { builder.new.1 ≡ builder.old.1 }
+    requires { Token key_mode builder.old at c }
+    ensures { Led MAX_DEPTH mode.new result key_mode builder.old at builder.new }
 {
     match quoted_key(builder, buffer, at, c) {
         Ok(end) => match token_at(bytes(builder), end) {
@@ -476,13 +408,8 @@ fn members(
     at: usize,
     c: u8,
 ) -> Advance
-    requires within { (at + feeds_behind < length builder.old.1) × (length builder.old.1 ≤ most_held) }
-    requires here { slice_index builder.old.1 at ≡ c }
-    requires not_blank { blank_byte c ≡ false }
-    requires ready { Ready key_mode builder.old.0 }
-    requires room { node_total builder.old.0 ≤ at }
-    ensures turns { Turns MAX_DEPTH mode.new result key_mode builder.old.0 builder.old.1 at builder.new.0 }
-    ensures line { builder.new.1 ≡ builder.old.1 }
+    requires { Token key_mode builder.old at c }
+    ensures { Led MAX_DEPTH mode.new result key_mode builder.old at builder.new }
 {
     let mut from = at;
     let mut first = c;
@@ -521,13 +448,8 @@ fn elements(
     at: usize,
     c: u8,
 ) -> Advance
-    requires within { (at + feeds_behind < length builder.old.1) × (length builder.old.1 ≤ most_held) }
-    requires here { slice_index builder.old.1 at ≡ c }
-    requires not_blank { blank_byte c ≡ false }
-    requires ready { Ready value_mode builder.old.0 }
-    requires room { node_total builder.old.0 ≤ at }
-    ensures turns { Turns MAX_DEPTH mode.new result value_mode builder.old.0 builder.old.1 at builder.new.0 }
-    ensures line { builder.new.1 ≡ builder.old.1 }
+    requires { Token value_mode builder.old at c }
+    ensures { Led MAX_DEPTH mode.new result value_mode builder.old at builder.new }
 {
     let mut from = at;
     let mut first = c;
@@ -552,13 +474,8 @@ fn elements(
 // A comma or a closing bracket.
 #[inline(always)]
 fn separator(builder: &mut DocBuilder, mode: &mut Mode, at: usize, c: u8) -> Advance
-    requires within { (at + feeds_behind < length builder.old.1) × (length builder.old.1 ≤ most_held) }
-    requires here { slice_index builder.old.1 at ≡ c }
-    requires not_blank { blank_byte c ≡ false }
-    requires ready { Ready after_mode builder.old.0 }
-    requires room { node_total builder.old.0 ≤ at }
-    ensures turns { Turns MAX_DEPTH mode.new result after_mode builder.old.0 builder.old.1 at builder.new.0 }
-    ensures line { builder.new.1 ≡ builder.old.1 }
+    requires { Token after_mode builder.old at c }
+    ensures { Led MAX_DEPTH mode.new result after_mode builder.old at builder.new }
 {
     match builder.wants() {
         Want::ValueOrClose => {
@@ -592,13 +509,8 @@ fn separator(builder: &mut DocBuilder, mode: &mut Mode, at: usize, c: u8) -> Adv
 // Closing brackets one right behind another, and a comma if one stands right behind them.
 #[inline(always)]
 fn separators(builder: &mut DocBuilder, mode: &mut Mode, at: usize, c: u8) -> Advance
-    requires within { (at + feeds_behind < length builder.old.1) × (length builder.old.1 ≤ most_held) }
-    requires here { slice_index builder.old.1 at ≡ c }
-    requires not_blank { blank_byte c ≡ false }
-    requires ready { Ready after_mode builder.old.0 }
-    requires room { node_total builder.old.0 ≤ at }
-    ensures turns { Turns MAX_DEPTH mode.new result after_mode builder.old.0 builder.old.1 at builder.new.0 }
-    ensures line { builder.new.1 ≡ builder.old.1 }
+    requires { Token after_mode builder.old at c }
+    ensures { Led MAX_DEPTH mode.new result after_mode builder.old at builder.new }
 {
     let mut from = at;
     let mut first = c;
@@ -640,11 +552,8 @@ pub(crate) fn turn(
     mode: &mut Mode,
     at: usize,
 ) -> Advance
-    requires within { (at + feeds_behind < length builder.old.1) × (length builder.old.1 ≤ most_held) }
-    requires ready { Ready (mode_of mode.old) builder.old.0 }
-    requires room { node_total builder.old.0 ≤ at }
-    ensures turns { Turns MAX_DEPTH mode.new result (mode_of mode.old) builder.old.0 builder.old.1 at builder.new.0 }
-    ensures line { builder.new.1 ≡ builder.old.1 }
+    requires poised { Poised (mode_of mode.old) builder.old at }
+    ensures { Led MAX_DEPTH mode.new result (mode_of mode.old) builder.old at builder.new }
 {
     let c = bytes(builder)[at];
     if is_blank(c) {

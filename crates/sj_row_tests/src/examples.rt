@@ -1,7 +1,6 @@
 //! The examples that the documentation of `sj_path` and `sj_func` names: query functions on `{"a":[1,2],"b":"x"}`.
 
-use super::cases::expect;
-use sj_base::Steps;
+use super::cases::{Counts, expect};
 use sj_cursor::{Cursor, Inquiry};
 use sj_doc::Doc;
 use sj_func::{Context, Outcome, is_json, json_exists, json_query, json_value};
@@ -32,8 +31,8 @@ fn shown(outcome: &Outcome) -> &str {
 }
 
 /// JSON_EXISTS, JSON_VALUE with ERROR ON ERROR and JSON_QUERY with a wrapper, with a space between them.
-fn outcomes(alloc: Global, path: &Path, doc: &Doc) -> Result<String, Fail> {
-    let (vars, mut steps) = (Vars::new(alloc), Steps::new());
+fn outcomes(rt: &impl Counts, alloc: Global, path: &Path, doc: &Doc) -> Result<String, Fail> {
+    let (vars, mut steps) = (Vars::new(alloc), rt.steps());
     let root = Item::Node(doc.root());
     let mut inquiry = Inquiry::new(alloc, path, &vars)?;
     let context = Context::Item(root);
@@ -55,10 +54,20 @@ fn outcomes(alloc: Global, path: &Path, doc: &Doc) -> Result<String, Fail> {
     Ok(format!(in alloc; "{} {} {}", shown(&exists), shown(&value), shown(&query))?)
 }
 
-fn expect_outcomes(rt: &impl Abort, alloc: Global, path: &str, want: &str) -> Result<(), Fail> {
+fn expect_outcomes(
+    rt: &(impl Abort + Counts),
+    alloc: Global,
+    path: &str,
+    want: &str,
+) -> Result<(), Fail> {
     let doc = read(alloc, b"{\"a\":[1,2],\"b\":\"x\"}")?;
     let path_tree = parse_path(alloc, path)?;
-    expect(rt, outcomes(alloc, &path_tree, &doc)?.as_str(), want, path);
+    expect(
+        rt,
+        outcomes(rt, alloc, &path_tree, &doc)?.as_str(),
+        want,
+        path,
+    );
     Ok(())
 }
 

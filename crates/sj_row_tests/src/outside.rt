@@ -35,7 +35,7 @@ fn texts_and_bytes_are_what_was_put_in(rt: HostRuntime) -> Result<(), Fail> {
 
 #[test]
 fn steps_are_counted(rt: HostRuntime) {
-    let mut steps = Steps::new();
+    let mut steps = Steps::new(&rt);
     steps.tick();
     steps.tick();
     expect_count(&rt, steps.count(), 2);

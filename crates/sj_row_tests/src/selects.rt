@@ -1,17 +1,19 @@
-// A row list goes from line to line, and its end comes again. What statements give for lines is in the tables of
-// `checks/rows/`.
-ghost use Rattle.std.specs.Prelude.{IfOk};
+// A row list goes from line to line, and its end comes again. The values of a row are those that are printed. What
+// statements give for lines is in the tables of `checks/rows/`.
+ghost use Rattle.std.specs.Prelude.{All, IfOk};
+ghost use Rattle.sj_value.specs.Values.{IsPrintable};
 ghost use Rattle.sj_bound.specs.Sound.{IsSound};
 ghost use Rattle.sj_bound.specs.View.{bound_of};
 
-use super::cases::expect;
-use sj_base::{Bytes, Steps};
+use super::cases::{Counts, expect};
+use sj_base::Bytes;
 use sj_bind::{BindRefusal, Bound, bind};
 use sj_doc::Doc;
 use sj_read::read;
-use sj_select::{RowsOf, Turn};
-use sj_select_list::LineDoc;
+use sj_rows::fields_text;
+use sj_select::{LineDoc, RowsOf, Turn};
 use sj_sql::{NextStatement, Refused, next_statement};
+use sj_value::SqlValue;
 use std::alloc::Global;
 use std::process::Abort;
 use std::test::Fail;
@@ -32,9 +34,46 @@ fn bound(alloc: Global, text: &str) -> Result<Bound, Fail>
     }
 }
 
+/// The text of the row with these values.
+fn text_of(alloc: Global, values: &[SqlValue]) -> Result<Bytes, Fail>
+    requires { All IsPrintable values.now }
+{
+    let mut out = Bytes::new(alloc);
+    out.push(b"3\t2\tR")?;
+    fields_text(&mut out, values)?;
+    out.push(b"\n")?;
+    Ok(out)
+}
+
+/// The values of the rows that are left are those that other rows print, with the same end, and in as many steps. There
+/// are none at the end.
+fn expect_values(
+    rt: &(impl Abort + Counts),
+    alloc: Global,
+    printed: &mut RowsOf<'_>,
+    rows: &mut RowsOf<'_>,
+) -> Result<(), Fail> {
+    let (mut printing, mut finding) = (rt.steps(), rt.steps());
+    let mut values = Vec::new(alloc);
+    for _ in 0..100 {
+        let mut out = Bytes::new(alloc);
+        let turn = printed.print(&mut out, 3, 2, &mut printing)?;
+        let found = rows.next(&mut values, &mut finding)?;
+        let text = text_of(alloc, &values)?;
+        assert!(rt; found == turn && printing.count() == finding.count());
+        if turn != Turn::Row {
+            assert!(rt; values.is_empty());
+            assert!(rt; rows.next(&mut values, &mut finding)? == turn);
+            return Ok(());
+        }
+        assert!(rt; text.as_slice() == out.as_slice());
+    }
+    Err("too many rows")?
+}
+
 /// How many rows are left and the end behind them. The end comes again, with no text and without a step.
-fn shown(rt: &impl Abort, alloc: Global, rows: &mut RowsOf<'_>) -> Result<String, Fail> {
-    let mut steps = Steps::new();
+fn shown(rt: &(impl Abort + Counts), alloc: Global, rows: &mut RowsOf<'_>) -> Result<String, Fail> {
+    let mut steps = rt.steps();
     for count in 0..100 {
         let mut out = Bytes::new(alloc);
         let turn = rows.print(&mut out, 3, 2, &mut steps)?;
@@ -63,7 +102,7 @@ const STATEMENTS: &str =
 
 /// From new rows, and from rows that have begun on another line.
 fn expect_lines<'d>(
-    rt: &impl Abort,
+    rt: &(impl Abort + Counts),
     alloc: Global,
     bound: &'d Bound,
     docs: (&'d Doc, &'d Doc),
@@ -73,6 +112,7 @@ fn expect_lines<'d>(
 {
     let (first, second) = docs;
     let mut rows = RowsOf::new(alloc, bound, LineDoc::NotJson)?;
+    let mut others = RowsOf::new(alloc, bound, LineDoc::Json(second))?;
     let lines = [
         LineDoc::Json(first),
         LineDoc::Json(second),
@@ -81,15 +121,18 @@ fn expect_lines<'d>(
     for _ in 0..2 {
         for (line, want) in lines.iter().zip(wants.split(" ; ")) {
             rows.rewind(LineDoc::Json(first));
-            rows.print(&mut Bytes::new(alloc), 3, 2, &mut Steps::new())?;
+            rows.print(&mut Bytes::new(alloc), 3, 2, &mut rt.steps())?;
             rows.rewind(*line);
             expect(rt, shown(rt, alloc, &mut rows)?.as_str(), want, wants);
+            rows.rewind(*line);
+            others.rewind(*line);
+            expect_values(rt, alloc, &mut rows, &mut others)?;
         }
     }
     Ok(())
 }
 
-fn expect_case(rt: &impl Abort, alloc: Global, case: &str) -> Result<(), Fail> {
+fn expect_case(rt: &(impl Abort + Counts), alloc: Global, case: &str) -> Result<(), Fail> {
     let (given, wants) = case.split_once(" => ").ok_or("no arrow")?;
     let (first, given) = given.split_once(" ; ").ok_or("no document")?;
     let (second, statement) = given.split_once(" ; ").ok_or("no second document")?;

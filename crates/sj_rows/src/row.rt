@@ -3,7 +3,7 @@ ghost use Rattle.std.specs.Prelude.{◌≡◌, ◌≤◌, ◌+◌, ◌-◌, ◌�
 ghost use Rattle.std.specs.List.{flat_map};
 ghost use Rattle.sj_text.specs.Prefixes.{AppendsPrefix};
 ghost use Rattle.sj_value.specs.Values.{IsPrintable};
-ghost use Rattle.sj_rows.specs.RowText.{row_front, tabbed, error_bytes};
+ghost use Rattle.sj_rows.specs.RowText.{row_front, tabbed, row_bytes, error_bytes};
 
 use crate::field::tabbed_text;
 use itoa::write_digits;
@@ -188,4 +188,25 @@ pub fn fields_text(out: &mut Bytes, fields: &[SqlValue]) -> Result<(), Memory>
         tabbed_text(out, value)?;
     }
     Ok(())
+}
+
+/// Appends a row: the line's number, TAB, the statement's number, TAB, `R`, then TAB and a field for each value, and LF.
+///
+/// The program prints a row by the same three calls, with what it finds between them.
+///
+/// # Errors
+/// `Memory` where memory ran out. `out` has then grown by a first part of the row.
+pub fn row_text(
+    out: &mut Bytes,
+    line: u64,
+    statement: u32,
+    fields: &[SqlValue],
+) -> Result<(), Memory>
+    requires { All IsPrintable fields.now }
+    ensures ok { OnOk result (out.new ≡ out.old ++ row_bytes line statement fields.now) }
+    ensures err { OnErr result (AppendsPrefix out.old (row_bytes line statement fields.now) out.new) }
+{
+    RowHead::new().begin(out, line, statement)?;
+    fields_text(out, fields)?;
+    end_row(out)
 }

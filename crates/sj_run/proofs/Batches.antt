@@ -1,6 +1,7 @@
 -- What is asked of lines that are read together.
 use Rattle.std.proofs.Common.{◌≡◌, ◌≢◌, ◌↔◌, IsTrue, ℕ, ◌+◌, ◌<◌, List, [], ◌∷◌, ◌++◌, length, take, drop, set, map, get_or, Bool, true, false, Option, None, Some, refl, sym, ◌∙◌, ap, arith, append_assoc, length-append}
 use Rattle.std.proofs.lemmas.List.{append-nil, map-append, take_more, take_at, drop_more, drop-map}
+use Rattle.std.proofs.lemmas.List.Concat.{flat_map-append}
 use Rattle.std.proofs.Math.Seq.{map-set_same}
 use Rattle.std.specs.Bool.{one_answer}
 use Rattle.std.specs.List.{list_all}
@@ -16,7 +17,8 @@ use Rattle.sj_json.specs.UniqueKeys.{has_unique_keys}
 use Rattle.sj_json.proofs.Distinct.{unique_from, unique_to}
 use Rattle.sj_select_list.specs.Line.{Line}
 use Rattle.sj_select.specs.Seen.{Seen}
-use Rattle.sj_page.specs.Pages.{nothing, followed_by}
+use Rattle.sj_page.specs.Pages.{Print, nothing, followed_by}
+use Rattle.sj_page.proofs.Printing.{same_print}
 use Rattle.sj_file.specs.declared.job.Keys.{Keys}
 use Rattle.sj_file.specs.declared.job.Keys.TheVariants.{Any, Unique}
 use Rattle.sj_file.specs.Job.{Job}
@@ -24,9 +26,24 @@ use Rattle.sj_run.specs.declared.batch.ReadLine.{ReadLine}
 use Rattle.sj_run.specs.declared.batch.Reading.TheVariants.{Repeated, Json}
 use Rattle.sj_run.specs.declared.batch.Behind.{Behind}
 use Rattle.sj_run.specs.declared.batch.Behind.TheVariants.{Nothing, Perhaps}
-use Rattle.sj_run.specs.Output.{line_as, Asked, asked_from, tree_asked, line_asked, lines_asked, prints, cost}
+use Rattle.sj_stream.specs.LineJob.{lines_print, lines_cost}
+use Rattle.sj_run.specs.Output.{line_as, Asked, asked_from, tree_asked, line_asked, text_of, texts, row_count, error_count, rows_given, rows_in, errors_in, total, prints, cost_given, cost, line_job}
 use Rattle.sj_run.specs.Batch.{reading, read_line, read_lines, ReadFront, ReadOn, line_read, batch_asked, bounds_in}
-use Rattle.sj_run.proofs.Streaming.{lines_asked-append, prints-append, cost-append}
+use Rattle.sj_stream.proofs.Streaming.{lines_print-append, lines_cost-append}
+
+-- ---- what is asked prints, and what it costs
+
+total-append : (f : Asked → ℕ) (xs ys : List Asked) → total f (xs ++ ys) ≡ total f xs + total f ys
+total-append f [] ys = omega arith
+total-append f (x ∷ xs) ys = omega (arith, total-append f xs ys)
+
+prints-append : (xs ys : List Asked) → prints (xs ++ ys) ≡ followed_by (prints xs) (prints ys)
+prints-append xs ys =
+    same_print (texts (xs ++ ys)) (texts xs ++ texts ys) (rows_in (xs ++ ys)) (rows_in xs + rows_in ys) (errors_in (xs ++ ys)) (errors_in xs + errors_in ys)
+    (flat_map-append text_of xs ys) (total-append (λ (a : Asked). row_count (rows_given a.bound a.seen)) xs ys) (total-append (λ (a : Asked). error_count (rows_given a.bound a.seen)) xs ys)
+
+cost-append : (xs ys : List Asked) → cost (xs ++ ys) ≡ cost xs + cost ys
+cost-append xs ys = total-append (λ (a : Asked). cost_given a.bound a.seen) xs ys
 
 -- ---- what is asked of lines that were read is what is asked of the lines
 
@@ -58,11 +75,18 @@ line_asked_is : (K : Job) (n : ℕ) (line : Option (List ℕ)) → batch_asked K
 line_asked_is K n None = append-nil _ ∙ ap (λ (l : Line). asked_from 1 K.statements n l) (same_line K.keys None)
 line_asked_is K n (Some line) = by_blank K n line (list_all is_blank_byte line) refl
 
-read_asked : (K : Job) (n : ℕ) (lines : List (Option (List ℕ))) → batch_asked K.statements (read_lines K.keys n lines) ≡ lines_asked K n lines
-read_asked K n [] = refl
-read_asked K n (l ∷ ls) =
-    batch_asked-append K.statements (read_line K.keys n l) (read_lines K.keys (n + 1) ls) ∙ ap (λ (t : List Asked). t ++ batch_asked K.statements (read_lines K.keys (n + 1) ls)) (line_asked_is K n l)
-    ∙ ap (λ (t : List Asked). line_asked K n l ++ t) (read_asked K (n + 1) ls)
+-- what is printed for lines that were read
+read_print : (K : Job) (n : ℕ) (lines : List (Option (List ℕ))) → prints (batch_asked K.statements (read_lines K.keys n lines)) ≡ lines_print (line_job K) n lines
+read_print K n [] = refl
+read_print K n (l ∷ ls) =
+    ap prints (batch_asked-append K.statements (read_line K.keys n l) (read_lines K.keys (n + 1) ls) ∙ ap (λ (t : List Asked). t ++ batch_asked K.statements (read_lines K.keys (n + 1) ls)) (line_asked_is K n l))
+    ∙ prints-append (line_asked K n l) (batch_asked K.statements (read_lines K.keys (n + 1) ls)) ∙ ap (followed_by (prints (line_asked K n l))) (read_print K (n + 1) ls)
+
+read_cost : (K : Job) (n : ℕ) (lines : List (Option (List ℕ))) → cost (batch_asked K.statements (read_lines K.keys n lines)) ≡ lines_cost (line_job K) n lines
+read_cost K n [] = refl
+read_cost K n (l ∷ ls) =
+    ap cost (batch_asked-append K.statements (read_line K.keys n l) (read_lines K.keys (n + 1) ls) ∙ ap (λ (t : List Asked). t ++ batch_asked K.statements (read_lines K.keys (n + 1) ls)) (line_asked_is K n l))
+    ∙ cost-append (line_asked K n l) (batch_asked K.statements (read_lines K.keys (n + 1) ls)) ∙ ap (λ (k : ℕ). cost (line_asked K n l) + k) (read_cost K (n + 1) ls)
 
 read_lines-append : (keys : Keys) (n : ℕ) (ls ms : List (Option (List ℕ))) → read_lines keys n (ls ++ ms) ≡ read_lines keys n ls ++ read_lines keys (n + length ls) ms
 read_lines-append keys n [] ms = ap (λ (k : ℕ). read_lines keys k ms) (omega arith)
@@ -130,26 +154,26 @@ read_less keys old new b r = less r.read.front r.read.split r.behind_is
 
 -- ---- the lines that wait
 
--- what is asked of the lines that were read goes before what is asked of those that wait
-asked_more : (K : Job) (old new : HeldLines) (b b' : List ReadLine) (behind : Behind) → ReadOn K.keys old new b behind → b' ≡ b
-    → lines_asked K (old.given + 1) old.waiting ≡ batch_asked K.statements b' ++ lines_asked K (new.given + 1) new.waiting
-asked_more K old new b b' behind r these =
-    let number : new.given + 1 ≡ old.given + 1 + length r.read.front = omega (arith, r.read.given) in
-    ap (lines_asked K (old.given + 1)) r.read.split ∙ lines_asked-append K (old.given + 1) r.read.front new.waiting
-    ∙ ap (λ (k : ℕ). lines_asked K (old.given + 1) r.read.front ++ lines_asked K k new.waiting) (sym number)
-    ∙ ap (λ (t : List Asked). t ++ lines_asked K (new.given + 1) new.waiting) (sym (ap (batch_asked K.statements) (these ∙ r.read.batch_is) ∙ read_asked K (old.given + 1) r.read.front))
-
+-- what is printed for the lines that were read goes before what is printed for those that wait
 pub waiting_prints : (K : Job) (old new : HeldLines) (b b' : List ReadLine) (behind : Behind) → ReadOn K.keys old new b behind → b' ≡ b
-    → prints (lines_asked K (old.given + 1) old.waiting) ≡ followed_by (prints (batch_asked K.statements b')) (prints (lines_asked K (new.given + 1) new.waiting))
-waiting_prints K old new b b' behind r these = ap prints (asked_more K old new b b' behind r these) ∙ prints-append (batch_asked K.statements b') (lines_asked K (new.given + 1) new.waiting)
+    → lines_print (line_job K) (old.given + 1) old.waiting ≡ followed_by (prints (batch_asked K.statements b')) (lines_print (line_job K) (new.given + 1) new.waiting)
+waiting_prints K old new b b' behind r these =
+    let number : new.given + 1 ≡ old.given + 1 + length r.read.front = omega (arith, r.read.given) in
+    ap (lines_print (line_job K) (old.given + 1)) r.read.split ∙ lines_print-append (line_job K) (old.given + 1) r.read.front new.waiting
+    ∙ ap (λ (k : ℕ). followed_by (lines_print (line_job K) (old.given + 1) r.read.front) (lines_print (line_job K) k new.waiting)) (sym number)
+    ∙ ap (λ (p : Print). followed_by p (lines_print (line_job K) (new.given + 1) new.waiting)) (sym (ap (λ (l : List ReadLine). prints (batch_asked K.statements l)) (these ∙ r.read.batch_is) ∙ read_print K (old.given + 1) r.read.front))
 
 -- nothing where no line waits
-pub none_waits : (K : Job) (old new : HeldLines) (b : List ReadLine) → ReadOn K.keys old new b Nothing → prints (lines_asked K (new.given + 1) new.waiting) ≡ nothing
-none_waits K old new b r = ap (λ (l : List (Option (List ℕ))). prints (lines_asked K (new.given + 1) l)) r.behind_is
+pub none_waits : (K : Job) (old new : HeldLines) (b : List ReadLine) → ReadOn K.keys old new b Nothing → lines_print (line_job K) (new.given + 1) new.waiting ≡ nothing
+none_waits K old new b r = ap (lines_print (line_job K) (new.given + 1)) r.behind_is
 
 pub waiting_cost : (K : Job) (old new : HeldLines) (b b' : List ReadLine) (behind : Behind) → ReadOn K.keys old new b behind → b' ≡ b
-    → cost (lines_asked K (old.given + 1) old.waiting) ≡ cost (batch_asked K.statements b') + cost (lines_asked K (new.given + 1) new.waiting)
-waiting_cost K old new b b' behind r these = ap cost (asked_more K old new b b' behind r these) ∙ cost-append (batch_asked K.statements b') (lines_asked K (new.given + 1) new.waiting)
+    → lines_cost (line_job K) (old.given + 1) old.waiting ≡ cost (batch_asked K.statements b') + lines_cost (line_job K) (new.given + 1) new.waiting
+waiting_cost K old new b b' behind r these =
+    let number : new.given + 1 ≡ old.given + 1 + length r.read.front = omega (arith, r.read.given) in
+    ap (lines_cost (line_job K) (old.given + 1)) r.read.split ∙ lines_cost-append (line_job K) (old.given + 1) r.read.front new.waiting
+    ∙ ap (λ (k : ℕ). lines_cost (line_job K) (old.given + 1) r.read.front + lines_cost (line_job K) k new.waiting) (sym number)
+    ∙ ap (λ (k : ℕ). k + lines_cost (line_job K) (new.given + 1) new.waiting) (sym (ap (λ (l : List ReadLine). cost (batch_asked K.statements l)) (these ∙ r.read.batch_is) ∙ read_cost K (old.given + 1) r.read.front))
 
 -- the lines that were read are some of those that are all given in the end
 pub drained_more : (keys : Keys) (old new : HeldLines) (b : List ReadLine) (behind : Behind) → ReadOn keys old new b behind → drained new ≡ drained old

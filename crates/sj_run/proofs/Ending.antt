@@ -17,7 +17,6 @@ use Rattle.sj_file.specs.declared.job.Keys.{Keys}
 use Rattle.sj_file.specs.declared.job.Keys.TheVariants.{Any}
 use Rattle.sj_file.specs.declared.status.Status.{Status}
 use Rattle.sj_file.specs.declared.status.Status.TheVariants.{Done, Usage, Refused, ShelfFault, ReadFault, WriteFault, Memory, InputLimit, FileTooLong}
-use Rattle.sj_file.specs.Job.{Job, job}
 use Rattle.sj_file.specs.Piece.{max_piece}
 use Rattle.sj_file.specs.File.{Form, running, checking, generating, name_in, file_named, file_run, file_shown}
 use Rattle.sj_file.specs.Verdict.{Accepts, Refuses}
@@ -25,13 +24,14 @@ use Rattle.sj_file.specs.Conditions.{IfRuns, IfChecks, IfGenerates, IfNames, IfA
 use Rattle.sj_file.proofs.Verdicts.{one_accepted, not_both}
 use Rattle.sj_file.proofs.ShownFiles.{by_some, no_name, past_limit, long_file, left_of, no_file, accepted_as, accepted_short, refused_as, for_run, for_check, for_generated}
 use Rattle.sj_file.proofs.Unaccepted.{only_memory, this_refusal, too_long_alone, absent_alone}
-use Rattle.sj_run.specs.Input.{InputSide}
-use Rattle.sj_run.specs.Output.{output, whole_output, allowed}
-use Rattle.sj_run.specs.Stream.{IsPrefix, IsWhy, Streamed, IsFrontOf, WroteLeast, WroteWhole, StepsWithin, TookMost}
+use Rattle.sj_stream.specs.Input.{InputSide}
+use Rattle.sj_stream.specs.LineJob.{LineJob, output, whole_output, allowed}
+use Rattle.sj_run.specs.Output.{job}
+use Rattle.sj_stream.specs.Stream.{IsPrefix, IsWhy, Streamed, IsFrontOf, WroteLeast, WroteWhole, StepsWithin, TookMost}
 use Rattle.sj_run.specs.Summary.{summary_text}
 use Rattle.sj_run.specs.Ran.{Moment, accepted_text, Tells, RanGenerated, Does, Idle, Did, Ran, IsBefore}
-use Rattle.sj_run.proofs.Steps.{raised_none}
-use Rattle.sj_run.proofs.Streaming.{whole_output-append, output-end, prefix_trans, consumes_none, told, streamed_front}
+use Rattle.sj_stream.proofs.Steps.{raised_none}
+use Rattle.sj_stream.proofs.Streaming.{whole_output-append, output-end, prefix_trans, consumes_none, told, streamed_front}
 
 -- ---- what was done
 
@@ -40,7 +40,7 @@ does_with : (f : Form) (b a : Moment) (status : Status) (file : List ℕ) (K : L
 does_with f b a status file K shown accepts d =
     subst (λ (k : List Bound). Does f k b.input a.input b.out a.out status) (one_accepted file d.statements K (accepted_as (name_in f) b.shelf a.shelf d.statements file shown d.accepted) accepts) d.does
 
-why_not_before : (K : Job) (i i' : InputSide) (o : OutputSide) (o' : PrintState) (bytes text : List ℕ) (status : Status) → IsWhy K i i' o o' bytes text status → IsBefore status → ⊥
+why_not_before : (K : LineJob) (i i' : InputSide) (o : OutputSide) (o' : PrintState) (bytes text : List ℕ) (status : Status) → IsWhy K i i' o o' bytes text status → IsBefore status → ⊥
 why_not_before K i i' o o' bytes text Done why is = is
 why_not_before K i i' o o' bytes text ReadFault why is = is
 why_not_before K i i' o o' bytes text WriteFault why is = is
@@ -51,7 +51,7 @@ why_not_before K i i' o o' bytes text ShelfFault why is = why
 why_not_before K i i' o o' bytes text FileTooLong why is = why
 why_not_before K i i' o o' bytes text (Refused k kind) why is = why
 
-pub streamed_not_before : (K : Job) (i i' : InputSide) (o : OutputSide) (o' : PrintState) (status : Status) → Streamed K i i' o o' status → IsBefore status → ⊥
+pub streamed_not_before : (K : LineJob) (i i' : InputSide) (o : OutputSide) (o' : PrintState) (status : Status) → Streamed K i i' o o' status → IsBefore status → ⊥
 streamed_not_before K i i' o o' status s is = why_not_before K i i' o o' s.bytes s.text status s.why is
 
 tells_not_before : (text : List ℕ) (o o' : OutputSide) (status : Status) → Tells text o o' status → IsBefore status → ⊥
@@ -134,16 +134,16 @@ ran_front f b a status r =
     (λ keys K page s. by_some b.input.left _ (λ all left. streamed_front (job keys K) b.input a.input b.out (record { out = a.out; page = page }) status all s left))
 
 -- the texts of the whole lines of a front go in front of those of all
-front_whole : (K : Job) (h : List ℕ) (m : ℕ) → IsPrefix (whole_output K (take m h)) (whole_output K h)
+front_whole : (K : LineJob) (h : List ℕ) (m : ℕ) → IsPrefix (whole_output K (take m h)) (whole_output K h)
 front_whole K h m = (_, ap (whole_output K) (sym (take-append-drop m h)) ∙ whole_output-append K (take m h) (drop m h))
 
-whole_front : (K : Job) (h : List ℕ) → IsPrefix (whole_output K h) (output K h)
+whole_front : (K : LineJob) (h : List ℕ) → IsPrefix (whole_output K h) (output K h)
 whole_front K h = (_, output-end K h)
 
-front_and_least : Job → List ℕ → List ℕ → Type 0
+front_and_least : LineJob → List ℕ → List ℕ → Type 0
 front_and_least K bytes text = IsPrefix text (output K bytes) × IsPrefix (whole_output K (take (length bytes - max_piece) bytes)) text
 
-least_by_why : (K : Job) (i i' : InputSide) (o : OutputSide) (o' : PrintState) (bytes text : List ℕ) (status : Status) → IsWhy K i i' o o' bytes text status → front_and_least K bytes text
+least_by_why : (K : LineJob) (i i' : InputSide) (o : OutputSide) (o' : PrintState) (bytes text : List ℕ) (status : Status) → IsWhy K i i' o o' bytes text status → front_and_least K bytes text
 unfolding front_and_least
 least_by_why K i i' o o' bytes text Done why =
     subst (λ (t : List ℕ). IsPrefix t (output K bytes) × IsPrefix (whole_output K (take (length bytes - max_piece) bytes)) t) (sym why.0)
@@ -161,7 +161,7 @@ least_by_why K i i' o o' bytes text ShelfFault why = absurd why
 least_by_why K i i' o o' bytes text FileTooLong why = absurd why
 least_by_why K i i' o o' bytes text (Refused k kind) why = absurd why
 
-streamed_least : (K : Job) (i i' : InputSide) (o : OutputSide) (o' : PrintState) (status : Status) → Streamed K i i' o o' status → WroteLeast K i i' o o'.out
+streamed_least : (K : LineJob) (i i' : InputSide) (o : OutputSide) (o' : PrintState) (status : Status) → Streamed K i i' o o' status → WroteLeast K i i' o o'.out
 unfolding front_and_least
 streamed_least K i i' o o' status s =
     let l = least_by_why K i i' o o' s.bytes s.text status s.why in
@@ -170,7 +170,7 @@ streamed_least K i i' o o' status s =
 idle_consumes : (i i' : InputSide) → i' ≡ i → Consumes i.left i'.left []
 idle_consumes i i' same = subst (λ (p : InputSide). Consumes i.left p.left []) (sym same) (consumes_none i.left)
 
-idle_least : (K : Job) (i i' : InputSide) (o o' : OutputSide) → i' ≡ i → o' ≡ o → WroteLeast K i i' o o'
+idle_least : (K : LineJob) (i i' : InputSide) (o o' : OutputSide) → i' ≡ i → o' ≡ o → WroteLeast K i i' o o'
 idle_least K i i' o o' input out = record {
   bytes = [];
   consumed = idle_consumes i i' input;
@@ -188,7 +188,7 @@ ran_least f b a status r =
     (λ keys K name idle. idle_least (job keys K) b.input a.input b.out a.out idle.input idle.out)
     (λ keys K page s. streamed_least (job keys K) b.input a.input b.out (record { out = a.out; page = page }) status s)
 
-idle_within : (K : Job) (i i' : InputSide) → i' ≡ i → StepsWithin K i i'
+idle_within : (K : LineJob) (i i' : InputSide) → i' ≡ i → StepsWithin K i i'
 idle_within K i i' same = subst (λ (p : InputSide). StepsWithin K i p) (sym same) (record { bytes = []; consumed = consumes_none i.left; costs = raised_none i.steps (allowed K []) })
 
 -- however a run ended, its steps are within what the lines of the bytes taken allow
@@ -231,7 +231,7 @@ below_limit i i' all bytes is took fits long =
     let t = told i.left i'.left all bytes is took in
     omega (arith, ap length t.2, length-append bytes t.0, fits, long)
 
-pub streamed_complete : (K : Job) (i i' : InputSide) (o : OutputSide) (o' : PrintState) (status : Status) (all : List ℕ) → i.left ≡ Some all → length all < max_input → (Rose i.faults i'.faults → ⊥) → (Rose o.faults o'.out.faults → ⊥) → Streamed K i i' o o' status → IsOrMemory status Done
+pub streamed_complete : (K : LineJob) (i i' : InputSide) (o : OutputSide) (o' : PrintState) (status : Status) (all : List ℕ) → i.left ≡ Some all → length all < max_input → (Rose i.faults i'.faults → ⊥) → (Rose o.faults o'.out.faults → ⊥) → Streamed K i i' o o' status → IsOrMemory status Done
 streamed_complete K i i' o o' Done all left fits read out s = inl refl
 streamed_complete K i i' o o' Memory all left fits read out s = inr refl
 streamed_complete K i i' o o' ReadFault all left fits read out s = absurd (read s.why.1)
@@ -490,7 +490,7 @@ taken a b all rest bytes is is' c =
     let same : t.0 ≡ rest = cc (t.1, is') in
     ap length t.2 ∙ length-append bytes t.0 ∙ ap (λ (l : List ℕ). length bytes + length l) same
 
-limit_by_why : (K : Job) (i i' : InputSide) (o : OutputSide) (o' : PrintState) (status : Status) (all rest : List ℕ) → (s : Streamed K i i' o o' status) → i.left ≡ Some all → i'.left ≡ Some rest
+limit_by_why : (K : LineJob) (i i' : InputSide) (o : OutputSide) (o' : PrintState) (status : Status) (all rest : List ℕ) → (s : Streamed K i i' o o' status) → i.left ≡ Some all → i'.left ≡ Some rest
     → length all ≡ length rest + max_input → (Rose i.faults i'.faults → ⊥) → (Rose o.faults o'.out.faults → ⊥) → IsOrMemory status InputLimit
 limit_by_why K i i' o o' Done all rest s is is' len read write = absurd (omega (arith, s.why.2, taken i.left i'.left all rest s.bytes is is' s.consumed, len))
 limit_by_why K i i' o o' ReadFault all rest s is is' len read write = absurd (read s.why.1)

@@ -13,16 +13,16 @@ use Rattle.sj_page.specs.declared.page.Page.{Page}
 use Rattle.sj_file.specs.declared.job.Keys.TheVariants.{Any}
 use Rattle.sj_file.specs.declared.status.Status.{Status}
 use Rattle.sj_file.specs.declared.status.Status.TheVariants.{Done, Memory, WriteFault}
-use Rattle.sj_file.specs.Job.{job}
 use Rattle.sj_file.specs.File.{ShelfSide, checking, generating}
 use Rattle.sj_file.specs.Accepted.{Accepted}
-use Rattle.sj_run.specs.Input.{InputSide}
-use Rattle.sj_run.specs.Output.{asked, rows_in, errors_in, output, allowed}
-use Rattle.sj_run.specs.Stream.{Streamed}
+use Rattle.sj_stream.specs.Input.{InputSide}
+use Rattle.sj_stream.specs.LineJob.{all_print, output, allowed}
+use Rattle.sj_run.specs.Output.{job}
+use Rattle.sj_stream.specs.Stream.{Streamed}
 use Rattle.sj_run.specs.Summary.{counts_text, summary_text}
 use Rattle.sj_run.specs.Ran.{moment, accepted_text, Tells, Ran}
-use Rattle.sj_run.proofs.Steps.{counted_is}
-use Rattle.sj_run.proofs.Streaming.{told}
+use Rattle.sj_stream.proofs.Steps.{counted_is}
+use Rattle.sj_stream.proofs.Streaming.{told}
 use Rattle.sj_run.proofs.Ending.{all_taken, streamed_complete}
 
 tells_done : {T E : Type 0} (text : List ℕ) (o o' : OutputSide) (r : Result T E) (x : T) → Wrote o o' text r → r ≡ Ok x → Tells text o o' Done
@@ -74,12 +74,12 @@ steps_over number K rest steps steps' size page status s =
 summed : (number : ℕ) (K : List Bound) (rest : List ℕ) (steps steps' size : ℕ) (page : Page) → OverLines number K rest steps steps' size page Done → counts_text number page.rows page.errors size ≡ summary_text number K
 summed number K rest steps steps' size page s =
     let bytes : s.bytes ≡ generated number = all_taken (Some (generated number)) (Some rest) (generated number) s.bytes refl s.consumed s.why.1 in
-    let rows : page.rows ≡ u64_saturate (rows_in (asked (job Any K) (generated number))) = s.why.5.rows ∙ ap (λ (b : List ℕ). u64_saturate (rows_in (asked (job Any K) b))) bytes in
-    let errors : page.errors ≡ u64_saturate (errors_in (asked (job Any K) (generated number))) = s.why.5.errors ∙ ap (λ (b : List ℕ). u64_saturate (errors_in (asked (job Any K) b))) bytes in
+    let rows : page.rows ≡ u64_saturate (all_print (job Any K) (generated number)).rows = s.why.5.rows ∙ ap (λ (b : List ℕ). u64_saturate (all_print (job Any K) b).rows) bytes in
+    let errors : page.errors ≡ u64_saturate (all_print (job Any K) (generated number)).errors = s.why.5.errors ∙ ap (λ (b : List ℕ). u64_saturate (all_print (job Any K) b).errors) bytes in
     let text : length s.text ≡ length (output (job Any K) (generated number)) = ap length (s.why.0 ∙ ap (output (job Any K)) bytes) in
     let all : size ≡ u64_saturate (length (output (job Any K) (generated number))) = counted_is size (length s.text) s.grew.number_is ∙ ap u64_saturate text in
-    ap (λ (n : ℕ). counts_text number n page.errors size) rows ∙ ap (λ (n : ℕ). counts_text number (u64_saturate (rows_in (asked (job Any K) (generated number)))) n size) errors
-    ∙ ap (λ (n : ℕ). counts_text number (u64_saturate (rows_in (asked (job Any K) (generated number)))) (u64_saturate (errors_in (asked (job Any K) (generated number)))) n) all
+    ap (λ (n : ℕ). counts_text number n page.errors size) rows ∙ ap (λ (n : ℕ). counts_text number (u64_saturate (all_print (job Any K) (generated number)).rows) n size) errors
+    ∙ ap (λ (n : ℕ). counts_text number (u64_saturate (all_print (job Any K) (generated number)).rows) (u64_saturate (all_print (job Any K) (generated number)).errors) n) all
 
 abbrev pub RanLines : ℕ → List ℕ → ShelfSide → ShelfSide → Option (List ℕ) → ℕ → ℕ → ℕ → OutputSide → OutputSide → Status → Type 0
 RanLines number name s s' left faults steps steps' o o' status =

@@ -11,12 +11,12 @@ use Rattle.sj_page.specs.declared.page.Page.{Page}
 use Rattle.sj_file.specs.declared.job.Keys.TheVariants.{Any}
 use Rattle.sj_file.specs.declared.status.Status.{Status}
 use Rattle.sj_file.specs.declared.status.Status.TheVariants.{Done, Usage, Refused, ShelfFault, ReadFault, WriteFault, Memory, InputLimit, FileTooLong}
-use Rattle.sj_file.specs.Job.{job}
 use Rattle.sj_file.specs.File.{ShelfSide, shelf_at, Form, running, checking, generating, name_in}
 use Rattle.sj_file.specs.Accepted.{Accepted, IsUnaccepted}
-use Rattle.sj_run.specs.Input.{InputSide, input_at}
-use Rattle.sj_run.specs.Output.{allowed}
-use Rattle.sj_run.specs.Stream.{Streamed, IsFrontOf}
+use Rattle.sj_stream.specs.Input.{InputSide, input_at}
+use Rattle.sj_stream.specs.LineJob.{allowed}
+use Rattle.sj_run.specs.Output.{job}
+use Rattle.sj_stream.specs.Stream.{Streamed, IsFrontOf}
 use Rattle.sj_run.specs.Summary.{summary_text}
 
 -- the output as it is seen at one moment, by what a sink tells and counts

@@ -5,8 +5,9 @@ use Rattle.sj_bound.specs.Bound.{Bound}
 use Rattle.sj_generated.specs.Lines.{generated}
 use Rattle.sj_page.specs.Sides.{joined}
 use Rattle.sj_file.specs.declared.job.Keys.TheVariants.{Any}
-use Rattle.sj_file.specs.Job.{job}
-use Rattle.sj_run.specs.Output.{asked, rows_in, errors_in, output}
+use Rattle.sj_page.specs.Pages.{Print}
+use Rattle.sj_stream.specs.LineJob.{all_print}
+use Rattle.sj_run.specs.Output.{job}
 
 abbrev pub counts_text : ℕ → ℕ → ℕ → ℕ → List ℕ
 counts_text lines rows errors bytes =
@@ -16,6 +17,5 @@ counts_text lines rows errors bytes =
 -- at its last value
 abbrev pub summary_text : ℕ → List Bound → List ℕ
 summary_text number statements =
-    let here = job Any statements in
-    let all = asked here (generated number) in
-    counts_text number (u64_saturate (rows_in all)) (u64_saturate (errors_in all)) (u64_saturate (length (output here (generated number))))
+    let all : Print = all_print (job Any statements) (generated number) in
+    counts_text number (u64_saturate all.rows) (u64_saturate all.errors) (u64_saturate (length all.text))

@@ -2,7 +2,7 @@
 ghost use Rattle.std.specs.Prelude.{◌≡◌, ◌∷◌, [], Some, codes, decimal};
 ghost use Rattle.sj_page.specs.Sides.{Wrote, joined};
 ghost use Rattle.sj_file.specs.File.{checking, shelf_at};
-ghost use Rattle.sj_run.specs.Input.{InputSide};
+ghost use Rattle.sj_stream.specs.Input.{InputSide};
 ghost use Rattle.sj_run.specs.Ran.{IsBefore, Ran, moment, out_at};
 
 use itoa::Buffer;

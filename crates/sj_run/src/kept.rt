@@ -26,6 +26,7 @@ pub(crate) fn new_places(alloc: Global) -> Result<Vec<ReadLine>, Memory> {
 /// as the rows are kept.
 #[derive(Drop)]
 pub(crate) struct KeptRows<'a> {
+    pub(crate) alloc: Global,
     pub(crate) rows: Vec<RowsOf<'a>>,
     // those that no line of these rows was put into
     places: &'a mut [ReadLine],
@@ -42,7 +43,11 @@ impl<'a> KeptRows<'a> {
         ensures { IfOk result (λ kept. bounds_in kept.rows.items ≡ map bound_of statements.now) }
     {
         let rows = rows_of(alloc, statements)?;
-        Ok(KeptRows { rows, places })
+        Ok(KeptRows {
+            alloc,
+            rows,
+            places,
+        })
     }
 
     /// Whether a line may still be placed.

@@ -1,24 +1,24 @@
 // The rows of lines.
-ghost use Rattle.std.specs.Prelude.{◌≡◌, ◌<◌, ◌≤◌, ◌+◌, length, map, OnOk, IfOk};
-ghost use Rattle.sj_rows.specs.HeldLines.{drained};
+ghost use Rattle.std.specs.Prelude.{◌≡◌, ◌<◌, ◌≤◌, length, map, IfOk};
 ghost use Rattle.sj_base.specs.Count.{raised};
 ghost use Rattle.sj_bound.specs.View.{bound_of};
 ghost use Rattle.sj_select_list.specs.Line.{line_of};
 ghost use Rattle.sj_page.specs.Pages.{print_state, Prints};
 ghost use Rattle.sj_file.specs.Job.{job_of, AreSound, IsReady, statement_limit};
-ghost use Rattle.sj_run.specs.Output.{rows_given, rows_print, prints, cost_given, cost, asked_from, lines_asked};
+ghost use Rattle.sj_stream.specs.Out.{state_at, SameLoans};
+ghost use Rattle.sj_run.specs.Output.{rows_given, rows_print, prints, cost_given, cost, asked_from};
 ghost use Rattle.sj_run.specs.Batch.{line_read, batch_asked, bounds_in};
 
-use crate::batch::{Batch, Behind, ReadLine, Reading};
+use crate::batch::{Batch, ReadLine, Reading};
 use crate::kept::KeptRows;
 use sj_base::{Memory, Steps, push};
 use sj_bound::Bound;
 use sj_file::Job;
 use sj_outside::Sink;
 use sj_page::{Page, Stop};
-use sj_rows::Lines;
 use sj_select::{RowsOf, Turn};
 use sj_select_list::LineDoc;
+use sj_stream::Out;
 use std::alloc::Global;
 
 /// A line that was read, as statements see it.
@@ -143,103 +143,70 @@ fn print_each<'a, O: Sink>(
 /// Prints the rows of lines by rows that are made for them alone.
 fn print_by_new_rows<O: Sink>(
     alloc: Global,
-    out: &mut O,
-    page: &mut Page,
+    out: &mut Out<'_, O>,
     job: &Job,
     lines: &[ReadLine],
-    steps: &mut Steps,
 ) -> Result<(), Stop>
     requires { IsReady job.now }
     ensures prints { Prints (prints (batch_asked (job_of job.now).statements lines.now))
-        (print_state O.taken O.size O.faults out.old page.old) (print_state O.taken O.size O.faults out.new page.new) result }
-    ensures costs { steps.new ≤ raised steps.old (cost (batch_asked (job_of job.now).statements lines.now)) }
+        (state_at O.Sink out.old) (state_at O.Sink out.new) result }
+    ensures costs { out.new.steps.now ≤ raised out.old.steps.now (cost (batch_asked (job_of job.now).statements lines.now)) }
+    ensures lent { SameLoans out.old out.new }
 {
     // To make rows costs as much as to print a short line, so none are made where no line is left for them.
     if lines.is_empty() {
         return Ok(());
     }
     match rows_of(alloc, &job.statements) {
-        Ok(mut rows) => print_each(out, page, rows.as_mut_slice(), lines, steps),
+        Ok(mut rows) => print_each(out.sink, out.page, rows.as_mut_slice(), lines, out.steps),
         Err(_) => Err(Stop::Memory),
     }
 }
 
 /// Prints the rows of lines by the kept rows, which have places for so many.
 fn print_by_kept_rows<O: Sink>(
-    out: &mut O,
-    page: &mut Page,
+    out: &mut Out<'_, O>,
     kept: &mut KeptRows<'_>,
     lines: &mut [ReadLine],
-    steps: &mut Steps,
 ) -> Result<(), Stop>
     requires few { length kept.old.rows.items < statement_limit }
     requires room { length lines.old ≤ length kept.old.places.now }
     ensures prints { Prints (prints (batch_asked (bounds_in kept.old.rows.items) lines.old))
-        (print_state O.taken O.size O.faults out.old page.old) (print_state O.taken O.size O.faults out.new page.new) result }
-    ensures costs { steps.new ≤ raised steps.old (cost (batch_asked (bounds_in kept.old.rows.items) lines.old)) }
+        (state_at O.Sink out.old) (state_at O.Sink out.new) result }
+    ensures costs { out.new.steps.now ≤ raised out.old.steps.now (cost (batch_asked (bounds_in kept.old.rows.items) lines.old)) }
     ensures bounds { bounds_in kept.new.rows.items ≡ bounds_in kept.old.rows.items }
+    ensures lent { SameLoans out.old out.new }
 {
     let placed = kept.place(lines);
-    print_each(out, page, kept.rows.as_mut_slice(), placed, steps)
+    print_each(
+        out.sink,
+        out.page,
+        kept.rows.as_mut_slice(),
+        placed,
+        out.steps,
+    )
 }
 
 /// Prints the rows of the lines of a batch. Short lines, as those of small pieces, are asked by the kept rows as far as there are places,
 /// and others by rows that are made for all of them together.
-fn print_batch<O: Sink>(
-    alloc: Global,
-    out: &mut O,
-    page: &mut Page,
+pub(crate) fn print_batch<O: Sink>(
+    out: &mut Out<'_, O>,
     job: &Job,
     kept: &mut KeptRows<'_>,
     batch: &mut Batch,
-    steps: &mut Steps,
 ) -> Result<(), Stop>
     requires ready { IsReady job.now }
     requires rows { bounds_in kept.old.rows.items ≡ (job_of job.now).statements }
     ensures prints { Prints (prints (batch_asked (job_of job.now).statements batch.old.lines.items))
-        (print_state O.taken O.size O.faults out.old page.old) (print_state O.taken O.size O.faults out.new page.new) result }
-    ensures costs { steps.new ≤ raised steps.old (cost (batch_asked (job_of job.now).statements batch.old.lines.items)) }
+        (state_at O.Sink out.old) (state_at O.Sink out.new) result }
+    ensures costs { out.new.steps.now ≤ raised out.old.steps.now (cost (batch_asked (job_of job.now).statements batch.old.lines.items)) }
     ensures rows { bounds_in kept.new.rows.items ≡ (job_of job.now).statements }
+    ensures lent { SameLoans out.old out.new }
 {
     let count = kept.placeable(batch);
     let (front, others) = batch.lines_mut().split_at_mut(count);
-    match print_by_kept_rows(out, page, kept, front, steps) {
-        Ok(()) => print_by_new_rows(alloc, out, page, job, others, steps),
+    match print_by_kept_rows(out, kept, front) {
+        Ok(()) => print_by_new_rows(kept.alloc, out, job, others),
         Err(stop) => Err(stop),
-    }
-}
-
-/// Prints the rows of the lines that wait. The page is written where it is long, in the middle of a line too.
-pub(crate) fn print_lines<O: Sink>(
-    alloc: Global,
-    out: &mut O,
-    page: &mut Page,
-    job: &Job,
-    lines: &mut Lines,
-    batch: &mut Batch,
-    kept: &mut KeptRows<'_>,
-    steps: &mut Steps,
-) -> Result<(), Stop>
-    requires ready { IsReady job.now }
-    requires rows { bounds_in kept.old.rows.items ≡ (job_of job.now).statements }
-    ensures prints { Prints (prints (lines_asked (job_of job.now) (lines.old.given + 1) lines.old.waiting))
-        (print_state O.taken O.size O.faults out.old page.old) (print_state O.taken O.size O.faults out.new page.new) result }
-    ensures costs { steps.new ≤ raised steps.old (cost (lines_asked (job_of job.now) (lines.old.given + 1) lines.old.waiting)) }
-    ensures drained { OnOk result (lines.new ≡ drained lines.old) }
-    ensures rows { bounds_in kept.new.rows.items ≡ (job_of job.now).statements }
-{
-    loop {
-        let behind = match batch.read_on(alloc, job.keys, lines) {
-            Ok(behind) => behind,
-            Err(_) => return Err(Stop::Memory),
-        };
-        match print_batch(alloc, out, page, job, kept, batch, steps) {
-            Ok(()) => {}
-            Err(stop) => return Err(stop),
-        }
-        match behind {
-            Behind::Nothing => return Ok(()),
-            Behind::Perhaps => {}
-        }
     }
 }

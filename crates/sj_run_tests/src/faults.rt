@@ -1,9 +1,10 @@
 //! Calls that fail, sinks without room, and the cuts of an input. What statements give for lines is in the tables of
 //! `checks/rows/`.
-use crate::cases::expect;
+use crate::cases::{Counts, expect};
 use crate::runs::{ROOT, Setup, plain, repeated, run_on, told};
 use sj_file::Status;
 use std::alloc::Global;
+use std::process::Abort;
 use std::test::Fail;
 
 const THREE: &[u8] = b"{\"a\":{\"b\":null}}\n{\"a\":{\"b\":null}}\n{\"a\":{\"b\":null}}\n";
@@ -47,7 +48,7 @@ selfrun 3 f;-;-;0;9;99 => WriteFault "lines 3 r" "output failed\n"
 selfrun 3 f;-;-;0;99;0 => Done "lines 3 rows 3 errors 0 bytes 33\n" """#;
 
 /// What a run tells whose words and faults a text gives.
-fn told_of(alloc: Global, text: &str) -> Result<String, Fail> {
+fn told_of(rt: &impl Counts, alloc: Global, text: &str) -> Result<String, Fail> {
     let mut fields = text.split(';');
     let words = fields.next().ok_or("no words")?;
     let shelf_fails = numbers(alloc, fields.next().ok_or("no calls of the shelf")?)?;
@@ -62,6 +63,7 @@ fn told_of(alloc: Global, text: &str) -> Result<String, Fail> {
     let room = fields.next().ok_or("no room")?.parse()?;
     let note_room = fields.next().ok_or("no room for the message")?.parse()?;
     let ran = run_on(
+        rt,
         alloc,
         &Setup {
             room,
@@ -76,7 +78,7 @@ fn told_of(alloc: Global, text: &str) -> Result<String, Fail> {
 fn faults_at_each_call_and_sinks_without_room(rt: HostRuntime) -> Result<(), Fail> {
     for line in FAULTS.lines() {
         let (text, want) = line.split_once(" => ").ok_or("no arrow")?;
-        expect(&rt, told_of(rt.alloc(), text)?.as_str(), want, text);
+        expect(&rt, told_of(&rt, rt.alloc(), text)?.as_str(), want, text);
     }
     Ok(())
 }
@@ -91,7 +93,7 @@ fn refusals_without_room_for_the_message(rt: HostRuntime) -> Result<(), Fail> {
             note_room,
             ..plain(b"SELECT 1", THREE, 0)
         };
-        let ran = run_on(rt.alloc(), &setup)?;
+        let ran = run_on(&rt, rt.alloc(), &setup)?;
         expect(&rt, told(rt.alloc(), &ran)?.as_str(), want, "refused");
     }
     Ok(())
@@ -103,7 +105,7 @@ fn lines_in_any_cut(rt: HostRuntime) -> Result<(), Fail> {
     let file = b"SELECT JSON_EXISTS(doc, 'lax $.a.b');".as_slice();
     let input = b"{\"a\":{\"b\":null}}\n{\"a\":\"x\"}\n \t\r\n{\"a\":\n".as_slice();
     for cut in 0..40 {
-        let ran = run_on(rt.alloc(), &plain(file, input, cut))?;
+        let ran = run_on(&rt, rt.alloc(), &plain(file, input, cut))?;
         expect(
             &rt,
             told(rt.alloc(), &ran)?.as_str(),
@@ -123,13 +125,73 @@ fn rows_are_written_within_a_line(rt: HostRuntime) -> Result<(), Fail> {
     let alloc = rt.alloc();
     let input = repeated(alloc, "{\"x\":[10", ",10", 119, "]}")?;
     let setup = plain(MANY_ROWS, input.as_bytes(), 0);
-    let whole = run_on(alloc, &setup)?;
+    let whole = run_on(&rt, alloc, &setup)?;
     assert!(rt; whole.status == Status::Done);
     assert!(rt; whole.out.len() == 120 * 120 * 12);
     let room = 70_000;
-    let cut = run_on(alloc, &Setup { room, ..setup })?;
+    let cut = run_on(&rt, alloc, &Setup { room, ..setup })?;
     assert!(rt; cut.status == Status::WriteFault);
     assert!(rt; cut.out.len() == room);
     assert!(rt; whole.out.as_slice().starts_with(cut.out.as_slice()));
+    Ok(())
+}
+
+/// The runs in which one call of the output fails, or one of the input: each in turn, up to the first that no run comes to.
+/// What was written is a beginning of what the whole run writes, and no shorter than where the call before fails. It says
+/// how many runs failed.
+fn failed_in_turn(
+    rt: &(impl Abort + Counts),
+    alloc: Global,
+    setup: &Setup<'_>,
+    of_input: bool,
+) -> Result<u64, Fail> {
+    let whole = run_on(rt, alloc, setup)?;
+    let status = if of_input {
+        Status::ReadFault
+    } else {
+        Status::WriteFault
+    };
+    let mut least = 0;
+    for call in 0..1_000 {
+        let fails = [call];
+        let failing = if of_input {
+            Setup {
+                input_fails: &fails,
+                ..*setup
+            }
+        } else {
+            Setup {
+                out_fails: &fails,
+                ..*setup
+            }
+        };
+        let ran = run_on(rt, alloc, &failing)?;
+        if ran.status == Status::Done {
+            assert!(rt; ran.out.as_slice() == whole.out.as_slice());
+            return Ok(call);
+        }
+        assert!(rt; ran.status == status && ran.out.len() >= least);
+        assert!(rt; whole.out.as_slice().starts_with(ran.out.as_slice()));
+        least = ran.out.len();
+    }
+    Err("each call fails")?
+}
+
+#[test]
+fn each_call_fails_in_turn(rt: HostRuntime) -> Result<(), Fail> {
+    let alloc = rt.alloc();
+    let many = repeated(alloc, "{\"x\":[10", ",10", 119, "]}")?;
+    for (file, input, cut, writes, reads) in [
+        (ROOT, THREE, 17, 3, 4),
+        (ROOT, THREE, 1, 3, 52),
+        (ROOT, THREE, 0, 1, 2),
+        (MANY_ROWS, many.as_bytes(), 0, 3, 2),
+    ] {
+        let setup = plain(file, input, cut);
+        let found = failed_in_turn(&rt, alloc, &setup, false)?;
+        assert!(rt; found == writes, "{found} writes");
+        let found = failed_in_turn(&rt, alloc, &setup, true)?;
+        assert!(rt; found == reads, "{found} reads");
+    }
     Ok(())
 }

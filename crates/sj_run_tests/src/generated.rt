@@ -49,7 +49,7 @@ fn the_input_is_not_read(rt: HostRuntime) -> Result<(), Fail> {
         words,
         ..plain(ROOT, b"null", 0)
     };
-    let ran = run_on(rt.alloc(), &setup)?;
+    let ran = run_on(&rt, rt.alloc(), &setup)?;
     assert!(rt; ran.reads == 0);
     Ok(())
 }

@@ -1,4 +1,5 @@
 //! Runs over the objects in memory, and what they gave.
+use crate::cases::Counts;
 use sj_base::{Steps, Text};
 use sj_file::Status;
 use sj_outside::{MemShelf, MemSink, MemSource};
@@ -25,6 +26,7 @@ pub(crate) struct Setup<'a> {
     pub(crate) input: &'a [u8],
     pub(crate) cut: usize,
     pub(crate) input_fails: &'a [u64],
+    pub(crate) out_fails: &'a [u64],
     pub(crate) room: usize,
     pub(crate) note_room: usize,
 }
@@ -38,6 +40,7 @@ pub(crate) fn plain<'a>(file: &'a [u8], input: &'a [u8], cut: usize) -> Setup<'a
         input,
         cut,
         input_fails: &[],
+        out_fails: &[],
         room: 1_000_000,
         note_room: 4096,
     }
@@ -77,15 +80,16 @@ fn ended(
 }
 
 fn run_between(
+    rt: &impl Counts,
     alloc: Global,
     setup: &Setup<'_>,
     words: &[String],
     shelf: &mut MemShelf,
     input: &mut MemSource,
 ) -> Result<Outcome, Fail> {
-    let mut out = MemSink::new(alloc, setup.room, Vec::new(alloc))?;
+    let mut out = MemSink::new(alloc, setup.room, setup.out_fails.to_vec(alloc)?)?;
     let mut notes = MemSink::new(alloc, setup.note_room, Vec::new(alloc))?;
-    let mut steps = Steps::new();
+    let mut steps = rt.steps();
     let status = ended(
         alloc,
         words,
@@ -103,11 +107,11 @@ fn run_between(
     })
 }
 
-pub(crate) fn run_on(alloc: Global, setup: &Setup<'_>) -> Result<Outcome, Fail> {
+pub(crate) fn run_on(rt: &impl Counts, alloc: Global, setup: &Setup<'_>) -> Result<Outcome, Fail> {
     let words = words_of(alloc, setup.words)?;
     let mut shelf = shelf_of(alloc, setup)?;
     let mut input = source_of(alloc, setup)?;
-    run_between(alloc, setup, &words, &mut shelf, &mut input)
+    run_between(rt, alloc, setup, &words, &mut shelf, &mut input)
 }
 
 /// How a run ended, what it wrote and its message.

@@ -1,17 +1,23 @@
 //! How many steps statements take for lines. What they give is in the tables of `checks/rows/`. A step is a member,
 //! element or value that is looked at. A function of one item asks for a second one and no further, and a table is asked
 //! for its rows alone.
+use crate::cases::Counts;
 use crate::runs::{plain, repeated, run_on};
 use std::alloc::Global;
 use std::process::Abort;
 use std::test::Fail;
 
 /// The steps of a statement are as the text behind the arrow has it.
-fn expect_steps(rt: &impl Abort, alloc: Global, input: &[u8], line: &str) -> Result<(), Fail> {
+fn expect_steps(
+    rt: &(impl Abort + Counts),
+    alloc: Global,
+    input: &[u8],
+    line: &str,
+) -> Result<(), Fail> {
     let (file, bound) = line.rsplit_once(" => ").ok_or("no arrow")?;
     let (sign, number) = bound.split_once(' ').ok_or("no number")?;
     let number: u64 = number.parse()?;
-    let steps = run_on(alloc, &plain(file.as_bytes(), input, 0))?.steps;
+    let steps = run_on(rt, alloc, &plain(file.as_bytes(), input, 0))?.steps;
     let holds = if sign == "=" {
         steps == number
     } else {

@@ -2,12 +2,13 @@
 use Rattle.std.proofs.Common.{◌≡◌, ◌≤◌, ℕ, List, ◌++◌, length, take, codes, Result, Ok, Err, OnErr, refl, sym, ap, ◌∙◌, arith, append_assoc, length-append}
 use Rattle.std.specs.List.{flat_map}
 use Rattle.std.proofs.lemmas.List.{append-nil}
+use Rattle.sj_value.specs.declared.value.SqlValue.{SqlValue}
 use Rattle.sj_rows.specs.RowText.{row_head, row_front, tabbed, Extends}
 use Rattle.sj_rows.proofs.Extending.{extends_by, extends_more, extends_back}
 use Rattle.sj_table.specs.Series.{done, rest}
 use Rattle.sj_select.specs.Rows.{StatementRows}
-use Rattle.sj_select.specs.Seen.{turn_of, due_behind, next_text}
-use Rattle.sj_select.specs.Sources.{HasRow, Prints, found_due}
+use Rattle.sj_select.specs.Seen.{turn_of, due_behind, next_text, next_values}
+use Rattle.sj_select.specs.Sources.{HasRow, Prints, FindsNext, values_found, found_due}
 use Rattle.sj_select.specs.Stages.{left_at, due_at, turn_for, stage_behind, EndsText}
 use Rattle.sj_select.specs.declared.source.Found.{Found}
 use Rattle.sj_select.specs.declared.source.Found.TheVariants as found
@@ -59,6 +60,27 @@ module _ (left left' : StatementRows) (old new : List ℕ) where
 
     pub front_stays_by : Extends old new → Extends before new
     front_stays_by kept = extends_more before old new (extends_by before (row_front line statement) old begun) kept
+
+-- ---- the same of the values that were found
+
+module _ (left left' : StatementRows) (values : List SqlValue) where
+  pub turn_found : (f : Found) → FindsNext left f values left' → turn_for f ≡ turn_of left
+  turn_found found.Row p = ap turn_of (sym p)
+  turn_found found.LastRow p = ap turn_of (sym p)
+  turn_found found.End p = ap turn_of (sym p)
+  turn_found (found.Raised s) p = ap turn_of (sym p)
+
+  pub rest_found : (f : Found) → FindsNext left f values left' → left_at (stage_behind f) left' ≡ rest left
+  rest_found found.Row p = ap rest (sym p)
+  rest_found found.LastRow p = ap rest (sym p)
+  rest_found found.End p = ap rest (sym p)
+  rest_found (found.Raised s) p = ap rest (sym p)
+
+  pub values_next : (f : Found) → FindsNext left f values left' → values_found f values ≡ next_values left
+  values_next found.Row p = ap next_values (sym p)
+  values_next found.LastRow p = ap next_values (sym p)
+  values_next found.End p = ap next_values (sym p)
+  values_next (found.Raised s) p = ap next_values (sym p)
 
 pub longer : (start : ℕ) (before new : List ℕ) → start ≡ length before → Extends before new → start ≤ length new
 longer start before new at kept = omega (arith, at, ap length kept.grown, length-append before kept.behind)

@@ -15,5 +15,5 @@ mod Sourced
 mod CountedSteps
 -- for `take_row` and `take_rows`
 mod TakingRows
--- for `RowsOf::print_behind`
+-- for `RowsOf::print_behind` and `RowsOf::next`
 mod AnsweredRows

@@ -3,6 +3,7 @@ use Rattle.std.specs.Prelude.{◌≡◌, ℕ, List, [], refl}
 use Rattle.std.specs.Coded.{Coded, code_by, coded×, coded_ℕ}
 use Rattle.sj_rows.specs.RowText.{row_bytes}
 use Rattle.sj_table.specs.Series.{done, raises, more, rest}
+use Rattle.sj_value.specs.declared.value.SqlValue.{SqlValue}
 use Rattle.sj_bound.specs.declared.bound.Bound.{Bound}
 use Rattle.sj_bound.specs.contracts.bound.Bound as bound
 use Rattle.sj_select_list.specs.Line.{Line}
@@ -41,6 +42,12 @@ abbrev pub next_text : ℕ → ℕ → StatementRows → List ℕ
 next_text line statement done = []
 next_text line statement (raises s) = []
 next_text line statement (more row rows) = row_bytes line statement row
+
+-- the values of the row that comes next, of which `next_text` is the text; none where no row is left
+abbrev pub next_values : StatementRows → List SqlValue
+next_values done = []
+next_values (raises s) = []
+next_values (more row rows) = row
 
 -- The first row that is left was given, or the end, which stays. Behind an end nothing is due.
 pub record Gives (old new : Seen) (answer : Turn) : Type 0 where

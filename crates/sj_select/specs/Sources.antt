@@ -84,6 +84,25 @@ Prints left found.LastRow old new left' = HasRow left done old new
 Prints left found.End old new left' = (left ≡ done) × Extends old new
 Prints left (found.Raised s) old new left' = (left ≡ raises s) × Extends old new
 
+-- the same of the values that were found
+abbrev pub FindsNext : StatementRows → Found → List SqlValue → StatementRows → Type 0
+FindsNext left found.Row values left' = left ≡ more values left'
+FindsNext left found.LastRow values left' = left ≡ more values done
+FindsNext left found.End values left' = left ≡ done
+FindsNext left (found.Raised s) values left' = left ≡ raises s
+
+-- these are the values of the one row that is left, or a state is raised in its place
+abbrev pub FindsOnly : StatementRows → Option State → List SqlValue → Type 0
+FindsOnly left None values = left ≡ more values done
+FindsOnly left (Some s) values = left ≡ raises s
+
+-- these values, where a row was found
+abbrev pub values_found : Found → List SqlValue → List SqlValue
+values_found found.Row values = values
+values_found found.LastRow values = values
+values_found found.End values = []
+values_found (found.Raised s) values = []
+
 -- what may still be taken: nothing, unless more rows may follow
 abbrev pub found_due : Found → ℕ → ℕ
 found_due found.Row due = due

@@ -3,7 +3,7 @@
 //! The definitions are whole lists: `specs/Columns.antt` says what the columns of a table are in a row of its plan, and `specs/Rows.antt` which
 //! rows a statement has.
 //!
-//! [`RowsOf`] prints one row after another and keeps no list of them. Without a table the values of the SELECT list are the only row. Over a
+//! [`RowsOf`] prints one row after another, or gives its values, and keeps no list of them. Without a table the values of the SELECT list are the only row. Over a
 //! table each column of a row is found by an inquiry or a cursor of its own, which is moved to the item of the row. Where the SELECT list is
 //! the columns and nothing else, each is printed as it is found. Else all are found first; then the values of the SELECT list are found beside
 //! them, or the aggregates take them.
@@ -21,3 +21,4 @@ mod source;
 mod table;
 
 pub use rows::{RowsOf, Turn};
+pub use sj_select_list::LineDoc;

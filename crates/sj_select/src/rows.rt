@@ -1,5 +1,6 @@
 // The rows of a statement for a line.
-ghost use Rattle.std.specs.Prelude.{◌≡◌, ◌≤◌, ◌++◌, length, IfOk, OnOk, OnErr, None, true};
+ghost use Rattle.std.specs.Prelude.{◌≡◌, ◌≤◌, ◌++◌, length, All, IfOk, OnOk, OnErr, None, true};
+ghost use Rattle.sj_value.specs.Values.{IsPrintable};
 ghost use Rattle.sj_rows.specs.RowText.{Extends};
 ghost use Rattle.sj_table.specs.Series.{done};
 ghost use Rattle.sj_table.specs.Takes.{Spends};
@@ -8,23 +9,24 @@ ghost use Rattle.sj_bound.specs.Sound.{IsSound};
 ghost use Rattle.sj_bound.specs.View.{bound_of};
 ghost use Rattle.sj_select_list.specs.Line.{line_of};
 ghost use Rattle.sj_select.specs.Rows.{statement_rows, statement_cost};
-ghost use Rattle.sj_select.specs.Seen.{Gives, next_text};
-ghost use Rattle.sj_select.specs.Sources.{IsFor, IsReadySource, Prints, source_left, source_due, due_behind};
+ghost use Rattle.sj_select.specs.Seen.{Gives, next_text, next_values};
+ghost use Rattle.sj_select.specs.Sources.{IsFor, IsReadySource, FindsNext, Prints, source_left, source_due, due_behind};
 ghost use Rattle.sj_select.specs.Stages.{left_at, due_at, turn_for, stage_behind, EndsText};
 
-use crate::source::{Found, RowSource};
+use crate::source::{Found, RowSource, hand_out};
 use sj_base::{Bytes, Memory, State, Steps};
 use sj_bound::Bound;
 use sj_rows::{RowHead, end_row};
 use sj_select_list::LineDoc;
+use sj_value::SqlValue;
 use std::alloc::Global;
 use std::marker::Model;
 use std::mem;
 
-/// One answer of [`RowsOf::print`].
+/// One answer of [`RowsOf::print`] or [`RowsOf::next`].
 #[derive(Clone, Copy, Debug, PartialEq, Eq)]
 pub enum Turn {
-    /// The text of a row was appended.
+    /// The text of a row was appended, or its values were given.
     Row,
     /// No row is left.
     End,
@@ -89,6 +91,29 @@ impl Stage {
     {
         match self {
             Stage::Going => source.print(alloc, line, out, steps),
+            Stage::Ended => Ok(Found::End),
+            Stage::Raised(state) => Ok(Found::Raised(state)),
+        }
+    }
+}
+
+impl Stage {
+    // Finds the values of what comes next of the rows that have come so far. An end comes again, without a step.
+    fn find<'d>(
+        self,
+        alloc: Global,
+        source: &mut RowSource<'d>,
+        line: LineDoc<'d>,
+        steps: &mut Steps,
+    ) -> Result<Found, Memory>
+        requires { IsReadySource source.old }
+        ensures finds { (s : b.Bound) → IsFor s source.old → IfOk result (λ found. FindsNext (left_at self (source_left s (line_of line.entry) source.old)) found source.new.stack.values.items (source_left s (line_of line.entry) source.new)) }
+        ensures costs { (s : b.Bound) → IsFor s source.old → Spends (due_at self (source_due s (line_of line.entry) source.old)) (due_behind result (source_due s (line_of line.entry) source.new)) steps.old steps.new }
+        ensures is_for { (s : b.Bound) → IsFor s source.old → IsFor s source.new }
+        ensures ready { IsReadySource source.new }
+    {
+        match self {
+            Stage::Going => source.find(alloc, line, steps),
             Stage::Ended => Ok(Found::End),
             Stage::Raised(state) => Ok(Found::Raised(state)),
         }
@@ -268,8 +293,34 @@ impl<'d> RowsOf<'d> {
         Ok(Turn::of(found))
     }
 
+    /// Puts the values of the next row in the place of those in `values`, or tells the end and leaves none there. They are the values of which
+    /// [`RowsOf::print`] appends the text. After an end the same end comes again, without a step. What is due never grows, and the counter
+    /// rises by no more than it falls.
+    ///
+    /// The program prints rows; this is for tests and for hosts.
+    ///
+    /// # Errors
+    /// [`Memory`] where memory runs out. `values` stays as it was, and what is said of the counter holds. The rows then stand anywhere, and
+    /// are rewound before they are used again.
+    pub fn next(&mut self, values: &mut Vec<SqlValue>, steps: &mut Steps) -> Result<Turn, Memory>
+        ensures gives { IfOk result (Gives self.old self.new) }
+        ensures values { OnOk result (values.new.items ≡ next_values self.old.left) }
+        ensures printable { OnOk result (All IsPrintable values.new.items) }
+        ensures err { OnErr result (values.new ≡ values.old) }
+        ensures spends { Spends self.old.due self.new.due steps.old steps.new }
+        ensures bound { self.new.bound ≡ self.old.bound }
+        ensures line { self.new.line ≡ self.old.line }
+    {
+        // Where memory runs out, nothing is left.
+        let stage = mem::replace(&mut self.stage, Stage::Ended);
+        let found = stage.find(self.alloc, &mut self.source, self.line, steps)?;
+        hand_out(found, &mut self.source.stack, values);
+        self.stage = Stage::behind(found);
+        Ok(Turn::of(found))
+    }
+
     /// Whether it is known that no row is left and no state is raised. Of a statement without a table this is always known, so its
-    /// only row is the last that is asked for. Of a table it may be known later: where it is not, `next` tells.
+    /// only row is the last that is asked for. Of a table it may be known later: where it is not, `print` and `next` tell.
     #[inline(always)]
     pub fn is_over(&self) -> bool
         ensures over { result ≡ true → self.now.left ≡ done }

@@ -22,13 +22,13 @@ use sj_sql_grammar::IsJsonCall;
 use sj_value::{SqlValue, copy};
 use std::alloc::Global;
 
-/// Finds the values of a SELECT list for a line, beside columns with these values, in the place of those that were found before, up to
-/// the first that raises a state, which is given. The counter rises by no more than what they may take up to there.
+/// Finds the values of a SELECT list for a line, beside columns with these values, and leaves them on the stack, in the place of what
+/// was there, up to the first that raises a state, which is given. The counter rises by no more than what they may take up to there.
 ///
 /// # Errors
 /// [`Memory`] where memory runs out. What is said of the counter holds then too.
 #[inline(always)]
-pub(crate) fn find_list<'d>(
+pub fn find_list<'d>(
     alloc: Global,
     operations: &mut [Operation<'d>],
     line: LineDoc<'d>,

@@ -27,6 +27,7 @@ pub use aggregate::{
     Aggregate, ArrayCall, ObjectCall, aggregates_of, begin_all, finish_all, take_all,
 };
 pub use build::{boxed_cursor, inquiry_on, operations_of};
+pub use find::find_list;
 pub use line::LineDoc;
 pub use operation::{ExistsCall, Operation, QueryCall, ValueCall};
 pub use print::print_list;

@@ -64,6 +64,8 @@ impl Statements {
     }
 
     /// The statement of this number, counted from 0, or nothing past the end.
+    ///
+    /// The program does not call this; its tests do, and a host may.
     pub fn get(&self, i: u32) -> Option<&Statement>
         ensures { option_copied result ≡ slice_get self.now i }
     {

@@ -30,19 +30,19 @@ Holds text (Err e) = Refuses text e × (e ≡ r.Memory → ⊥)
 none_some : {A : Type 0} {a : A} → None ≡ Some a → ⊥
 none_some q = cc
 
-supported_holds : (text : List ℕ) (ts : Tokens) (p : Path) → HasTokens text ts → Spells ts p → is_misplaced p ≡ false → (o : Option Name) → unsupported p ≡ o → Holds text (if_supported o p)
+supported_holds : (text : List ℕ) (ts : Tokens) (p : Path) → HasTokens text ts → Spells ts p → is_misplaced p ≡ false → (o : Option Name) → unsupported ts ≡ o → Holds text (if_supported o p)
 supported_holds text ts p b s m None u = record { tokens = ts; breaks = b; allowed = record { spells = s; placed = m; supported = u } }
 supported_holds text ts p b s m (Some name) u = ((ts, b, (p, s, m, u)), λ q. cc)
 
-placed_holds : (text : List ℕ) (ts : Tokens) (p : Path) → HasTokens text ts → Spells ts p → (c : Bool) → is_misplaced p ≡ c → Holds text (cond c (Err r.Misplaced) (if_supported (unsupported p) p))
+placed_holds : (text : List ℕ) (ts : Tokens) (p : Path) → HasTokens text ts → Spells ts p → (c : Bool) → is_misplaced p ≡ c → Holds text (cond c (Err r.Misplaced) (if_supported (unsupported ts) p))
 placed_holds text ts p b s true m = ((ts, b, (p, s, m)), λ q. cc)
-placed_holds text ts p b s false m = supported_holds text ts p b s m (unsupported p) refl
+placed_holds text ts p b s false m = supported_holds text ts p b s m (unsupported ts) refl
 
-spelled_holds : (text : List ℕ) (ts : Tokens) → HasTokens text ts → (IsTooDeep ts → ⊥) → (o : Option Path) → path_at ts ≡ o → Holds text (if_spelled o)
+spelled_holds : (text : List ℕ) (ts : Tokens) → HasTokens text ts → (IsTooDeep ts → ⊥) → (o : Option Path) → path_at ts ≡ o → Holds text (if_spelled (unsupported ts) o)
 spelled_holds text ts b shallow None e = ((ts, b, (shallow, λ p d. none_some (sym e ∙ path_full d))), λ q. cc)
 spelled_holds text ts b shallow (Some p) e = placed_holds text ts p b (record { shallow = shallow; tree = path_sound ts p e }) (is_misplaced p) refl
 
-tokens_hold : (text : List ℕ) (ts : Tokens) → HasTokens text ts → (c : Bool) → is_too_deep ts ≡ c → Holds text (cond c (Err r.TooDeep) (if_spelled (path_at ts)))
+tokens_hold : (text : List ℕ) (ts : Tokens) → HasTokens text ts → (c : Bool) → is_too_deep ts ≡ c → Holds text (cond c (Err r.TooDeep) (if_spelled (unsupported ts) (path_at ts)))
 tokens_hold text ts b true d = ((ts, b, too_deep_found ts d), λ q. cc)
 tokens_hold text ts b false d = spelled_holds text ts b (too_deep_missed ts d) (path_at ts) refl
 

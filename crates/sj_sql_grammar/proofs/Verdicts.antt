@@ -127,6 +127,8 @@ by_path ts x kind.Lex d i h = absurd h
 by_path ts x kind.Syntax d i h = absurd h
 by_path ts x (kind.Unsupported name) d i h = absurd h
 by_path ts x (kind.Bind why) d i h = absurd h
+by_path ts x kind.Group d i h = absurd h
+by_path ts x kind.NotForward d i h = absurd h
 
 -- ---- the answer of a statement
 
@@ -214,6 +216,8 @@ shape ts (Err (kind.Unsupported name)) h =
     let l : first unsupported_of (marks x) ≡ Some name = is_first unsupported_of IsUnsupported tells_unsupported told_unsupported h.3 in
     inr (x, h.1, ap₂ (λ (o : Option FileKind) (p : Option Name). decide o p (statement_with finishing x)) (sym f) (sym l))
 shape ts (Err (kind.Bind why)) h = absurd h
+shape ts (Err kind.Group) h = absurd h
+shape ts (Err kind.NotForward) h = absurd h
 
 pub one_answer : (ts : Tokens) (a b : Result (Statement Path) FileKind) → IsAnswer ts a → IsAnswer ts b → a ≡ b
 one_answer ts a b h i = go (shape ts a h) (shape ts b i)

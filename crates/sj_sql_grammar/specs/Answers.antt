@@ -122,6 +122,8 @@ Forbids ts kind.Lex = ⊥
 Forbids ts kind.Syntax = (x : Statement PathText) → IsStatement ts x → ⊥
 Forbids ts (kind.Unsupported name) = (x : Statement PathText) × IsStatement ts x × Free IsFault (marks x) × First IsUnsupported (marks x) name
 Forbids ts (kind.Bind why) = ⊥
+Forbids ts kind.Group = ⊥
+Forbids ts kind.NotForward = ⊥
 Forbids ts of_path = (x : Statement PathText) × IsStatement ts x × First IsFault (marks x) of_path
 
 -- the answer of one statement: its tree, or why it is refused

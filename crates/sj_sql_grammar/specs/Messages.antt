@@ -5,7 +5,7 @@ use Rattle.sj_path_grammar.specs.declared.refusal.Name.TheVariants.{LikeRegex, D
 use Rattle.sj_sql_grammar.specs.declared.refusal.BindKind.{BindKind}
 use Rattle.sj_sql_grammar.specs.declared.refusal.BindKind.TheVariants.{TooMany, ColumnTwice, PathNameTwice, PathNameMissing, PlanMismatch, VariableTwice, UnknownVariable, QuotesWithWrapper, DefaultCast, UnknownColumn, AggregateMixed, KeyType}
 use Rattle.sj_sql_grammar.specs.declared.refusal.FileKind.{FileKind}
-use Rattle.sj_sql_grammar.specs.declared.refusal.FileKind.TheVariants.{Lex, Syntax, PathLex, PathTooDeep, PathSyntax, PathMisplaced, Unsupported, Bind}
+use Rattle.sj_sql_grammar.specs.declared.refusal.FileKind.TheVariants.{Lex, Syntax, PathLex, PathTooDeep, PathSyntax, PathMisplaced, Unsupported, Bind, Group, NotForward}
 
 abbrev pub name_text : Name → List ℕ
 name_text LikeRegex = codes "unsupported like_regex"
@@ -38,3 +38,5 @@ kind_text PathSyntax = codes "path: syntax error"
 kind_text PathMisplaced = codes "path: misplaced @ or last"
 kind_text (Unsupported name) = name_text name
 kind_text (Bind why) = bind_text why
+kind_text Group = codes "not a statement to group"
+kind_text NotForward = codes "path is not forward"

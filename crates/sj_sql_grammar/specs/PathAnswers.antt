@@ -16,13 +16,13 @@ abbrev pub if_supported : Option Name → Path → Result Path PathRefusal
 if_supported None p = Ok p
 if_supported (Some name) p = Err (r.Unsupported name)
 
-abbrev pub if_spelled : Option Path → Result Path PathRefusal
-if_spelled None = Err r.Syntax
-if_spelled (Some p) = cond (is_misplaced p) (Err r.Misplaced) (if_supported (unsupported p) p)
+abbrev pub if_spelled : Option Name → Option Path → Result Path PathRefusal
+if_spelled lacks None = Err r.Syntax
+if_spelled lacks (Some p) = cond (is_misplaced p) (Err r.Misplaced) (if_supported lacks p)
 
 abbrev pub of_tokens : Option Tokens → Result Path PathRefusal
 of_tokens None = Err r.Lex
-of_tokens (Some ts) = cond (is_too_deep ts) (Err r.TooDeep) (if_spelled (path_at ts))
+of_tokens (Some ts) = cond (is_too_deep ts) (Err r.TooDeep) (if_spelled (unsupported ts) (path_at ts))
 
 -- the path of a text, or the first refusal in the order of sj_path_grammar
 unfoldable pub path_answer : List ℕ → Result Path PathRefusal

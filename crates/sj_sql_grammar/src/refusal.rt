@@ -58,7 +58,8 @@ impl BindKind {
     }
 }
 
-/// Why a statement is refused: the first that holds, in this order.
+/// Why a statement is refused: the first that holds, in this order. Reading and binding a file give all but the last two, which
+/// are of commands that ask for more than a file that is accepted.
 #[derive(Clone, Copy, Debug, PartialEq, Eq, Error)]
 #[error("{}", self.message())]
 pub enum FileKind {
@@ -78,6 +79,10 @@ pub enum FileKind {
     Unsupported(Name),
     /// The statement has a tree, and does not fit together.
     Bind(BindKind),
+    /// The file is accepted, and is not the one statement that grouping asks for.
+    Group,
+    /// The path is accepted, and is not one whose items can be told while its text comes.
+    NotForward,
 }
 
 impl FileKind {
@@ -94,6 +99,8 @@ impl FileKind {
             FileKind::PathMisplaced => "path: misplaced @ or last",
             FileKind::Unsupported(name) => unsupported(name),
             FileKind::Bind(why) => why.message(),
+            FileKind::Group => "not a statement to group",
+            FileKind::NotForward => "path is not forward",
         }
     }
 }

@@ -86,3 +86,23 @@ fn tables_have_the_plan_of_their_text(rt: HostRuntime) -> Result<(), Fail> {
     }
     Ok(())
 }
+
+#[test]
+fn rows_are_as_wide_as_their_list(rt: HostRuntime) -> Result<(), Fail> {
+    for (file, want) in [
+        ("SELECT 1;", 1),
+        ("SELECT JSON_VALUE(doc, '$.a'), JSON_ARRAY(1, 2), NULL;", 3),
+        (
+            "SELECT a, *, 7 FROM JSON_TABLE(doc, '$' COLUMNS (a INT, b INT, c INT));",
+            5,
+        ),
+        (
+            "SELECT JSON_ARRAYAGG(a) FROM JSON_TABLE(doc, '$' COLUMNS (a INT, b INT));",
+            1,
+        ),
+    ] {
+        let bound = bound(rt.alloc(), file)?;
+        assert!(rt; bound.width() == want, "{file}");
+    }
+    Ok(())
+}

@@ -7,7 +7,7 @@ mod trees;
 use sj_path::Literal;
 use sj_sql::{
     FileFault, FileKind, NextStatement, Refused, SMembers, SValue, SValues, Seq, Statement,
-    next_statement, parse_file,
+    Statements, next_statement, parse_file,
 };
 use std::alloc::Global;
 use std::test::Fail;
@@ -70,13 +70,14 @@ fn statements_are_taken_in_their_order(rt: HostRuntime) -> Result<(), Fail> {
 fn a_file_is_read_whole(rt: HostRuntime) -> Result<(), Fail> {
     let file = "SELECT 1; SELECT * FROM JSON_TABLE(doc, '$' COLUMNS (a INT)); SELECT a";
     let mut script = parse_file(rt.alloc(), file.as_bytes()).map_err(|_| "memory")?;
-    assert!(rt; script.statements.len() == 2);
-    assert!(rt; matches!(script.statements.get(1), Some(Statement::All(_))));
-    assert!(rt; script.statements.get(2).is_none());
-    assert!(rt; matches!(script.statements.take_first(), Some(Statement::Plain(_))));
-    assert!(rt; script.statements.len() == 1);
-    assert!(rt; matches!(script.statements.take_first(), Some(Statement::All(_))));
-    assert!(rt; script.statements.take_first().is_none());
+    let statements: &mut Statements = &mut script.statements;
+    assert!(rt; statements.len() == 2);
+    assert!(rt; matches!(statements.get(1), Some(Statement::All(_))));
+    assert!(rt; statements.get(2).is_none());
+    assert!(rt; matches!(statements.take_first(), Some(Statement::Plain(_))));
+    assert!(rt; statements.len() == 1);
+    assert!(rt; matches!(statements.take_first(), Some(Statement::All(_))));
+    assert!(rt; statements.take_first().is_none());
     let fault = FileFault {
         statement: 3,
         kind: FileKind::Syntax,

@@ -1,7 +1,7 @@
 //! Whether two statements have one tree. It goes through both trees side by side.
 
 use sj_base::Text;
-use sj_path::{Expr, Initial, Literal, Path, Pred, Step, Sub, Subs};
+use sj_path::{Expr, Initial, Literal, Path, Pred, Step, Sub};
 use sj_sql::{
     Column, Columns, Common, ExistsCall, FormattedColumn, NamedPlan, PlanTree, QueryCall,
     RegularColumn, SMembers, SValue, SValues, Statement, TItem, TMembers, TValue, TValues, Table,
@@ -73,11 +73,13 @@ fn same_sub(a: &Sub, b: &Sub) -> bool {
 }
 
 #[cycle(same_paths)]
-fn same_subs(a: &Subs, b: &Subs) -> bool {
-    match a {
-        Subs::Only(a) => matches!(b, Subs::Only(b) if same_sub(a, b)),
-        Subs::More(a, c) => matches!(b, Subs::More(b, d) if same_sub(a, b) && same_subs(c, d)),
+fn same_subs(a: &[Sub], b: &[Sub]) -> bool {
+    for (a, b) in a.iter().zip(b.iter()) {
+        if !same_sub(a, b) {
+            return false;
+        }
     }
+    a.len() == b.len()
 }
 
 #[cycle(same_paths)]

@@ -7,7 +7,7 @@ use Rattle.sj_cursor.proofs.ItemAnswers.{no_end, no_item}
 use Rattle.sj_cursor.proofs.Looks.{looking_from, looking_on, looking_enough, looking_end, looking_fault, exists_decides, single_answer, single_price, end_answer, end_price}
 use Rattle.sj_cursor.proofs.Pairs.{pairing_from, pairing_item, pairing_stop, pairing_end, pairing_fault, pairings_from, pairings_item, pairings_stop, pairings_end, pairings_fault}
 use Rattle.sj_cursor.proofs.ComparisonVerdicts.{compare_early, compare_all, right_decides}
-use Rattle.sj_cursor.proofs.Operators.{as_it_is, sub_some, subs_some}
+use Rattle.sj_cursor.proofs.Operators.{as_it_is, sub_some}
 use Rattle.sj_cursor.proofs.Parts.{element_goes, range_bad, range_goes, binary_bad, binary_stops, binary_goes}
 use Rattle.sj_cursor.proofs.MadeNumbers.{operand_made, operand_price}
 use Rattle.sj_cursor.proofs.Trails.{leads_draws}
@@ -297,9 +297,6 @@ Binary::number-returns-in-Err-clause-gives t c = binary_bad _ _ _ _ _ _ _ c.in-E
 pub Binary::next-returns-in-Unasked-clause-answers : goal.Binary::next-returns-in-Unasked-clause-answers
 Binary::next-returns-in-Unasked-clause-answers t c =
     rw c.in-Unasked.is (leads_draws _ _ _ _ _ _ _ c.number.ensures.gives (draws_takes _ _ _ _ _ (rw c.number_walk-walk.ensures at c.put_next-answer.ensures)))
-
-pub MoreParts::next-next-requires : goal.MoreParts::next-next-requires
-MoreParts::next-next-requires t c = (omega (arith, subs_some (parts_core c.args.self.now.others.value)), search rules)
 
 pub MoreParts::next-next-requires-in-End : goal.MoreParts::next-next-requires-in-End
 MoreParts::next-next-requires-in-End t c = rw c.deref_mut.ensures.value (omega (arith, sub_some (bounds_core c.args.self.now.first.bounds)), search rules)

@@ -57,16 +57,16 @@ abbrev pub decreases-Filter::begin : goal.decreases-Filter::begin
 decreases-Filter::begin l = 16 * pred_nodes (filter_core l.self.now) + 12
 
 abbrev pub decreases-Elements::begin : goal.decreases-Elements::begin
-decreases-Elements::begin l = 16 * subs_nodes (elements_core l.self.now) + 11
+decreases-Elements::begin l = 16 * subs_nodes (elements_core l.self.now) + 13
 
 abbrev pub decreases-Elements::next : goal.decreases-Elements::next
-decreases-Elements::next l = 16 * subs_nodes (elements_core l.self.now) + 10
+decreases-Elements::next l = 16 * subs_nodes (elements_core l.self.now) + 12
 
 abbrev pub decreases-Parts::next : goal.decreases-Parts::next
-decreases-Parts::next l = 16 * subs_nodes (parts_core l.self.now) + 9
+decreases-Parts::next l = 16 * subs_nodes (parts_core l.self.now) + 11
 
 abbrev pub decreases-MoreParts::next : goal.decreases-MoreParts::next
-decreases-MoreParts::next l = 16 * subs_nodes (more_core l.self.now) + 8
+decreases-MoreParts::next l = 16 * subs_nodes (more_core l.self.now) + 10
 
 abbrev pub decreases-Part::next : goal.decreases-Part::next
 decreases-Part::next l = 16 * sub_nodes (part_core l.self.now) + 8

@@ -1,9 +1,7 @@
-use Rattle.std.proofs.Common.{◌≡◌, false, sym, ap, subst, ◌∙◌}
+use Rattle.std.proofs.Common.{◌≡◌, sym, subst, ◌∙◌}
 use Rattle.sj_base.specs.Gives.{Fails}
-use Rattle.sj_path_grammar.specs.Misplaced.{misplaced_expr}
 use Rattle.sj_path_grammar.specs.Reading.{path_at}
-use Rattle.sj_path_grammar.proofs.Paths.{unread, spelled, finishes}
-use Rattle.sj_path.specs.Raw as raw
+use Rattle.sj_path_grammar.proofs.Paths.{unread, spelled}
 use Rattle.sj_path_tree.specs.View.{path_of}
 use Rattle.sj_path.proofs.parse.parse_tokens.Goals as goal
 
@@ -12,11 +10,15 @@ returns-in-Err-Syntax c = unread c.args.tokens.now (c.is_too_deep.ensures.no c.i
 
 pub returns-then-misplaced_expr : goal.returns-then-misplaced_expr
 returns-then-misplaced_expr c =
-    let boxed : c.in-Ok.path.expr.value ≡ c.deref.result.now = cc in
-    (raw.path_of c.in-Ok.path, spelled _ _ (c.is_too_deep.ensures.no c.if-is_too_deep.false) c.in-Ok.ensures, ap (λ e. misplaced_expr (raw.expr_of e) false false) boxed ∙ (sym c.misplaced_expr.ensures ∙ c.if-misplaced_expr.true))
+    (path_of c.in-Ok.path, spelled _ _ (c.is_too_deep.ensures.no c.if-is_too_deep.false) c.in-Ok.ensures, sym c.misplaced_expr.ensures ∙ c.if-misplaced_expr.true)
 
-pub returns : goal.returns
-returns c =
-    let boxed : c.in-Ok.path.expr.value ≡ c.deref.result.now = cc in
-    finishes path_of c.args.tokens.now (raw.path_of c.in-Ok.path) c.finished.result
-    (spelled _ _ (c.is_too_deep.ensures.no c.if-is_too_deep.false) c.in-Ok.ensures) (ap (λ e. misplaced_expr (raw.expr_of e) false false) boxed ∙ (sym c.misplaced_expr.ensures ∙ c.if-misplaced_expr.false)) c.finished.ensures
+pub returns-in-Some : goal.returns-in-Some
+returns-in-Some c =
+    (path_of c.in-Ok.path, spelled _ _ (c.is_too_deep.ensures.no c.if-is_too_deep.false) c.in-Ok.ensures, sym c.misplaced_expr.ensures ∙ c.if-misplaced_expr.false, sym c.unsupported.ensures ∙ c.in-Some.is)
+
+pub returns-in-None : goal.returns-in-None
+returns-in-None c = record {
+  spells = spelled _ _ (c.is_too_deep.ensures.no c.if-is_too_deep.false) c.in-Ok.ensures;
+  placed = sym c.misplaced_expr.ensures ∙ c.if-misplaced_expr.false;
+  supported = sym c.unsupported.ensures ∙ c.in-None.is;
+}

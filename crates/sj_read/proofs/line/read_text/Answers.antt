@@ -22,10 +22,16 @@ loop-at-init c =
       same = ap (λ (s : State). run MAX_DEPTH value s (held text)) state ∙ held_reading MAX_DEPTH text;
     }
 
-pub turn-requires-clause-within : goal.turn-requires-clause-within
-turn-requires-clause-within c =
+pub turn-requires : goal.turn-requires
+turn-requires c =
     let long = ap length c.loop-at.invariant.line ∙ held_length c.args.text.now in
-    (omega (arith, long, c.loop-at-test.true), omega (arith, long, c.requires.short))
+    record {
+      poised = record {
+        within = (omega (arith, long, c.loop-at-test.true), omega (arith, long, c.requires.short));
+        ready = c.loop-at.invariant.ready;
+        room = c.loop-at.invariant.room;
+      };
+    }
 
 pub returns-in-Nothing : goal.returns-in-Nothing
 returns-in-Nothing c =

@@ -1,5 +1,5 @@
 use Rattle.std.proofs.Common.{None}
-use Rattle.sj_run.specs.Input.{input_at}
+use Rattle.sj_stream.specs.Input.{input_at}
 use Rattle.sj_run.proofs.Ending.{not_usage}
 use Rattle.sj_run.proofs.command.answer.Goals as goal
 

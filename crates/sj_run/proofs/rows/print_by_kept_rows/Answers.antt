@@ -18,7 +18,7 @@ pub returns-clause-costs : goal.returns-clause-costs
 returns-clause-costs g c =
     let K : List Bound = bounds_in c.args.kept.now.rows.items in
     let same : bounds_in c.as_mut_slice.result.now ≡ K = ap bounds_in (c.as_mut_slice.ensures.value ∙ c.place-placed.ensures.rows) in
-    subst (λ (n : ℕ). c.print_each.new.steps ≤ raised c.args.steps.now n) (ap (λ (b : List Bound). cost (batch_asked b c.place-placed.result.now)) same ∙ ap (λ (l : List ReadLine). cost (batch_asked K l)) c.place-placed.ensures.placed) c.print_each.ensures.costs
+    subst (λ (n : ℕ). c.print_each.new.steps ≤ raised c.args.out.now.steps.now n) (ap (λ (b : List Bound). cost (batch_asked b c.place-placed.result.now)) same ∙ ap (λ (l : List ReadLine). cost (batch_asked K l)) c.place-placed.ensures.placed) c.print_each.ensures.costs
 
 pub returns-clause-bounds : goal.returns-clause-bounds
 returns-clause-bounds g c =

@@ -15,4 +15,4 @@ returns-in-Ok-clause-prints g c =
 pub returns-in-Ok-clause-costs : goal.returns-in-Ok-clause-costs
 returns-in-Ok-clause-costs g c =
     let same : bounds_in c.as_mut_slice.result.now ≡ (job_of c.args.job.now).statements = ap bounds_in c.as_mut_slice.ensures.value ∙ c.in-Ok.ensures ∙ search rules in
-    subst (λ (b : List Bound). c.print_each.new.steps ≤ raised c.args.steps.now (cost (batch_asked b c.args.lines.now))) same c.print_each.ensures.costs
+    subst (λ (b : List Bound). c.print_each.new.steps ≤ raised c.args.out.now.steps.now (cost (batch_asked b c.args.lines.now))) same c.print_each.ensures.costs

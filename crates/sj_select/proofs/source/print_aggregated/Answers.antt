@@ -1,23 +1,12 @@
-use Rattle.std.proofs.Common.{List, [], ◌++◌, map, sym, ap, ◌∙◌}
+use Rattle.std.proofs.Common.{List, ◌++◌, ap, ◌∙◌}
 use Rattle.std.specs.List.{flat_map}
 use Rattle.sj_value.specs.declared.value.SqlValue.{SqlValue}
 use Rattle.sj_rows.specs.RowText.{tabbed}
-use Rattle.sj_bound.specs.View.{table_of}
-use Rattle.sj_select_list.specs.Line.{line_of}
-use Rattle.sj_select_list.specs.Taking.{aggregate_of}
-use Rattle.sj_select.specs.Rows.{one_row, aggregated}
-use Rattle.sj_select.specs.Sources.{HasTakenRows}
-use Rattle.sj_select.specs.Tables.{plan_left}
 use Rattle.sj_select.proofs.source.print_aggregated.Goals as goal
 
 pub returns-clause-prints : goal.returns-clause-prints
-returns-clause-prints c _ =
-    let line = line_of c.args.line in
-    let table = table_of c.args.table.now.table.now in
-    let left = plan_left c.args.table.now in
-    let took : HasTakenRows (aggregated line table (map aggregate_of c.begin_all.new.all) [] left) line c.take_rows.new.aggregates = rw c.in_default.is at c.in_ok-state.ensures.takes in
-    record {
-      row = c.finish_all.new.values.items;
-      is = ap (λ l. aggregated line table l [] left) (sym c.begin_all.ensures.calls) ∙ took.left ∙ ap one_row (c.in_ok-finish_all.ensures.values line took.rows took.taken);
-      grown = c.in_ok-fields_text.ensures.ok ∙ ap (λ (l : List SqlValue). c.args.out.now ++ flat_map tabbed l) c.as_slice.ensures.value;
-    }
+returns-clause-prints c _ = record {
+  row = c.gather_aggregates.new.stack.values.items;
+  is = rw c.in_default.is at c.in_ok-state.ensures.finds;
+  grown = c.in_ok-fields_text.ensures.ok ∙ ap (λ (l : List SqlValue). c.args.out.now ++ flat_map tabbed l) c.as_slice.ensures.value;
+}

@@ -1,5 +1,5 @@
 use Rattle.sj_path_grammar.specs.Reading.{expr_or_pred_at}
-use Rattle.sj_path.specs.Raw.{expr_of, step_of}
+use Rattle.sj_path_tree.specs.View.{expr_of, step_of}
 use Rattle.sj_path.proofs.LevelTurns.{access_turn}
 use Rattle.sj_path.proofs.level.Level.access_from.Goals as goal
 

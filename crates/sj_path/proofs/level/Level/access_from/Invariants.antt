@@ -1,6 +1,6 @@
 use Rattle.std.proofs.Common.{◌≡◌, ◌-◌, length}
 use Rattle.sj_path_grammar.specs.Reading.{expr_or_pred_at, access_from}
-use Rattle.sj_path.specs.Raw.{expr_of}
+use Rattle.sj_path_tree.specs.View.{expr_of}
 use Rattle.sj_path.proofs.level.Level.access_from.Given as goal
 
 abbrev pub invariant-loop-turn : goal.invariant-loop-turn

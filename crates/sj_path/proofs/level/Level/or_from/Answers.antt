@@ -1,5 +1,5 @@
 use Rattle.sj_path_grammar.specs.Reading.{expr_or_pred_at}
-use Rattle.sj_path.specs.Raw.{pred_of}
+use Rattle.sj_path_tree.specs.View.{pred_of}
 use Rattle.sj_path.proofs.LevelTurns.{or_turn}
 use Rattle.sj_path.proofs.level.Level.or_from.Goals as goal
 

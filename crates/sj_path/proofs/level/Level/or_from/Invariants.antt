@@ -1,6 +1,6 @@
 use Rattle.std.proofs.Common.{◌≡◌, ◌-◌, length}
 use Rattle.sj_path_grammar.specs.Reading.{expr_or_pred_at, or_from}
-use Rattle.sj_path.specs.Raw.{pred_of}
+use Rattle.sj_path_tree.specs.View.{pred_of}
 use Rattle.sj_path.proofs.level.Level.or_from.Given as goal
 
 abbrev pub invariant-loop-turn : goal.invariant-loop-turn

@@ -1,5 +1,5 @@
 use Rattle.sj_path_grammar.specs.Reading.{expr_or_pred_at}
-use Rattle.sj_path.specs.Raw.{expr_of}
+use Rattle.sj_path_tree.specs.View.{expr_of}
 use Rattle.sj_path.proofs.LevelTurns.{product_turn}
 use Rattle.sj_path.proofs.level.Level.product_from.Goals as goal
 

@@ -1,0 +1,8 @@
+use Rattle.std.proofs.Common.{◌≡◌, drop}
+use Rattle.std.specs.List.{list_all}
+use Rattle.sj_path_tree.specs.Vars as spec
+use Rattle.sj_path_tree.specs.View.{subs_of}
+use Rattle.sj_path_tree.proofs.vars.+covers.Given as goal
+
+abbrev pub invariant-covers_subs-loop-sub : goal.invariant-covers_subs-loop-sub
+invariant-covers_subs-loop-sub l = list_all (spec.has_name l.vars) (spec.subs_names (subs_of (drop l.sub-index l.subs))) ≡ list_all (spec.has_name l.vars) (spec.subs_names (subs_of l.subs))

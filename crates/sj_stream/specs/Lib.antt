@@ -1,0 +1,5 @@
+pub mod LineJob
+pub mod Input
+pub mod Out
+pub mod Stream
+pub mod Splitting
