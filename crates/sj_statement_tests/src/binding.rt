@@ -93,8 +93,12 @@ fn rows_are_as_wide_as_their_list(rt: HostRuntime) -> Result<(), Fail> {
         ("SELECT 1;", 1),
         ("SELECT JSON_VALUE(doc, '$.a'), JSON_ARRAY(1, 2), NULL;", 3),
         (
-            "SELECT a, *, 7 FROM JSON_TABLE(doc, '$' COLUMNS (a INT, b INT, c INT));",
-            5,
+            "SELECT * FROM JSON_TABLE(doc, '$' COLUMNS (a INT, b INT, c INT));",
+            3,
+        ),
+        (
+            "SELECT c, 7, c, a FROM JSON_TABLE(doc, '$' COLUMNS (a INT, b INT, c INT));",
+            4,
         ),
         (
             "SELECT JSON_ARRAYAGG(a) FROM JSON_TABLE(doc, '$' COLUMNS (a INT, b INT));",
