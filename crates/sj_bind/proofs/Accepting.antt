@@ -30,6 +30,7 @@ use Rattle.sj_bind.specs.Leaves.{leaves_in, leaves}
 use Rattle.sj_bind.specs.Parts.{Call, exists_call, value_call, query_call, calls_in, calls_in_values, calls_in_members, calls_in_list}
 use Rattle.sj_bind.specs.Bindable.{IsRead, IsBindableCall, IsBindableColumn, IsBindableTable, IsBindable}
 use Rattle.sj_bind.proofs.LeafLists.{leaves_of_columns}
+use Rattle.sj_bind.proofs.SourceParts.{plain_lacks, items_ask_nothing}
 
 -- ---- the types that the rules give
 
@@ -249,11 +250,10 @@ table_bindable {x = x} i ms d =
 
 -- ---- statements
 
--- Beside a table no function stands in the list, so nothing is asked of its items.
 pub select_bindable : {ts : Tokens} {x : Statement PathText} → IsSelect ts x → Free IsUnsupported (marks x) → IsBindable (statement_with finishing x)
-select_bindable (g.plain select i) d = (plain_bindable i [] d).1
+select_bindable (g.plain select i) d = ((plain_bindable i [] d).1, plain_lacks i)
 select_bindable (g.all select star from i) d = table_bindable i [] d
-select_bindable (g.listed {xs = xs} select items from i) d = table_bindable i (note_items listing xs []) d
+select_bindable (g.listed {xs = xs} select items from i) d = (table_bindable i (note_items listing xs []) d, items_ask_nothing items)
 
 pub accepted_bindable : (ts : Tokens) (s : Statement Path) → Accepted ts s → IsBindable s
 accepted_bindable ts s a = subst IsBindable (sym a.2) (select_bindable a.1.tree.select a.1.supported)

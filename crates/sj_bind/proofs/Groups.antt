@@ -5,8 +5,8 @@ use Rattle.sj_path_tree.specs.Tree.{Path}
 use Rattle.sj_sql_grammar.specs.declared.refusal.BindKind.{BindKind}
 use Rattle.sj_sql_grammar.specs.declared.refusal.BindKind.TheVariants.{TooMany, ColumnTwice, PathNameTwice, PathNameMissing, PlanMismatch, VariableTwice, UnknownVariable, QuotesWithWrapper, DefaultCast, KeyType}
 use Rattle.sj_sql_grammar.specs.Tree.{Value, Lit, Column, Exists, ValueOf, Query, IsJson, Object, Array, Item, Table, Plain, All, Listed}
-use Rattle.sj_sql_tree.specs.declared.tree.SValue.{SValue}
-use Rattle.sj_sql_tree.specs.declared.tree.TItem.{TItem}
+use Rattle.sj_sql_tree.specs.declared.tree.Value.{Value as ParsedValue}
+use Rattle.sj_sql_tree.specs.declared.tree.Item.{Item as ParsedItem}
 use Rattle.sj_sql_tree.specs.View.{plain_of, items_of}
 use Rattle.sj_bound.specs.Limits.{most_items}
 use Rattle.sj_bind.specs.Faults.{either, calls_fault, names_fault, columns_fault, items_fault}
@@ -17,11 +17,11 @@ use Rattle.sj_bind.specs.Variables.{HaveSame}
 use Rattle.sj_bind.proofs.Lists.{any_alike}
 use Rattle.sj_bind.specs.Tables.{has_too_many, has_column_twice, has_path_name_twice, lacks_path_name}
 
-pub length-plain_of : (xs : List SValue) → length (plain_of xs) ≡ length xs
+pub length-plain_of : (xs : List ParsedValue) → length (plain_of xs) ≡ length xs
 length-plain_of [] = refl
 length-plain_of (x ∷ xs) = ap (λ n. suc n) (length-plain_of xs)
 
-pub length-items_of : (xs : List TItem) → length (items_of xs) ≡ length xs
+pub length-items_of : (xs : List ParsedItem) → length (items_of xs) ≡ length xs
 length-items_of [] = refl
 length-items_of (x ∷ xs) = ap (λ n. suc n) (length-items_of xs)
 

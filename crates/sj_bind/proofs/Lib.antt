@@ -2,9 +2,12 @@
 pub mod AddedNames
 -- for `accepted_statements_are_bindable`, for crates above, and for other lemmas
 pub mod Accepting
--- for `bind_members`, `bind_row_members`, `bind_row_value`, `bind_row_values`, `bind_value`, `bind_values`,
--- `chain_members` and `chain_values`
-pub mod LinkedCells
+-- for the lemmas of `Accepting`
+pub mod SourceParts
+-- for `bind_members` and `bind_values`
+pub mod BoundLists
+-- for `bind_value`, `find_parts` and `with_value`
+pub mod Constructed
 -- for `bind_all`, `bind_listed` and `bind_plain`, and for other lemmas
 pub mod UnbrokenRules
 -- for the lemmas of `PlansOver`

@@ -1,13 +1,13 @@
 -- Lists of bound items, which grow by one.
 use Rattle.std.proofs.Common.{◌≡◌, ℕ, ◌+◌, List, [], ◌∷◌, ◌++◌, length, refl, sym, ap, subst, ◌∙◌, append_assoc, add-one, length-append, arith}
-use Rattle.sj_sql_tree.specs.declared.tree.SValue.{SValue}
-use Rattle.sj_sql_tree.specs.declared.tree.TItem.{TItem}
+use Rattle.sj_sql_tree.specs.declared.tree.Value.{Value as ParsedValue}
+use Rattle.sj_sql_tree.specs.declared.tree.Item.{Item as ParsedItem}
 use Rattle.sj_sql_tree.specs.View as sql
 use Rattle.sj_bound.specs.Bound as b
 use Rattle.sj_bound.specs.declared.bound.BoundItem.{BoundItem}
 use Rattle.sj_bound.specs.declared.bound.BoundItem.TheVariants as i
 use Rattle.sj_bound.specs.declared.bound.BoundValue.{Column}
-use Rattle.sj_bind.specs.Fits.{AreListFit, AreItemsNamed}
+use Rattle.sj_bind.specs.Fits.{AreListFit, AreItemsFit}
 use Rattle.sj_bind.specs.Meaning.{bound_value, bound_item, bound_list, bound_items, columns_below}
 use Rattle.sj_bound.specs.View.{item_of, items_of}
 
@@ -23,30 +23,30 @@ grown : (items after : List BoundItem) (x : BoundItem) (others : List b.Item) �
 grown items after x others e = ap (λ z. items_of z ++ others) e ∙ ap (λ z. z ++ others) (items_of-push items x) ∙ append_assoc (items_of items) (item_of x ∷ []) others
 
 -- one value more is bound
-pub value_step : (items after : List BoundItem) (x : BoundItem) (value : SValue) (left rest : List SValue) (n : ℕ) (all : List b.Item) → left ≡ value ∷ rest → after ≡ items ++ x ∷ []
-    → item_of x ≡ b.Single (bound_value [] (sql.svalue_of value)) → AreListFit (sql.plain_of left) → length items + length left ≡ n → items_of items ++ bound_list (sql.plain_of left) ≡ all
+pub value_step : (items after : List BoundItem) (x : BoundItem) (value : ParsedValue) (left rest : List ParsedValue) (n : ℕ) (all : List b.Item) → left ≡ value ∷ rest → after ≡ items ++ x ∷ []
+    → item_of x ≡ b.Single (bound_value [] (sql.value_of value)) → AreListFit (sql.plain_of left) → length items + length left ≡ n → items_of items ++ bound_list (sql.plain_of left) ≡ all
     → AreListFit (sql.plain_of rest) × (length after + length rest ≡ n) × (items_of after ++ bound_list (sql.plain_of rest) ≡ all)
 value_step items after x value left rest n all e1 e2 e3 fit few h =
-    let fits = subst (λ (vs : List SValue). AreListFit (sql.plain_of vs)) e1 fit in (
+    let fits = subst (λ (vs : List ParsedValue). AreListFit (sql.plain_of vs)) e1 fit in (
       fits.1,
       one_more items after x value left rest n e1 e2 few,
       grown items after x (bound_list (sql.plain_of rest)) e2
           ∙ ap (λ y. items_of items ++ y ∷ bound_list (sql.plain_of rest)) e3
-          ∙ ap (λ (vs : List SValue). items_of items ++ bound_list (sql.plain_of vs)) (sym e1)
+          ∙ ap (λ (vs : List ParsedValue). items_of items ++ bound_list (sql.plain_of vs)) (sym e1)
           ∙ h,
     )
 
 -- one item more is bound
-pub item_step : (names : List (List ℕ)) (items after : List BoundItem) (x : BoundItem) (item : TItem) (left rest : List TItem) (n : ℕ) (all : List b.Item) → left ≡ item ∷ rest → after ≡ items ++ x ∷ []
-    → item_of x ≡ bound_item names (sql.item_of item) → AreItemsNamed names (sql.items_of left) → length items + length left ≡ n → items_of items ++ bound_items names (sql.items_of left) ≡ all
-    → AreItemsNamed names (sql.items_of rest) × (length after + length rest ≡ n) × (items_of after ++ bound_items names (sql.items_of rest) ≡ all)
+pub item_step : (names : List (List ℕ)) (items after : List BoundItem) (x : BoundItem) (item : ParsedItem) (left rest : List ParsedItem) (n : ℕ) (all : List b.Item) → left ≡ item ∷ rest → after ≡ items ++ x ∷ []
+    → item_of x ≡ bound_item names (sql.item_of item) → AreItemsFit names (sql.items_of left) → length items + length left ≡ n → items_of items ++ bound_items names (sql.items_of left) ≡ all
+    → AreItemsFit names (sql.items_of rest) × (length after + length rest ≡ n) × (items_of after ++ bound_items names (sql.items_of rest) ≡ all)
 item_step names items after x item left rest n all e1 e2 e3 named few h =
-    let known = subst (λ (vs : List TItem). AreItemsNamed names (sql.items_of vs)) e1 named in (
+    let known = subst (λ (vs : List ParsedItem). AreItemsFit names (sql.items_of vs)) e1 named in (
       known.1,
       one_more items after x item left rest n e1 e2 few,
       grown items after x (bound_items names (sql.items_of rest)) e2
           ∙ ap (λ y. items_of items ++ y ∷ bound_items names (sql.items_of rest)) e3
-          ∙ ap (λ (vs : List TItem). items_of items ++ bound_items names (sql.items_of vs)) (sym e1)
+          ∙ ap (λ (vs : List ParsedItem). items_of items ++ bound_items names (sql.items_of vs)) (sym e1)
           ∙ h,
     )
 

@@ -1,19 +1,19 @@
 -- A statement that breaks no rule keeps each.
 use Rattle.std.proofs.Common.{◌≡◌, ℕ, ◌≤◌, Bool, true, false, ◌||◌, nat_lt, if◌then◌else◌, List, length, Option, Some, None, refl, sym, ◌∙◌, arith}
-use Rattle.std.specs.List.{list_any}
+use Rattle.std.specs.List.{All as Each, list_any}
 use Rattle.std.proofs.lemmas.Bool.Decides.{nat_tests}
 use Rattle.sj_path_tree.specs.Tree.{Path}
 use Rattle.sj_sql_grammar.specs.declared.refusal.BindKind.{BindKind}
 use Rattle.sj_sql_grammar.specs.Tree.{Value, Item, Table, Plain, All, Listed}
 use Rattle.sj_bound.specs.Limits.{most_items, most_columns}
 use Rattle.sj_bind.specs.Faults.{either, calls_fault, names_fault, columns_fault, items_fault}
-use Rattle.sj_bind.specs.Fits.{AreListFit, AreItemsNamed}
+use Rattle.sj_bind.specs.Fits.{AreListFit, AreItemsFit}
 use Rattle.sj_bind.specs.Parts.{calls_in_list}
 use Rattle.sj_bind.specs.Plans.{has_plan_mismatch}
 use Rattle.sj_bind.specs.Rules.{bind_fault, call_passes_twice, call_lacks_variable, call_quotes_clash, call_default_fails, passes_twice, table_lacks_variable, column_quotes_clash, column_default_fails, all_columns, unknown_column, aggregate_mixed, key_type}
-use Rattle.sj_bind.specs.Bindable.{IsBindable}
+use Rattle.sj_bind.specs.Bindable.{IsBindable, AsksNothing}
 use Rattle.sj_bind.specs.Tables.{column_names, has_too_many, has_column_twice, has_path_name_twice, lacks_path_name}
-use Rattle.sj_bind.proofs.BindableValues.{AreKept, kept_calls, fit_list, items_are_named}
+use Rattle.sj_bind.proofs.BindableValues.{AreKept, kept_calls, fit_list, fit_items}
 use Rattle.sj_bind.proofs.Lists.{neither}
 use Rattle.sj_bind.proofs.Groups.{plain_groups, all_groups, listed_groups}
 
@@ -43,8 +43,8 @@ clean_plain xs bindable h =
     let lacks = stop_none (list_any call_lacks_variable (calls_in_list xs)) _ _ twice.1 in
     let clash = stop_none (list_any call_quotes_clash (calls_in_list xs)) _ _ lacks.1 in
     let casts = stop_none (list_any call_default_fails (calls_in_list xs)) _ _ clash.1 in
-    let kept = kept_calls (calls_in_list xs) bindable twice.0 lacks.0 casts.0 in
-    record { few = not_over most_items (length xs) a.0; fit = fit_list xs kept; kept = kept; keys = (stop_none (key_type (Plain xs)) _ _ b.1).0 }
+    let kept = kept_calls (calls_in_list xs) bindable.0 twice.0 lacks.0 casts.0 in
+    record { few = not_over most_items (length xs) a.0; fit = fit_list xs kept bindable.1; kept = kept; keys = (stop_none (key_type (Plain xs)) _ _ b.1).0 }
 
 pub record IsCleanTable (t : Table Path) : Type 0 where
   pub few : has_too_many t ≡ false
@@ -75,21 +75,21 @@ clean_all t h =
 
 pub record IsCleanList (xs : List (Item Path)) (t : Table Path) : Type 0 where
   pub few : length xs ≤ most_items
-  pub named : AreItemsNamed (column_names t) xs
+  pub fit : AreItemsFit (column_names t) xs
   pub known : unknown_column (Listed xs t) ≡ false
   pub alike : aggregate_mixed (Listed xs t) ≡ false
   pub keys : key_type (Listed xs t) ≡ false
   pub table : IsCleanTable t
 
-pub clean_list : (xs : List (Item Path)) (t : Table Path) → bind_fault (Listed xs t) ≡ None → IsCleanList xs t
-clean_list xs t h =
+pub clean_list : (xs : List (Item Path)) (t : Table Path) → Each AsksNothing xs → bind_fault (Listed xs t) ≡ None → IsCleanList xs t
+clean_list xs t none h =
     let a = stop_none (nat_lt most_items (length xs) || has_too_many t) _ _ (sym (listed_groups xs t) ∙ h) in
     let n = neither (nat_lt most_items (length xs)) (has_too_many t) a.0 in
     let b = either_none (either (names_fault t) (columns_fault t)) (items_fault xs t) a.1 in
     let unknown = stop_none (unknown_column (Listed xs t)) _ _ b.1 in
     let mixed = stop_none (aggregate_mixed (Listed xs t)) _ _ unknown.1 in
     let keys = stop_none (key_type (Listed xs t)) _ _ mixed.1 in
-    record { few = not_over most_items (length xs) n.0; named = items_are_named (column_names t) xs unknown.0; known = unknown.0; alike = mixed.0; keys = keys.0; table = clean_table t n.1 b.0 }
+    record { few = not_over most_items (length xs) n.0; fit = fit_items (column_names t) xs none unknown.0; known = unknown.0; alike = mixed.0; keys = keys.0; table = clean_table t n.1 b.0 }
 
 -- a table has few columns
 pub few_columns : (t : Table Path) → has_too_many t ≡ false → length (column_names t) ≤ most_columns

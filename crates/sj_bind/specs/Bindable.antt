@@ -1,12 +1,12 @@
 -- Which statements can be bound.
-use Rattle.std.specs.Prelude.{◌≡◌, ℕ, ◌<◌, ◌≤◌, Bool, true, false, List, [], length, Option, Some, None, All as Each, slice_get, IsSomeAnd, ◌⊎◌}
+use Rattle.std.specs.Prelude.{◌≡◌, [], All as Each}
 use Rattle.sj_path_tree.specs.Tree.{Path}
 use Rattle.sj_sql_grammar.specs.declared.clauses.Encoding.{Encoding}
 use Rattle.sj_sql_grammar.specs.declared.clauses.Encoding.TheVariants.{Read, Refused}
 use Rattle.sj_sql_grammar.specs.Tree as t
-use Rattle.sj_sql_grammar.specs.Tree.{Common, ColumnOf, Table, Statement, Plain, All, Listed}
+use Rattle.sj_sql_grammar.specs.Tree.{Common, Value, Item, ColumnOf, Table, Statement, Plain, All, Listed}
 use Rattle.sj_bind.specs.Clauses.{IsBindableType}
-use Rattle.sj_bind.specs.Parts.{Call, exists_call, value_call, query_call, calls}
+use Rattle.sj_bind.specs.Parts.{Call, exists_call, value_call, query_call, calls, calls_in_item, names_in}
 use Rattle.sj_bind.specs.Rules.{all_columns}
 
 -- UTF-8, which this implementation reads
@@ -31,7 +31,15 @@ pub record IsBindableTable (table : Table Path) : Type 0 where
   pub encoding : IsRead table.common.encoding
   pub columns : Each IsBindableColumn (all_columns table)
 
+-- without a table no column stands in a value
+abbrev pub HasNoColumn : Value Path → Type 0
+HasNoColumn x = names_in x ≡ []
+
+-- beside a table no function that has a path stands in an item
+abbrev pub AsksNothing : Item Path → Type 0
+AsksNothing x = calls_in_item x ≡ []
+
 abbrev pub IsBindable : Statement Path → Type 0
-IsBindable (Plain xs) = Each IsBindableCall (calls (Plain xs))
+IsBindable (Plain xs) = Each IsBindableCall (calls (Plain xs)) × Each HasNoColumn xs
 IsBindable (All table) = IsBindableTable table
-IsBindable (Listed xs table) = IsBindableTable table
+IsBindable (Listed xs table) = IsBindableTable table × Each AsksNothing xs

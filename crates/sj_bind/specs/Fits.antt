@@ -22,55 +22,37 @@ pub record IsFitCall (c : ValueCall Path) : Type 0 where
   pub once : PassesOnce c.common
   pub castable : AreCastable c.ty c.on_empty c.on_error
 
-abbrev mutual
-  pub IsFit : Value Path → Type 0
-  IsFit (Lit x) = Unit {0}
-  IsFit (Column name) = Unit {0}
-  IsFit (Exists c) = PassesOnce c.common
-  IsFit (ValueOf c) = IsFitCall c
-  IsFit (Query c) = PassesOnce c.common
-  IsFit (IsJson c) = Unit {0}
-  IsFit (Object members _ unique) = AreFitMembers members
-  IsFit (Array values _) = AreFit values
-
-  pub AreFit : Values Path → Type 0
-  AreFit NoValues = Unit {0}
-  AreFit (MoreValues x others) = IsFit x × AreFit others
-
-  pub AreFitMembers : Members Path → Type 0
-  AreFitMembers NoMembers = Unit {0}
-  AreFitMembers (MoreMembers key x others) = IsFit key × IsFit x × AreFitMembers others
-
--- each name in a value is one of these
+-- The functions in a value pass no variable twice and have defaults that can be cast, and each name is one of these.
 module _ (names : List (List ℕ)) where
   abbrev mutual
-    pub AreNamed : Value Path → Type 0
-    AreNamed (Lit x) = Unit {0}
-    AreNamed (Column name) = is_among names name ≡ true
-    AreNamed (Exists c) = Unit {0}
-    AreNamed (ValueOf c) = Unit {0}
-    AreNamed (Query c) = Unit {0}
-    AreNamed (IsJson c) = Unit {0}
-    AreNamed (Object members _ unique) = AreMembersNamed members
-    AreNamed (Array values _) = AreAllNamed values
+    pub IsFit : Value Path → Type 0
+    IsFit (Lit x) = Unit {0}
+    IsFit (Column name) = is_among names name ≡ true
+    IsFit (Exists c) = PassesOnce c.common
+    IsFit (ValueOf c) = IsFitCall c
+    IsFit (Query c) = PassesOnce c.common
+    IsFit (IsJson c) = Unit {0}
+    IsFit (Object members _ unique) = AreFitMembers members
+    IsFit (Array values _) = AreFit values
 
-    pub AreAllNamed : Values Path → Type 0
-    AreAllNamed NoValues = Unit {0}
-    AreAllNamed (MoreValues x others) = AreNamed x × AreAllNamed others
+    pub AreFit : Values Path → Type 0
+    AreFit NoValues = Unit {0}
+    AreFit (MoreValues x others) = IsFit x × AreFit others
 
-    pub AreMembersNamed : Members Path → Type 0
-    AreMembersNamed NoMembers = Unit {0}
-    AreMembersNamed (MoreMembers key x others) = AreNamed key × AreNamed x × AreMembersNamed others
+    pub AreFitMembers : Members Path → Type 0
+    AreFitMembers NoMembers = Unit {0}
+    AreFitMembers (MoreMembers key x others) = IsFit key × IsFit x × AreFitMembers others
 
-  abbrev pub IsItemNamed : Item Path → Type 0
-  IsItemNamed (Single x) = AreNamed x
-  IsItemNamed (ArrayAgg x _) = AreNamed x
-  IsItemNamed (ObjectAgg key x _ unique) = AreNamed key × AreNamed x
+  abbrev pub IsItemFit : Item Path → Type 0
+  IsItemFit (Single x) = IsFit x
+  IsItemFit (ArrayAgg x _) = IsFit x
+  IsItemFit (ObjectAgg key x _ unique) = IsFit key × IsFit x
 
+  abbrev pub AreItemsFit : List (Item Path) → Type 0
+  AreItemsFit [] = Unit {0}
+  AreItemsFit (x ∷ xs) = IsItemFit x × AreItemsFit xs
+
+-- without a table there are no names
 abbrev pub AreListFit : List (Value Path) → Type 0
 AreListFit [] = Unit {0}
-AreListFit (x ∷ xs) = IsFit x × AreListFit xs
-
-abbrev pub AreItemsNamed : List (List ℕ) → List (Item Path) → Type 0
-AreItemsNamed names [] = Unit {0}
-AreItemsNamed names (x ∷ xs) = IsItemNamed names x × AreItemsNamed names xs
+AreListFit (x ∷ xs) = IsFit [] x × AreListFit xs

@@ -1,6 +1,5 @@
 pub mod Answer
 pub mod Bindable
-pub mod Chains
 pub mod Clauses
 pub mod Counts
 pub mod Faults

@@ -40,6 +40,11 @@ abbrev pub calls_in_list : {P : Type 0} → List (Value P) → List (Call P)
 calls_in_list [] = []
 calls_in_list (x ∷ xs) = calls_in x ++ calls_in_list xs
 
+abbrev pub calls_in_item : {P : Type 0} → Item P → List (Call P)
+calls_in_item (Single x) = calls_in x
+calls_in_item (ArrayAgg x _) = calls_in x
+calls_in_item (ObjectAgg key x _ unique) = calls_in key ++ calls_in x
+
 -- Beside a table no function stands in the list.
 abbrev pub calls : {P : Type 0} → Statement P → List (Call P)
 calls (Plain xs) = calls_in_list xs

@@ -1,13 +1,13 @@
 //! The binding of statements.
 
-ghost use Rattle.std.specs.Prelude.{◌≡◌, ◌≤◌, false, length, IfOk};
+ghost use Rattle.std.specs.Prelude.{◌≡◌, ◌≤◌, false, length, IfOk, All};
 ghost use Rattle.sj_sql_grammar.specs.Tree as t;
 ghost use Rattle.sj_sql_tree.specs.View.{plain_of, items_of, table_of, statement_of};
 ghost use Rattle.sj_bind.specs.Answer.{Binds};
-ghost use Rattle.sj_bind.specs.Fits.{AreItemsNamed, AreListFit};
+ghost use Rattle.sj_bind.specs.Fits.{AreItemsFit, AreListFit};
 ghost use Rattle.sj_bind.specs.Meaning.{bound_items, bound_list, columns_below};
 ghost use Rattle.sj_bind.specs.Names.{names_of};
-ghost use Rattle.sj_bind.specs.Bindable.{IsBindable, IsBindableTable};
+ghost use Rattle.sj_bind.specs.Bindable.{IsBindable, IsBindableTable, AsksNothing};
 ghost use Rattle.sj_bound.specs.Limits.{most_items, most_columns};
 ghost use Rattle.sj_bound.specs.Sound.{IsSound};
 ghost use Rattle.sj_bind.specs.Tables.{column_names, has_column_twice};
@@ -16,16 +16,16 @@ ghost use Rattle.sj_bound.specs.View as view;
 use crate::fault::{all_fault, listed_fault, plain_fault};
 use crate::name_set::NameSet;
 use crate::refusal::BindRefusal;
-use crate::row_values::bind_item;
 use crate::table::{bind_table, column_count, column_index};
-use crate::values::bind_value;
+use crate::values::{bind_item, bind_value};
 use sj_base::Memory;
 use sj_bound::{Bound, BoundItem, BoundValue};
-use sj_sql_tree::{SValue, Seq, Statement, TItem, Table};
+use sj_sql_tree::{Item, Seq, Statement, Table, Value};
 use std::alloc::Global;
 
 /// Binds a statement, which has no type and no encoding that this implementation lacks, and whose types meet the condition of a
-/// cast. The statement is spent.
+/// cast. Its list names a column only beside a table, and calls a function that has a path only where there is none. The
+/// statement is spent.
 ///
 /// # Errors
 /// `Kind` exactly where the statement breaks a rule, with the first that it breaks, and `Memory` where memory ran out.
@@ -42,7 +42,7 @@ pub fn bind(alloc: Global, statement: Statement) -> Result<Bound, BindRefusal>
     }
 }
 
-fn bind_plain(alloc: Global, values: Seq<SValue>) -> Result<Bound, BindRefusal>
+fn bind_plain(alloc: Global, values: Seq<Value>) -> Result<Bound, BindRefusal>
     requires { IsBindable (t.Plain (plain_of values)) }
     ensures { Binds (t.Plain (plain_of values)) result }
 {
@@ -53,14 +53,15 @@ fn bind_plain(alloc: Global, values: Seq<SValue>) -> Result<Bound, BindRefusal>
     Ok(Bound { items, table: None })
 }
 
-fn bind_list(alloc: Global, values: Seq<SValue>) -> Result<Seq<BoundItem>, Memory>
+fn bind_list(alloc: Global, values: Seq<Value>) -> Result<Seq<BoundItem>, Memory>
     requires fit { AreListFit (plain_of values) }
     requires few { length values ≤ most_items }
     ensures { IfOk result (λ items. view.items_of items ≡ bound_list (plain_of values)) }
 {
+    let no_columns = NameSet::new(alloc);
     let mut items = Seq::with_room(alloc, values.len())?;
     for value in values.into_vec() {
-        items.push(BoundItem::Value(bind_value(alloc, value)?))?;
+        items.push(BoundItem::Value(bind_value(alloc, value, &no_columns)?))?;
     }
     Ok(items)
 }
@@ -91,8 +92,9 @@ fn first_columns(alloc: Global, count: u32) -> Result<Seq<BoundItem>, Memory>
     Ok(items)
 }
 
-fn bind_listed(alloc: Global, items: Seq<TItem>, table: Table) -> Result<Bound, BindRefusal>
-    requires { IsBindableTable (table_of table) }
+fn bind_listed(alloc: Global, items: Seq<Item>, table: Table) -> Result<Bound, BindRefusal>
+    requires bindable { IsBindableTable (table_of table) }
+    requires asks_nothing { All AsksNothing (items_of items) }
     ensures { Binds (t.Listed (items_of items) (table_of table)) result }
 {
     if let Some(kind) = listed_fault(alloc, &items, &table)? {
@@ -106,10 +108,10 @@ fn bind_listed(alloc: Global, items: Seq<TItem>, table: Table) -> Result<Bound, 
     })
 }
 
-fn bind_beside(alloc: Global, items: Seq<TItem>, table: &Table) -> Result<Seq<BoundItem>, Memory>
+fn bind_beside(alloc: Global, items: Seq<Item>, table: &Table) -> Result<Seq<BoundItem>, Memory>
     requires once { has_column_twice (table_of table.now) ≡ false }
     requires few_columns { length (column_names (table_of table.now)) ≤ most_columns }
-    requires named { AreItemsNamed (column_names (table_of table.now)) (items_of items) }
+    requires fit { AreItemsFit (column_names (table_of table.now)) (items_of items) }
     requires few { length items ≤ most_items }
     ensures { IfOk result (λ bound. view.items_of bound ≡ bound_items (column_names (table_of table.now)) (items_of items)) }
 {
@@ -119,10 +121,10 @@ fn bind_beside(alloc: Global, items: Seq<TItem>, table: &Table) -> Result<Seq<Bo
 
 fn bind_items(
     alloc: Global,
-    items: Seq<TItem>,
+    items: Seq<Item>,
     columns: &NameSet<'_>,
 ) -> Result<Seq<BoundItem>, Memory>
-    requires named { AreItemsNamed (names_of columns.now) (items_of items) }
+    requires fit { AreItemsFit (names_of columns.now) (items_of items) }
     requires few_columns { length (names_of columns.now) ≤ most_columns }
     requires few { length items ≤ most_items }
     ensures { IfOk result (λ bound. view.items_of bound ≡ bound_items (names_of columns.now) (items_of items)) }

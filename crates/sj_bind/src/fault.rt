@@ -29,7 +29,7 @@ use crate::table_rules::{
 use crate::variables::passes_twice;
 use sj_base::Memory;
 use sj_sql_grammar::BindKind;
-use sj_sql_tree::{SValue, Seq, TItem, Table};
+use sj_sql_tree::{Item, Seq, Table, Value};
 use std::alloc::Global;
 
 /// The most items that a SELECT list may have.
@@ -57,7 +57,7 @@ fn calls_fault(alloc: Global, calls: &[Call<'_>]) -> Result<Option<BindKind>, Me
 
 /// The first rule that a list without a table breaks.
 #[tactic(auto, using(crate::proofs::Groups::groups))]
-pub fn plain_fault(alloc: Global, values: &Seq<SValue>) -> Result<Option<BindKind>, Memory>
+pub fn plain_fault(alloc: Global, values: &Seq<Value>) -> Result<Option<BindKind>, Memory>
     requires { IsBindable (t.Plain (plain_of values.now)) }
     ensures { IfOk result (λ f. f ≡ spec.bind_fault (t.Plain (plain_of values.now))) }
 {
@@ -69,7 +69,7 @@ pub fn plain_fault(alloc: Global, values: &Seq<SValue>) -> Result<Option<BindKin
     if fault.is_some() {
         return Ok(fault);
     }
-    if some_key_is_wrong(parts.keys.as_slice()) {
+    if some_key_is_wrong(alloc, parts.keys.as_slice()) {
         return Ok(Some(BindKind::KeyType));
     }
     Ok(None)
@@ -141,7 +141,7 @@ fn table_fault(alloc: Global, table: &Table) -> Result<Option<BindKind>, Memory>
 }
 
 /// The rules on names and on keys that the list breaks beside a table.
-fn broken_beside(alloc: Global, items: &[TItem], table: &Table) -> Result<Broken, Memory>
+fn broken_beside(alloc: Global, items: &[Item], table: &Table) -> Result<Broken, Memory>
     requires { tables.has_column_twice (table_of table.now) ≡ false }
     ensures unknown { IfOk result (λ b. b.unknown_name ≡ spec.unknown_column (t.Listed (items_of items.now) (table_of table.now))) }
     ensures wrong { IfOk result (λ b. b.wrong_key ≡ spec.key_type (t.Listed (items_of items.now) (table_of table.now))) }
@@ -164,7 +164,7 @@ fn text_columns<'t>(alloc: Global, table: &'t Table) -> Result<NameSet<'t>, Memo
 }
 
 /// The first rule on the list that it breaks beside a table.
-fn items_fault(alloc: Global, items: &[TItem], table: &Table) -> Result<Option<BindKind>, Memory>
+fn items_fault(alloc: Global, items: &[Item], table: &Table) -> Result<Option<BindKind>, Memory>
     requires { tables.has_column_twice (table_of table.now) ≡ false }
     ensures { IfOk result (λ f. f ≡ group.items_fault (items_of items.now) (table_of table.now)) }
 {
@@ -182,7 +182,7 @@ fn items_fault(alloc: Global, items: &[TItem], table: &Table) -> Result<Option<B
 }
 
 #[tactic(auto, using(crate::proofs::Groups::groups))]
-fn has_too_many_parts(items: &Seq<TItem>, table: &Table) -> bool
+fn has_too_many_parts(items: &Seq<Item>, table: &Table) -> bool
     ensures { result ≡ (nat_lt most_items (length (items_of items.now)) || tables.has_too_many (table_of table.now)) }
 {
     items.len() > MOST_ITEMS || has_too_many(table)
@@ -192,7 +192,7 @@ fn has_too_many_parts(items: &Seq<TItem>, table: &Table) -> bool
 #[tactic(auto, using(crate::proofs::Groups::groups))]
 pub fn listed_fault(
     alloc: Global,
-    items: &Seq<TItem>,
+    items: &Seq<Item>,
     table: &Table,
 ) -> Result<Option<BindKind>, Memory>
     requires { IsBindableTable (table_of table.now) }

@@ -2,7 +2,7 @@
 
 ghost use Rattle.std.specs.Prelude.{◌≡◌, ◌∷◌, [], not, IfOk, OnOk};
 ghost use Rattle.std.specs.List.{list_any};
-ghost use Rattle.sj_sql_tree.specs.View.{column_of, svalue_of, tvalue_of};
+ghost use Rattle.sj_sql_tree.specs.View.{column_of, value_of};
 ghost use Rattle.sj_bind.specs.Names.{names_of};
 ghost use Rattle.sj_bind.specs.PartsView.{keys_of, columns_at};
 ghost use Rattle.sj_bind.specs.Rules as spec;
@@ -13,7 +13,7 @@ use crate::covered::has_name;
 use crate::name_set::NameSet;
 use sj_base::Memory;
 use sj_path_tree::Literal;
-use sj_sql_tree::{Column, SValue, TValue};
+use sj_sql_tree::{Column, Value};
 use std::alloc::Global;
 
 fn is_key_literal(literal: &Literal) -> bool
@@ -25,41 +25,33 @@ fn is_key_literal(literal: &Literal) -> bool
     }
 }
 
-fn is_key(value: &SValue) -> bool
-    ensures { result ≡ spec.is_key [] (svalue_of value.now) }
+/// Whether a value is allowed as a key beside columns, of which these are texts.
+pub fn is_key(value: &Value, texts: &NameSet<'_>) -> bool
+    ensures { result ≡ spec.is_key (names_of texts.now) (value_of value.now) }
 {
     match value {
-        SValue::Lit(literal) => is_key_literal(literal),
-        SValue::Value(call) => names_text(call.ty),
-        SValue::Exists(_)
-        | SValue::Query(_)
-        | SValue::IsJson(_)
-        | SValue::Object(_, _, _)
-        | SValue::Array(_, _) => false,
+        Value::Lit(literal) => is_key_literal(literal),
+        Value::Column(name) => has_name(texts, name.as_str()),
+        Value::ValueOf(call) => names_text(call.ty),
+        Value::Exists(_)
+        | Value::Query(_)
+        | Value::IsJson(_)
+        | Value::Object(_, _, _)
+        | Value::Array(_, _) => false,
     }
 }
 
-/// Whether a key is none of those that are allowed without a table.
-pub fn some_key_is_wrong(keys: &[&SValue]) -> bool
+/// Whether a key is none of those that are allowed without a table. `alloc` is not asked for memory.
+pub fn some_key_is_wrong(alloc: Global, keys: &[&Value]) -> bool
     ensures { result ≡ list_any (λ key. not (spec.is_key [] key)) (keys_of keys.now) }
 {
+    let no_columns = NameSet::new(alloc);
     for key in keys {
-        if !is_key(key) {
+        if !is_key(key, &no_columns) {
             return true;
         }
     }
     false
-}
-
-/// Whether a key is allowed beside columns, of which these are texts.
-pub fn is_row_key(value: &TValue, texts: &NameSet<'_>) -> bool
-    ensures { result ≡ spec.is_key (names_of texts.now) (tvalue_of value.now) }
-{
-    match value {
-        TValue::Lit(literal) => is_key_literal(literal),
-        TValue::Column(name) => has_name(texts, name.as_str()),
-        TValue::Object(_, _, _) | TValue::Array(_, _) => false,
-    }
 }
 
 /// The names of the columns that are texts. A name that stands there twice is there once.

@@ -7,7 +7,6 @@
 
 mod binding;
 mod calls;
-mod chains;
 mod clauses;
 mod columns;
 mod covered;
@@ -19,7 +18,6 @@ mod name_set;
 mod parts;
 mod refusal;
 mod row_rules;
-mod row_values;
 mod table;
 mod table_rules;
 mod values;
@@ -28,6 +26,4 @@ mod variables;
 pub use binding::bind;
 pub use law::accepted_statements_are_bindable;
 pub use refusal::BindRefusal;
-pub use sj_bound::{
-    Bound, BoundColumn, BoundItem, BoundMembers, BoundPath, BoundTable, BoundValue, BoundValues,
-};
+pub use sj_bound::{Bound, BoundColumn, BoundItem, BoundMember, BoundPath, BoundTable, BoundValue};

@@ -2,15 +2,15 @@
 
 ghost use Rattle.std.specs.Prelude.{◌≡◌, ◌||◌};
 ghost use Rattle.std.specs.List.{list_any};
-ghost use Rattle.sj_sql_tree.specs.View.{item_of, items_of, tvalue_of, tvalues_of, tmembers_of};
+ghost use Rattle.sj_sql_tree.specs.View.{item_of, items_of, value_of, values_of, members_of};
 ghost use Rattle.sj_bind.specs.Names.{names_of};
 ghost use Rattle.sj_bind.specs.Parts as spec;
 ghost use Rattle.sj_bind.specs.RowRules.{is_unknown, is_wrong_key};
 
 use crate::covered::has_name;
-use crate::keys::is_row_key;
+use crate::keys::is_key;
 use crate::name_set::NameSet;
-use sj_sql_tree::{TItem, TMembers, TValue, TValues};
+use sj_sql_tree::{Item, Member, Value};
 
 /// The names that a list is held against: those of the columns, and of these the ones that are texts.
 #[derive(Clone, Copy)]
@@ -30,7 +30,7 @@ pub struct Broken {
 
 /// The rules that the items of a list break.
 #[tactic(auto, using(crate::proofs::RowRules::broken_steps))]
-pub fn broken_by_items(items: &[TItem], known: KnownNames<'_, '_>) -> Broken
+pub fn broken_by_items(items: &[Item], known: KnownNames<'_, '_>) -> Broken
     ensures unknown { result.unknown_name ≡ list_any (is_unknown (names_of known.entry.columns.now)) (spec.names_in_items (items_of items.now)) }
     ensures wrong { result.wrong_key ≡ list_any (is_wrong_key (names_of known.entry.texts.now)) (spec.keys_in_items (items_of items.now)) }
 {
@@ -45,13 +45,13 @@ pub fn broken_by_items(items: &[TItem], known: KnownNames<'_, '_>) -> Broken
 }
 
 #[tactic(auto, using(crate::proofs::RowRules::broken_steps))]
-fn with_item(before: Broken, item: &TItem, known: KnownNames<'_, '_>) -> Broken
+fn with_item(before: Broken, item: &Item, known: KnownNames<'_, '_>) -> Broken
     ensures unknown { result.unknown_name ≡ (before.unknown_name || list_any (is_unknown (names_of known.entry.columns.now)) (spec.names_in_item (item_of item.now))) }
     ensures wrong { result.wrong_key ≡ (before.wrong_key || list_any (is_wrong_key (names_of known.entry.texts.now)) (spec.keys_in_item (item_of item.now))) }
 {
     match item {
-        TItem::Value(value) | TItem::ArrayAgg(value, _) => with_value(before, value, known),
-        TItem::ObjectAgg(key, value, _, _) => {
+        Item::Single(value) | Item::ArrayAgg(value, _) => with_value(before, value, known),
+        Item::ObjectAgg(key, value, _, _) => {
             let at_key = with_key(before, key, known);
             with_value(with_value(at_key, key, known), value, known)
         }
@@ -59,61 +59,58 @@ fn with_item(before: Broken, item: &TItem, known: KnownNames<'_, '_>) -> Broken
 }
 
 /// The rules that were broken before, and that on keys where a key breaks it. What stands in the key is not looked at.
-fn with_key(before: Broken, key: &TValue, known: KnownNames<'_, '_>) -> Broken
+fn with_key(before: Broken, key: &Value, known: KnownNames<'_, '_>) -> Broken
     ensures unknown { result.unknown_name ≡ before.unknown_name }
-    ensures wrong { result.wrong_key ≡ (before.wrong_key || is_wrong_key (names_of known.entry.texts.now) (tvalue_of key.now)) }
+    ensures wrong { result.wrong_key ≡ (before.wrong_key || is_wrong_key (names_of known.entry.texts.now) (value_of key.now)) }
 {
     Broken {
         unknown_name: before.unknown_name,
-        wrong_key: before.wrong_key || !is_row_key(key, known.texts),
+        wrong_key: before.wrong_key || !is_key(key, known.texts),
     }
 }
 
 /// The rules that were broken before, and those that a value breaks.
 #[cycle(broken)]
 #[tactic(auto, using(crate::proofs::RowRules::broken_steps))]
-fn with_value(before: Broken, value: &TValue, known: KnownNames<'_, '_>) -> Broken
-    ensures unknown { result.unknown_name ≡ (before.unknown_name || list_any (is_unknown (names_of known.entry.columns.now)) (spec.names_in (tvalue_of value.now))) }
-    ensures wrong { result.wrong_key ≡ (before.wrong_key || list_any (is_wrong_key (names_of known.entry.texts.now)) (spec.keys_in (tvalue_of value.now))) }
+fn with_value(before: Broken, value: &Value, known: KnownNames<'_, '_>) -> Broken
+    ensures unknown { result.unknown_name ≡ (before.unknown_name || list_any (is_unknown (names_of known.entry.columns.now)) (spec.names_in (value_of value.now))) }
+    ensures wrong { result.wrong_key ≡ (before.wrong_key || list_any (is_wrong_key (names_of known.entry.texts.now)) (spec.keys_in (value_of value.now))) }
 {
     match value {
-        TValue::Lit(_) => before,
-        TValue::Column(name) => Broken {
+        Value::Lit(_) | Value::Exists(_) | Value::ValueOf(_) | Value::Query(_) | Value::IsJson(_) =>
+            before,
+        Value::Column(name) => Broken {
             unknown_name: before.unknown_name || !has_name(known.columns, name.as_str()),
             wrong_key: before.wrong_key,
         },
-        TValue::Object(members, _, _) => with_members(before, members, known),
-        TValue::Array(values, _) => with_values(before, values, known),
+        Value::Object(members, _, _) => with_members(before, members, known),
+        Value::Array(values, _) => with_values(before, values, known),
     }
 }
 
 #[cycle(broken)]
 #[tactic(auto, using(crate::proofs::RowRules::broken_steps))]
-fn with_values(before: Broken, values: &TValues, known: KnownNames<'_, '_>) -> Broken
-    ensures unknown { result.unknown_name ≡ (before.unknown_name || list_any (is_unknown (names_of known.entry.columns.now)) (spec.names_in_values (tvalues_of values.now))) }
-    ensures wrong { result.wrong_key ≡ (before.wrong_key || list_any (is_wrong_key (names_of known.entry.texts.now)) (spec.keys_in_values (tvalues_of values.now))) }
+fn with_values(before: Broken, values: &[Value], known: KnownNames<'_, '_>) -> Broken
+    ensures unknown { result.unknown_name ≡ (before.unknown_name || list_any (is_unknown (names_of known.entry.columns.now)) (spec.names_in_values (values_of values.now))) }
+    ensures wrong { result.wrong_key ≡ (before.wrong_key || list_any (is_wrong_key (names_of known.entry.texts.now)) (spec.keys_in_values (values_of values.now))) }
 {
     let mut broken = before;
-    let mut rest = values;
-    while let TValues::More(value, others) = rest {
+    for value in values {
         broken = with_value(broken, value, known);
-        rest = others;
     }
     broken
 }
 
 #[cycle(broken)]
 #[tactic(auto, using(crate::proofs::RowRules::broken_steps))]
-fn with_members(before: Broken, members: &TMembers, known: KnownNames<'_, '_>) -> Broken
-    ensures unknown { result.unknown_name ≡ (before.unknown_name || list_any (is_unknown (names_of known.entry.columns.now)) (spec.names_in_members (tmembers_of members.now))) }
-    ensures wrong { result.wrong_key ≡ (before.wrong_key || list_any (is_wrong_key (names_of known.entry.texts.now)) (spec.keys_in_members (tmembers_of members.now))) }
+fn with_members(before: Broken, members: &[Member], known: KnownNames<'_, '_>) -> Broken
+    ensures unknown { result.unknown_name ≡ (before.unknown_name || list_any (is_unknown (names_of known.entry.columns.now)) (spec.names_in_members (members_of members.now))) }
+    ensures wrong { result.wrong_key ≡ (before.wrong_key || list_any (is_wrong_key (names_of known.entry.texts.now)) (spec.keys_in_members (members_of members.now))) }
 {
     let mut broken = before;
-    let mut rest = members;
-    while let TMembers::More(key, value, others) = rest {
-        let at_key = with_key(broken, key, known);
-        broken = with_value(with_value(at_key, key, known), value, known);
-        rest = others;
+    for member in members {
+        let at_key = with_key(broken, &member.key, known);
+        broken = with_value(with_value(at_key, &member.key, known), &member.value, known);
     }
     broken
 }

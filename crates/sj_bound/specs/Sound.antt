@@ -1,7 +1,6 @@
 -- WHAT A BOUND STATEMENT ALWAYS MEETS.
 use Rattle.std.specs.Prelude.{◌≡◌, ℕ, ◌<◌, ◌≤◌, Bool, true, false, List, [], length, Option, Some, None, All as Each, slice_get, IsSomeAnd, ◌⊎◌}
 use Rattle.sj_path_tree.specs.declared.parts.Literal.TheVariants as literal
-use Rattle.sj_path_tree.specs.Tree.{Path}
 use Rattle.sj_path_tree.specs.Vars.{Variables, covers}
 use Rattle.sj_value.specs.declared.clauses.ValueAction.{ValueAction}
 use Rattle.sj_value.specs.declared.clauses.ValueAction.TheVariants as action

@@ -7,10 +7,8 @@ use Rattle.sj_path_tree.specs.View.{path_of}
 use Rattle.sj_value.specs.Plans.{plan_tree}
 use Rattle.sj_bound.specs.Bound as b
 use Rattle.sj_bound.specs.declared.bound.BoundPath.{BoundPath}
-use Rattle.sj_bound.specs.declared.bound.BoundValue.{BoundValue, Lit, Column, Exists, Value, Query, IsJson, Object, Array}
-use Rattle.sj_bound.specs.declared.bound.BoundValues.{BoundValues, Empty, More'}
-use Rattle.sj_bound.specs.declared.bound.BoundMembers as m
-use Rattle.sj_bound.specs.declared.bound.BoundMembers.{BoundMembers}
+use Rattle.sj_bound.specs.declared.bound.BoundValue.{Row_of-BoundMember, end_of-BoundMember, more_of-BoundMember, Row_of-BoundValue, end_of-BoundValue, more_of-BoundValue, BoundValue, Lit, Column, Exists, Value, Query, IsJson, Object', Array'}
+use Rattle.sj_bound.specs.declared.bound.BoundMember.{BoundMember}
 use Rattle.sj_bound.specs.declared.bound.BoundItem.{BoundItem}
 use Rattle.sj_bound.specs.declared.bound.BoundItem.TheVariants as i
 use Rattle.sj_bound.specs.declared.bound.BoundColumn.{BoundColumn}
@@ -29,16 +27,26 @@ abbrev mutual
   value_of (Value x clauses) = b.ValueOf (path_with_of x.value) clauses.value
   value_of (Query x clauses) = b.Query (path_with_of x.value) clauses
   value_of (IsJson x) = b.IsJson x
-  value_of (Object members nulls unique) = b.Object (members_of members) nulls unique
-  value_of (Array values nulls) = b.Array (values_of values) nulls
+  value_of (Object' shape members nulls unique) = b.Object (member_row_of members) nulls unique
+  value_of (Array' shape values nulls) = b.Array (value_row_of values) nulls
 
-  pub values_of : BoundValues → b.Values
-  values_of Empty = b.NoValues
-  values_of (More' p x q others) = b.MoreValues (value_of x) (values_of others)
+  -- the values and the members of a `Vec`
+  pub value_row_of : {n : _} → Row_of-BoundValue n → b.Values
+  value_row_of end_of-BoundValue = b.NoValues
+  value_row_of (more_of-BoundValue x others) = b.MoreValues (value_of x) (value_row_of others)
 
-  pub members_of : BoundMembers → b.Members
-  members_of m.Empty = b.NoMembers
-  members_of (m.More' p x q y r others) = b.MoreMembers (value_of x) (value_of y) (members_of others)
+  pub member_row_of : {n : _} → Row_of-BoundMember n → b.Members
+  member_row_of end_of-BoundMember = b.NoMembers
+  member_row_of (more_of-BoundMember key x others) = b.MoreMembers (value_of key) (value_of x) (member_row_of others)
+
+-- the same of the values as a list, and of the members
+abbrev pub values_of : List BoundValue → b.Values
+values_of [] = b.NoValues
+values_of (x ∷ others) = b.MoreValues (value_of x) (values_of others)
+
+abbrev pub members_of : List BoundMember → b.Members
+members_of [] = b.NoMembers
+members_of (x ∷ others) = b.MoreMembers (value_of x.key) (value_of x.value) (members_of others)
 
 abbrev pub item_of : BoundItem → b.Item
 item_of (i.Value x) = b.Single (value_of x)

@@ -1,6 +1,6 @@
-//! Bound statements. Where a type leads back to itself, a repeated part is an enum of linked cells, which is given up by a
-//! loop; any other repeated part is a sequence. A large part that few statements have stands in a box, since a file may have
-//! very many statements, and all are kept.
+//! Bound statements. A repeated part of a value is a vector, since a recursive type holds no sequence; any other repeated part
+//! is a sequence. A large part that few statements have stands in a box, since a file may have very many statements, and
+//! all are kept.
 //!
 //! The `drop` of a statement, an item, a value and a column is written out. So whoever holds one, alone or in a list,
 //! gives it up by one call. A derived one is laid open, with all variants, at each place where a holder may return
@@ -72,23 +72,17 @@ pub enum BoundValue {
     Query(Box<BoundPath>, QuerySpec),
     IsJson(IsJsonCall),
     /// JSON_OBJECT: its members, and whether WITH UNIQUE KEYS stands there.
-    Object(BoundMembers, Nulls, bool),
+    Object(Vec<BoundMember>, Nulls, bool),
     /// JSON_ARRAY.
-    Array(BoundValues, Nulls),
+    Array(Vec<BoundValue>, Nulls),
 }
 
-/// The values of JSON_ARRAY.
+/// A member of JSON_OBJECT.
 #[cycle(values)]
-pub enum BoundValues {
-    Empty,
-    More(Box<BoundValue>, Box<BoundValues>),
-}
-
-/// The members of JSON_OBJECT, each with its key before its value.
-#[cycle(values)]
-pub enum BoundMembers {
-    Empty,
-    More(Box<BoundValue>, Box<BoundValue>, Box<BoundMembers>),
+#[derive(Drop)]
+pub struct BoundMember {
+    pub key: BoundValue,
+    pub value: BoundValue,
 }
 
 impl Drop for BoundValue {
@@ -102,30 +96,6 @@ impl Drop for BoundValue {
             BoundValue::Query(_path, _) => {}
             BoundValue::Object(_members, _, _) => {}
             BoundValue::Array(_values, _) => {}
-        }
-    }
-}
-
-impl Drop for BoundValues {
-    #[cycle(give_up_values)]
-    fn drop(mut self) {
-        loop {
-            match self {
-                BoundValues::Empty => return,
-                BoundValues::More(_, others) => self = Box::into_inner(others),
-            }
-        }
-    }
-}
-
-impl Drop for BoundMembers {
-    #[cycle(give_up_values)]
-    fn drop(mut self) {
-        loop {
-            match self {
-                BoundMembers::Empty => return,
-                BoundMembers::More(_, _, others) => self = Box::into_inner(others),
-            }
         }
     }
 }

@@ -2,12 +2,10 @@
 //! of its paths.
 //!
 //! It stands on the paths of sj_path_tree and the sequences of sj_sql_tree. Contracts see a bound statement as its `bound_of` in
-//! `specs/View.antt`, in which there are no pointers, and lists in place of sequences and linked cells. What each of them
+//! `specs/View.antt`, in which there are no pointers, and lists in place of sequences and vectors. What each of them
 //! meets is `IsSound` in `specs/Sound.antt`: sj_bind makes it so, and sj_select needs it.
 #![tactic(auto)]
 
 mod bound;
 
-pub use bound::{
-    Bound, BoundColumn, BoundItem, BoundMembers, BoundPath, BoundTable, BoundValue, BoundValues,
-};
+pub use bound::{Bound, BoundColumn, BoundItem, BoundMember, BoundPath, BoundTable, BoundValue};

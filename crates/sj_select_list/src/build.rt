@@ -1,12 +1,12 @@
 // The operations of a statement.
-ghost use Rattle.std.specs.Prelude.{◌≡◌, ◌≤◌, ◌<◌, ◌+◌, ◌++◌, ◌∷◌, [], length, IfOk, OnOk};
+ghost use Rattle.std.specs.Prelude.{◌≡◌, ◌++◌, IfOk, OnOk};
 ghost use Rattle.sj_bound.specs.View.{bound_of, items_of, value_of, values_of, members_of, path_with_of};
-ghost use Rattle.sj_select_list.specs.Operations.{steps_of, steps_to, steps_to_values, steps_to_members, steps_to_all, value_count, member_count, asked_path, path_with};
+ghost use Rattle.sj_select_list.specs.Operations.{steps_of, steps_to, steps_to_values, steps_to_members, steps_to_all, asked_path, path_with};
 ghost use Rattle.sj_select_list.specs.Values.{values_in};
 
 use crate::operation::{ExistsCall, Operation, QueryCall, ValueCall};
 use sj_base::{Memory, boxed, push};
-use sj_bound::{Bound, BoundItem, BoundMembers, BoundPath, BoundValue, BoundValues};
+use sj_bound::{Bound, BoundItem, BoundMember, BoundPath, BoundValue};
 use sj_cursor::{Cursor, Inquiry};
 use sj_item::Item;
 use sj_path_tree::{Path, Vars};
@@ -93,15 +93,14 @@ pub fn boxed_cursor<'d>(
     boxed(alloc, cursor)
 }
 
-// Appends the operations that find a value: what it is made of first. They are one at least.
+// Appends the operations that find a value: what it is made of first.
 #[cycle(push_value)]
 fn push_value<'d>(
     alloc: Global,
     value: &'d BoundValue,
     operations: &mut Vec<Operation<'d>>,
 ) -> Result<(), Memory>
-    ensures steps { OnOk result (steps_of operations.new.items ≡ steps_of operations.old.items ++ steps_to (value_of value.now)) }
-    ensures grows { OnOk result (length operations.old.items < length operations.new.items) }
+    ensures { OnOk result (steps_of operations.new.items ≡ steps_of operations.old.items ++ steps_to (value_of value.now)) }
 {
     let operation = match value {
         BoundValue::Lit(literal) => Operation::Literal(literal),
@@ -120,55 +119,45 @@ fn push_value<'d>(
         }),
         BoundValue::IsJson(call) => Operation::IsJson(*call),
         BoundValue::Object(members, nulls, unique) => {
-            Operation::Object(push_members(alloc, members, operations)?, *nulls, *unique)
+            push_members(alloc, members, operations)?;
+            Operation::Object(members.len(), *nulls, *unique)
         }
         BoundValue::Array(values, nulls) => {
-            Operation::Array(push_values(alloc, values, operations)?, *nulls)
+            push_values(alloc, values, operations)?;
+            Operation::Array(values.len(), *nulls)
         }
     };
     push(operations, operation)
 }
 
-// The same for the values of an array, and how many they are.
+// The same for the values of an array.
 #[cycle(push_value)]
 fn push_values<'d>(
     alloc: Global,
-    values: &'d BoundValues,
+    values: &'d [BoundValue],
     operations: &mut Vec<Operation<'d>>,
-) -> Result<usize, Memory>
-    ensures steps { OnOk result (steps_of operations.new.items ≡ steps_of operations.old.items ++ steps_to_values (values_of values.now)) }
-    ensures count { IfOk result (λ count. count ≡ value_count (values_of values.now)) }
-    ensures grows { OnOk result (length operations.old.items ≤ length operations.new.items) }
+) -> Result<(), Memory>
+    ensures { OnOk result (steps_of operations.new.items ≡ steps_of operations.old.items ++ steps_to_values (values_of values.now)) }
 {
-    let mut rest = values;
-    let mut count: usize = 0;
-    while let BoundValues::More(value, others) = rest {
+    for value in values {
         push_value(alloc, value, operations)?;
-        count += 1;
-        rest = others;
     }
-    Ok(count)
+    Ok(())
 }
 
 // The same for the members of an object: the key and the value of each, which then become a member.
 #[cycle(push_value)]
 fn push_members<'d>(
     alloc: Global,
-    members: &'d BoundMembers,
+    members: &'d [BoundMember],
     operations: &mut Vec<Operation<'d>>,
-) -> Result<usize, Memory>
-    ensures steps { OnOk result (steps_of operations.new.items ≡ steps_of operations.old.items ++ steps_to_members (members_of members.now)) }
-    ensures count { IfOk result (λ count. count ≡ member_count (members_of members.now)) }
-    ensures grows { OnOk result (length operations.old.items ≤ length operations.new.items) }
+) -> Result<(), Memory>
+    ensures { OnOk result (steps_of operations.new.items ≡ steps_of operations.old.items ++ steps_to_members (members_of members.now)) }
 {
-    let mut rest = members;
-    let mut count: usize = 0;
-    while let BoundMembers::More(key, value, others) = rest {
-        push_value(alloc, key, operations)?;
-        push_value(alloc, value, operations)?;
+    for member in members {
+        push_value(alloc, &member.key, operations)?;
+        push_value(alloc, &member.value, operations)?;
         push(operations, Operation::Member)?;
-        count += 1;
-        rest = others;
     }
-    Ok(count)
+    Ok(())
 }

@@ -1,5 +1,5 @@
 -- The statements of a whole file.
-use Rattle.std.proofs.Common.{◌≡◌, ℕ, suc, ◌+◌, ◌<◌, ◌≤◌, List, [], ◌∷◌, ◌++◌, length, map, Bor, Option, None, Some, Ok, Err, refl, sym, ap, subst, ◌∙◌, arith, append-nil, length-append}
+use Rattle.std.proofs.Common.{◌≡◌, ℕ, suc, ◌+◌, ◌≤◌, List, [], ◌∷◌, ◌++◌, length, map, Bor, Option, None, Some, Ok, Err, refl, sym, ap, subst, arith, append-nil, length-append}
 use Rattle.sj_path_tree.specs.Tree.{Path}
 use Rattle.sj_sql_token.specs.Tokens.{lexed}
 use Rattle.sj_sql_grammar.specs.declared.refusal.FileKind.{FileKind}

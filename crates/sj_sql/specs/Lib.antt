@@ -4,3 +4,4 @@ pub mod File
 pub mod Script
 pub mod Nests
 pub mod Words
+pub mod Sources

@@ -5,7 +5,7 @@ ghost use Rattle.sj_base.specs.Gives.{Gives};
 ghost use Rattle.sj_sql_grammar.specs.Faults.{parsing};
 ghost use Rattle.sj_sql_grammar.specs.Reading as reading;
 ghost use Rattle.sj_sql.specs.Noted.{faults_of};
-ghost use Rattle.sj_sql_tree.specs.View.{svalue_of};
+ghost use Rattle.sj_sql_tree.specs.View.{value_of};
 
 use crate::common::common;
 use crate::faults::Faults;
@@ -15,7 +15,7 @@ use sj_sql_phrase::optional::value_action;
 use sj_sql_phrase::phrase::{exists_clause, query_clause, quotes_clause, returning, wrapper};
 use sj_sql_phrase::single::{Tokens, close, open};
 use sj_sql_token::Keyword;
-use sj_sql_tree::{ExistsCall, QueryCall, SValue, ValueCall};
+use sj_sql_tree::{ExistsCall, QueryCall, Value, ValueCall};
 use sj_value::{ExistsAction, QueryAction, SqlType, Wrapper};
 use std::alloc::Global;
 
@@ -25,8 +25,8 @@ pub fn exists(
     alloc: Global,
     faults: Faults,
     tokens: Tokens<'_>,
-) -> Result<(SValue, Faults, Tokens<'_>), ParseRefusal>
-    ensures { Gives (λ x. (svalue_of x.0, faults_of x.1, x.2.now)) result (reading.exists_from parsing (faults_of faults) tokens.now) }
+) -> Result<(Value, Faults, Tokens<'_>), ParseRefusal>
+    ensures { Gives (λ x. (value_of x.0, faults_of x.1, x.2.now)) result (reading.exists_from parsing (faults_of faults) tokens.now) }
 {
     let Some(rest) = open(tokens) else {
         return Err(ParseRefusal::Syntax);
@@ -37,7 +37,7 @@ pub fn exists(
         return Err(ParseRefusal::Syntax);
     };
     let call = boxed(alloc, ExistsCall { common, on_error })?;
-    Ok((SValue::Exists(call), faults, rest))
+    Ok((Value::Exists(call), faults, rest))
 }
 
 /// JSON_VALUE.
@@ -46,8 +46,8 @@ pub fn value(
     alloc: Global,
     faults: Faults,
     tokens: Tokens<'_>,
-) -> Result<(SValue, Faults, Tokens<'_>), ParseRefusal>
-    ensures { Gives (λ x. (svalue_of x.0, faults_of x.1, x.2.now)) result (reading.value_from parsing (faults_of faults) tokens.now) }
+) -> Result<(Value, Faults, Tokens<'_>), ParseRefusal>
+    ensures { Gives (λ x. (value_of x.0, faults_of x.1, x.2.now)) result (reading.value_from parsing (faults_of faults) tokens.now) }
 {
     let Some(rest) = open(tokens) else {
         return Err(ParseRefusal::Syntax);
@@ -66,7 +66,7 @@ pub fn value(
         on_error,
     };
     let call = boxed(alloc, call)?;
-    Ok((SValue::Value(call), faults.with_type(ty), rest))
+    Ok((Value::ValueOf(call), faults.with_type(ty), rest))
 }
 
 /// JSON_QUERY.
@@ -75,8 +75,8 @@ pub fn query(
     alloc: Global,
     faults: Faults,
     tokens: Tokens<'_>,
-) -> Result<(SValue, Faults, Tokens<'_>), ParseRefusal>
-    ensures { Gives (λ x. (svalue_of x.0, faults_of x.1, x.2.now)) result (reading.query_from parsing (faults_of faults) tokens.now) }
+) -> Result<(Value, Faults, Tokens<'_>), ParseRefusal>
+    ensures { Gives (λ x. (value_of x.0, faults_of x.1, x.2.now)) result (reading.query_from parsing (faults_of faults) tokens.now) }
 {
     let Some(rest) = open(tokens) else {
         return Err(ParseRefusal::Syntax);
@@ -97,5 +97,5 @@ pub fn query(
         on_error,
     };
     let call = boxed(alloc, call)?;
-    Ok((SValue::Query(call), faults, rest))
+    Ok((Value::Query(call), faults, rest))
 }

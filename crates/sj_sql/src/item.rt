@@ -5,19 +5,18 @@ ghost use Rattle.sj_base.specs.Gives.{Gives};
 ghost use Rattle.sj_sql_grammar.specs.Faults.{parsing};
 ghost use Rattle.sj_sql_grammar.specs.Reading as reading;
 ghost use Rattle.sj_sql.specs.Noted.{faults_of};
-ghost use Rattle.sj_sql_tree.specs.View.{svalue_of, item_of, plain_of, items_of};
+ghost use Rattle.sj_sql_tree.specs.View.{value_of, item_of, plain_of, items_of};
 
-use crate::document_value::document_value;
+use crate::asking::Source;
 use crate::faults::Faults;
-use crate::row_value::row_value;
-use crate::value::Level;
+use crate::value::{Level, list_value};
 use sj_base::ParseRefusal;
 use sj_sql_phrase::optional::skip_alias;
 use sj_sql_phrase::passing::put;
 use sj_sql_phrase::phrase::{nulls_clause, unique_clause};
 use sj_sql_phrase::single::{Rest, Tokens, close, comma, open, word};
 use sj_sql_token::Keyword;
-use sj_sql_tree::{SValue, Seq, TItem};
+use sj_sql_tree::{Item, Member, Seq, Value};
 use sj_value::Nulls;
 use std::alloc::Global;
 
@@ -27,10 +26,16 @@ fn plain_item(
     alloc: Global,
     faults: Faults,
     tokens: Tokens<'_>,
-) -> Result<(SValue, Faults, Tokens<'_>), ParseRefusal>
-    ensures { Gives (λ x. (svalue_of x.0, faults_of x.1, x.2.now)) result (reading.plain_item_at parsing (faults_of faults) tokens.now) }
+) -> Result<(Value, Faults, Tokens<'_>), ParseRefusal>
+    ensures { Gives (λ x. (value_of x.0, faults_of x.1, x.2.now)) result (reading.plain_item_at parsing (faults_of faults) tokens.now) }
 {
-    let (value, faults, rest) = document_value(alloc, tokens.len() + 1, faults, tokens)?;
+    let (value, faults, rest) = list_value(
+        alloc,
+        Source::Document,
+        tokens.len() + 1,
+        faults,
+        tokens,
+    )?;
     Ok((value, faults, skip_alias(rest)))
 }
 
@@ -40,18 +45,18 @@ fn array_agg(
     alloc: Global,
     faults: Faults,
     tokens: Tokens<'_>,
-) -> Result<(TItem, Faults, Tokens<'_>), ParseRefusal>
+) -> Result<(Item, Faults, Tokens<'_>), ParseRefusal>
     ensures { Gives (λ x. (item_of x.0, faults_of x.1, x.2.now)) result (reading.array_agg_from parsing (faults_of faults) tokens.now) }
 {
     let Some(rest) = open(tokens) else {
         return Err(ParseRefusal::Syntax);
     };
-    let (value, faults, rest) = row_value(alloc, rest.len() + 1, faults, rest)?;
+    let (value, faults, rest) = list_value(alloc, Source::Row, rest.len() + 1, faults, rest)?;
     let (nulls, rest) = nulls_clause(rest).unwrap_or((Nulls::Absent, rest));
     let Some(rest) = close(rest) else {
         return Err(ParseRefusal::Syntax);
     };
-    Ok((TItem::ArrayAgg(value, nulls), faults, rest))
+    Ok((Item::ArrayAgg(value, nulls), faults, rest))
 }
 
 /// JSON_OBJECTAGG, behind its word.
@@ -60,7 +65,7 @@ fn object_agg(
     alloc: Global,
     faults: Faults,
     tokens: Tokens<'_>,
-) -> Result<(TItem, Faults, Tokens<'_>), ParseRefusal>
+) -> Result<(Item, Faults, Tokens<'_>), ParseRefusal>
     ensures { Gives (λ x. (item_of x.0, faults_of x.1, x.2.now)) result (reading.object_agg_from parsing (faults_of faults) tokens.now) }
 {
     let Some(rest) = open(tokens) else {
@@ -68,8 +73,9 @@ fn object_agg(
     };
     let level = Level {
         alloc,
+        source: Source::Row,
         depth: rest.len() + 1,
-        inner: row_value,
+        inner: list_value,
     };
     let (member, faults, rest) = level.member(faults, rest)?;
     let (nulls, rest) = nulls_clause(rest).unwrap_or((Nulls::Null, rest));
@@ -77,9 +83,8 @@ fn object_agg(
     let Some(rest) = close(rest) else {
         return Err(ParseRefusal::Syntax);
     };
-    let key = Box::into_inner(member.key);
-    let item = TItem::ObjectAgg(key, Box::into_inner(member.value), nulls, unique);
-    Ok((item, faults, rest))
+    let Member { key, value } = member;
+    Ok((Item::ObjectAgg(key, value, nulls, unique), faults, rest))
 }
 
 /// A value of a row, or an aggregate.
@@ -88,7 +93,7 @@ fn row_item(
     alloc: Global,
     faults: Faults,
     tokens: Tokens<'_>,
-) -> Result<(TItem, Faults, Tokens<'_>), ParseRefusal>
+) -> Result<(Item, Faults, Tokens<'_>), ParseRefusal>
     ensures { Gives (λ x. (item_of x.0, faults_of x.1, x.2.now)) result (reading.row_item_at parsing (faults_of faults) tokens.now) }
 {
     if let Some(rest) = word(Keyword::JsonArrayAgg, tokens) {
@@ -97,8 +102,8 @@ fn row_item(
     if let Some(rest) = word(Keyword::JsonObjectAgg, tokens) {
         return object_agg(alloc, faults, rest);
     }
-    let (value, faults, rest) = row_value(alloc, tokens.len() + 1, faults, tokens)?;
-    Ok((TItem::Value(value), faults, rest))
+    let (value, faults, rest) = list_value(alloc, Source::Row, tokens.len() + 1, faults, tokens)?;
+    Ok((Item::Single(value), faults, rest))
 }
 
 /// An item with a table, and the name that leaves no trace.
@@ -107,7 +112,7 @@ fn listed_item(
     alloc: Global,
     faults: Faults,
     tokens: Tokens<'_>,
-) -> Result<(TItem, Faults, Tokens<'_>), ParseRefusal>
+) -> Result<(Item, Faults, Tokens<'_>), ParseRefusal>
     ensures { Gives (λ x. (item_of x.0, faults_of x.1, x.2.now)) result (reading.listed_item_at parsing (faults_of faults) tokens.now) }
 {
     let (item, faults, rest) = row_item(alloc, faults, tokens)?;
@@ -120,7 +125,7 @@ pub fn plain_items(
     alloc: Global,
     faults: Faults,
     tokens: Tokens<'_>,
-) -> Result<(Seq<SValue>, Faults, Tokens<'_>), ParseRefusal>
+) -> Result<(Seq<Value>, Faults, Tokens<'_>), ParseRefusal>
     ensures { Gives (λ x. (plain_of x.0, faults_of x.1, x.2.now)) result
         (reading.items_from parsing (reading.plain_item_at parsing) (length tokens.now) (faults_of faults) tokens.now) }
 {
@@ -145,7 +150,7 @@ pub fn listed_items(
     alloc: Global,
     faults: Faults,
     tokens: Tokens<'_>,
-) -> Result<(Seq<TItem>, Faults, Tokens<'_>), ParseRefusal>
+) -> Result<(Seq<Item>, Faults, Tokens<'_>), ParseRefusal>
     ensures { Gives (λ x. (items_of x.0, faults_of x.1, x.2.now)) result
         (reading.items_from parsing (reading.listed_item_at parsing) (length tokens.now) (faults_of faults) tokens.now) }
 {

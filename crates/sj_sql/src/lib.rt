@@ -5,28 +5,24 @@
 #![tactic(auto)]
 
 mod answer;
+mod asking;
 mod call;
 mod column;
 mod common;
-mod document_value;
 mod faults;
 mod file;
 mod item;
-mod member;
 mod path;
-mod row_value;
 mod script;
 mod select;
 mod table;
 mod value;
-mod value_tree;
 
 pub use answer::Refused;
 pub use file::{NextStatement, next_statement};
 pub use script::{FileFault, Script, Statements, parse_file};
 pub use sj_sql_tree::{
     BindKind, Column, Columns, Common, Encoding, ExistsCall, FileKind, FormattedColumn, InOut,
-    IsJsonCall, NamedPlan, Passed, PlanTree, QueryCall, Quotes, RegularColumn, SMembers, SValue,
-    SValues, Seq, Siblings, Statement, TItem, TMembers, TValue, TValues, Table, TypeName,
-    ValueCall, ValueDo,
+    IsJsonCall, Item, Member, NamedPlan, Passed, PlanTree, QueryCall, Quotes, RegularColumn, Seq,
+    Siblings, Statement, Table, TypeName, Value, ValueCall, ValueDo,
 };

@@ -1,48 +1,69 @@
-//! The values of a SELECT list, with a function that reads the values inside them.
+//! The values of a SELECT list.
 
 ghost use Rattle.std.specs.Prelude.{◌≡◌, length};
 ghost use Rattle.sj_base.specs.Gives.{Gives};
 ghost use Rattle.sj_sql_grammar.specs.Faults.{parsing};
 ghost use Rattle.sj_sql_grammar.specs.Reading as reading;
-ghost use Rattle.sj_sql.specs.Boxes.{member_of};
+ghost use Rattle.sj_sql_grammar.specs.Tree as t;
 ghost use Rattle.sj_sql.specs.Nests.{Nests};
 ghost use Rattle.sj_sql.specs.Noted.{faults_of};
+ghost use Rattle.sj_sql.specs.Sources.{source_of};
+ghost use Rattle.sj_sql_tree.specs.View.{value_of, values_of, member_of, members_of};
 
+use crate::asking::{Source, asking};
 use crate::faults::Faults;
-use crate::member::{Member, member_cells, value_cells};
-use crate::value_tree::ValueTree;
-use sj_base::{ParseRefusal, boxed};
+use sj_base::ParseRefusal;
 use sj_sql_phrase::literal::literal;
 use sj_sql_phrase::passing::put;
 use sj_sql_phrase::phrase::{nulls_clause, unique_clause};
 use sj_sql_phrase::single::{Rest, Tokens, close, colon, comma, open, word};
 use sj_sql_token::Keyword;
-use sj_sql_tree::Seq;
+use sj_sql_tree::{Member, Seq, Value};
 use sj_value::Nulls;
 use std::alloc::Global;
 
-/// What may stand at one level of constructors.
+/// JSON_OBJECT, as the definitions have it.
+fn object_of(members: Vec<Member>, nulls: Nulls, unique: bool) -> Value
+    ensures { value_of result ≡ t.Object (members_of members.items) nulls unique }
+{
+    Value::Object(members, nulls, unique)
+}
+
+/// JSON_ARRAY, as the definitions have it.
+fn array_of(values: Vec<Value>, nulls: Nulls) -> Value
+    ensures { value_of result ≡ t.Array (values_of values.items) nulls }
+{
+    Value::Array(values, nulls)
+}
+
+/// What may stand at one level of constructors, with a function that reads the values inside them.
 #[derive(Clone, Copy)]
 pub struct Level<F> {
     pub alloc: Global,
+    pub source: Source,
     /// How deep constructors may still nest.
     pub depth: usize,
     pub inner: F,
 }
 
 impl<
-    V: ValueTree,
-    F: Fn(Global, usize, Faults, Tokens<'_>) -> Result<(V, Faults, Tokens<'_>), ParseRefusal>,
+    F: Fn(
+        Global,
+        Source,
+        usize,
+        Faults,
+        Tokens<'_>,
+    ) -> Result<(Value, Faults, Tokens<'_>), ParseRefusal>,
 > Level<F> {
     fn inner<'a>(
         &self,
         faults: Faults,
         tokens: Tokens<'a>,
-    ) -> Result<(V, Faults, Tokens<'a>), ParseRefusal>
-        requires { Nests V.value_of V.source self.now.depth (F.pre self.now.inner) (F.post self.now.inner) }
-        ensures { Gives (λ x. (V.value_of x.0, faults_of x.1, x.2.now)) result (reading.value_at parsing V.source self.now.depth (faults_of faults) tokens.now) }
+    ) -> Result<(Value, Faults, Tokens<'a>), ParseRefusal>
+        requires { Nests self.now.source self.now.depth (F.pre self.now.inner) (F.post self.now.inner) }
+        ensures { Gives (λ x. (value_of x.0, faults_of x.1, x.2.now)) result (reading.value_at parsing (source_of self.now.source) self.now.depth (faults_of faults) tokens.now) }
     {
-        (self.inner)(self.alloc, self.depth, faults, tokens)
+        (self.inner)(self.alloc, self.source, self.depth, faults, tokens)
     }
 
     /// Values with commas between them.
@@ -51,21 +72,20 @@ impl<
         &self,
         faults: Faults,
         tokens: Tokens<'a>,
-    ) -> Result<(V::Values, Faults, Tokens<'a>), ParseRefusal>
-        requires { Nests V.value_of V.source self.now.depth (F.pre self.now.inner) (F.post self.now.inner) }
-        ensures { Gives (λ x. (V.values_of x.0, faults_of x.1, x.2.now)) result
-            (reading.values_from parsing (reading.value_at parsing V.source self.now.depth) (length tokens.now) (faults_of faults) tokens.now) }
+    ) -> Result<(Vec<Value>, Faults, Tokens<'a>), ParseRefusal>
+        requires { Nests self.now.source self.now.depth (F.pre self.now.inner) (F.post self.now.inner) }
+        ensures { Gives (λ x. (values_of x.0.items, faults_of x.1, x.2.now)) result
+            (reading.values_from parsing (reading.value_at parsing (source_of self.now.source) self.now.depth) (length tokens.now) (faults_of faults) tokens.now) }
     {
         let mut values = Seq::new(self.alloc);
         let mut so_far = faults;
         let mut left = Rest { tokens };
         for _turn in 0..tokens.len() {
             let (value, noted, after) = self.inner(so_far, left.tokens)?;
-            let Some(next) = comma(after) else {
-                let cells = value_cells(self.alloc, values, value)?;
-                return Ok((cells, noted, after));
-            };
             put(&mut values, value)?;
+            let Some(next) = comma(after) else {
+                return Ok((values.into_vec(), noted, after));
+            };
             so_far = noted;
             left = Rest { tokens: next };
         }
@@ -76,16 +96,15 @@ impl<
     #[tactic(auto, unfolding(sj_sql_grammar::specs::Reading::member_value_at))]
     fn member_value<'a>(
         &self,
-        key: Box<V>,
+        key: Value,
         faults: Faults,
         tokens: Tokens<'a>,
-    ) -> Result<(Member<V>, Faults, Tokens<'a>), ParseRefusal>
-        requires { Nests V.value_of V.source self.now.depth (F.pre self.now.inner) (F.post self.now.inner) }
-        ensures { Gives (λ x. (member_of V.value_of x.0, faults_of x.1, x.2.now)) result
-            (reading.member_value_at parsing (reading.value_at parsing V.source self.now.depth) (V.value_of key.value) (faults_of faults) tokens.now) }
+    ) -> Result<(Member, Faults, Tokens<'a>), ParseRefusal>
+        requires { Nests self.now.source self.now.depth (F.pre self.now.inner) (F.post self.now.inner) }
+        ensures { Gives (λ x. (member_of x.0, faults_of x.1, x.2.now)) result
+            (reading.member_value_at parsing (reading.value_at parsing (source_of self.now.source) self.now.depth) (value_of key) (faults_of faults) tokens.now) }
     {
         let (value, faults, rest) = self.inner(faults, tokens)?;
-        let value = boxed(self.alloc, value)?;
         Ok((Member { key, value }, faults, rest))
     }
 
@@ -95,13 +114,12 @@ impl<
         &self,
         faults: Faults,
         tokens: Tokens<'a>,
-    ) -> Result<(Member<V>, Faults, Tokens<'a>), ParseRefusal>
-        requires { Nests V.value_of V.source self.now.depth (F.pre self.now.inner) (F.post self.now.inner) }
-        ensures { Gives (λ x. (member_of V.value_of x.0, faults_of x.1, x.2.now)) result
-            (reading.keyed_at parsing (reading.value_at parsing V.source self.now.depth) (faults_of faults) tokens.now) }
+    ) -> Result<(Member, Faults, Tokens<'a>), ParseRefusal>
+        requires { Nests self.now.source self.now.depth (F.pre self.now.inner) (F.post self.now.inner) }
+        ensures { Gives (λ x. (member_of x.0, faults_of x.1, x.2.now)) result
+            (reading.keyed_at parsing (reading.value_at parsing (source_of self.now.source) self.now.depth) (faults_of faults) tokens.now) }
     {
         let (key, faults, rest) = self.inner(faults, tokens)?;
-        let key = boxed(self.alloc, key)?;
         let Some(rest) = word(Keyword::Value, rest) else {
             return Err(ParseRefusal::Syntax);
         };
@@ -114,16 +132,15 @@ impl<
         &self,
         faults: Faults,
         tokens: Tokens<'a>,
-    ) -> Result<(Member<V>, Faults, Tokens<'a>), ParseRefusal>
-        requires { Nests V.value_of V.source self.now.depth (F.pre self.now.inner) (F.post self.now.inner) }
-        ensures { Gives (λ x. (member_of V.value_of x.0, faults_of x.1, x.2.now)) result
-            (reading.member_at parsing (reading.value_at parsing V.source self.now.depth) (faults_of faults) tokens.now) }
+    ) -> Result<(Member, Faults, Tokens<'a>), ParseRefusal>
+        requires { Nests self.now.source self.now.depth (F.pre self.now.inner) (F.post self.now.inner) }
+        ensures { Gives (λ x. (member_of x.0, faults_of x.1, x.2.now)) result
+            (reading.member_at parsing (reading.value_at parsing (source_of self.now.source) self.now.depth) (faults_of faults) tokens.now) }
     {
         if let Some(rest) = word(Keyword::Key, tokens) {
             return self.keyed(faults, rest);
         }
         let (key, faults, rest) = self.inner(faults, tokens)?;
-        let key = boxed(self.alloc, key)?;
         if let Some(rest) = word(Keyword::Value, rest) {
             return self.member_value(key, faults, rest);
         }
@@ -139,21 +156,20 @@ impl<
         &self,
         faults: Faults,
         tokens: Tokens<'a>,
-    ) -> Result<(V::Members, Faults, Tokens<'a>), ParseRefusal>
-        requires { Nests V.value_of V.source self.now.depth (F.pre self.now.inner) (F.post self.now.inner) }
-        ensures { Gives (λ x. (V.members_of x.0, faults_of x.1, x.2.now)) result
-            (reading.members_from parsing (reading.value_at parsing V.source self.now.depth) (length tokens.now) (faults_of faults) tokens.now) }
+    ) -> Result<(Vec<Member>, Faults, Tokens<'a>), ParseRefusal>
+        requires { Nests self.now.source self.now.depth (F.pre self.now.inner) (F.post self.now.inner) }
+        ensures { Gives (λ x. (members_of x.0.items, faults_of x.1, x.2.now)) result
+            (reading.members_from parsing (reading.value_at parsing (source_of self.now.source) self.now.depth) (length tokens.now) (faults_of faults) tokens.now) }
     {
         let mut members = Seq::new(self.alloc);
         let mut so_far = faults;
         let mut left = Rest { tokens };
         for _turn in 0..tokens.len() {
             let (member, noted, after) = self.member(so_far, left.tokens)?;
-            let Some(next) = comma(after) else {
-                let cells = member_cells(self.alloc, members, member)?;
-                return Ok((cells, noted, after));
-            };
             put(&mut members, member)?;
+            let Some(next) = comma(after) else {
+                return Ok((members.into_vec(), noted, after));
+            };
             so_far = noted;
             left = Rest { tokens: next };
         }
@@ -166,16 +182,16 @@ impl<
         &self,
         faults: Faults,
         tokens: Tokens<'a>,
-    ) -> Result<(V, Faults, Tokens<'a>), ParseRefusal>
-        requires { Nests V.value_of V.source self.now.depth (F.pre self.now.inner) (F.post self.now.inner) }
-        ensures { Gives (λ x. (V.value_of x.0, faults_of x.1, x.2.now)) result
-            (reading.object_from parsing (reading.value_at parsing V.source self.now.depth) (faults_of faults) tokens.now) }
+    ) -> Result<(Value, Faults, Tokens<'a>), ParseRefusal>
+        requires { Nests self.now.source self.now.depth (F.pre self.now.inner) (F.post self.now.inner) }
+        ensures { Gives (λ x. (value_of x.0, faults_of x.1, x.2.now)) result
+            (reading.object_from parsing (reading.value_at parsing (source_of self.now.source) self.now.depth) (faults_of faults) tokens.now) }
     {
         let Some(rest) = open(tokens) else {
             return Err(ParseRefusal::Syntax);
         };
         if let Some(rest) = close(rest) {
-            let none = V::object(V::no_members(), Nulls::Null, false);
+            let none = object_of(Vec::new(self.alloc), Nulls::Null, false);
             return Ok((none, faults, rest));
         }
         let (members, faults, rest) = self.members(faults, rest)?;
@@ -184,7 +200,7 @@ impl<
         let Some(rest) = close(rest) else {
             return Err(ParseRefusal::Syntax);
         };
-        Ok((V::object(members, nulls, unique), faults, rest))
+        Ok((object_of(members, nulls, unique), faults, rest))
     }
 
     /// JSON_ARRAY, behind its word.
@@ -193,16 +209,16 @@ impl<
         &self,
         faults: Faults,
         tokens: Tokens<'a>,
-    ) -> Result<(V, Faults, Tokens<'a>), ParseRefusal>
-        requires { Nests V.value_of V.source self.now.depth (F.pre self.now.inner) (F.post self.now.inner) }
-        ensures { Gives (λ x. (V.value_of x.0, faults_of x.1, x.2.now)) result
-            (reading.array_from parsing (reading.value_at parsing V.source self.now.depth) (faults_of faults) tokens.now) }
+    ) -> Result<(Value, Faults, Tokens<'a>), ParseRefusal>
+        requires { Nests self.now.source self.now.depth (F.pre self.now.inner) (F.post self.now.inner) }
+        ensures { Gives (λ x. (value_of x.0, faults_of x.1, x.2.now)) result
+            (reading.array_from parsing (reading.value_at parsing (source_of self.now.source) self.now.depth) (faults_of faults) tokens.now) }
     {
         let Some(rest) = open(tokens) else {
             return Err(ParseRefusal::Syntax);
         };
         if let Some(rest) = close(rest) {
-            let none = V::array(V::no_values(), Nulls::Absent);
+            let none = array_of(Vec::new(self.alloc), Nulls::Absent);
             return Ok((none, faults, rest));
         }
         let (values, faults, rest) = self.values(faults, rest)?;
@@ -210,7 +226,7 @@ impl<
         let Some(rest) = close(rest) else {
             return Err(ParseRefusal::Syntax);
         };
-        Ok((V::array(values, nulls), faults, rest))
+        Ok((array_of(values, nulls), faults, rest))
     }
 
     /// A value, with the values of a constructor by the function inside.
@@ -219,15 +235,15 @@ impl<
         &self,
         faults: Faults,
         tokens: Tokens<'a>,
-    ) -> Result<(V, Faults, Tokens<'a>), ParseRefusal>
-        requires { Nests V.value_of V.source self.now.depth (F.pre self.now.inner) (F.post self.now.inner) }
-        ensures { Gives (λ x. (V.value_of x.0, faults_of x.1, x.2.now)) result
-            (reading.value_over parsing V.source (reading.value_at parsing V.source self.now.depth) (faults_of faults) tokens.now) }
+    ) -> Result<(Value, Faults, Tokens<'a>), ParseRefusal>
+        requires { Nests self.now.source self.now.depth (F.pre self.now.inner) (F.post self.now.inner) }
+        ensures { Gives (λ x. (value_of x.0, faults_of x.1, x.2.now)) result
+            (reading.value_over parsing (source_of self.now.source) (reading.value_at parsing (source_of self.now.source) self.now.depth) (faults_of faults) tokens.now) }
     {
         match literal(self.alloc, tokens) {
             Ok(read) => {
                 let (literal, rest) = read;
-                Ok((V::literal(literal), faults, rest))
+                Ok((Value::Lit(literal), faults, rest))
             }
             Err(ParseRefusal::Memory) => Err(ParseRefusal::Memory),
             Err(ParseRefusal::Syntax) => {
@@ -237,8 +253,30 @@ impl<
                 if let Some(rest) = word(Keyword::JsonArray, tokens) {
                     return self.array(faults, rest);
                 }
-                V::asking(self.alloc, faults, tokens)
+                asking(self.alloc, self.source, faults, tokens)
             }
         }
     }
+}
+
+/// A value, with constructors inside one another at most `depth` deep.
+pub fn list_value(
+    alloc: Global,
+    source: Source,
+    depth: usize,
+    faults: Faults,
+    tokens: Tokens<'_>,
+) -> Result<(Value, Faults, Tokens<'_>), ParseRefusal>
+    ensures { Gives (λ x. (value_of x.0, faults_of x.1, x.2.now)) result (reading.value_at parsing (source_of source) depth (faults_of faults) tokens.now) }
+{
+    if depth == 0 {
+        return Err(ParseRefusal::Syntax);
+    }
+    Level {
+        alloc,
+        source,
+        depth: depth - 1,
+        inner: list_value,
+    }
+    .over(faults, tokens)
 }

@@ -11,9 +11,10 @@ use Rattle.sj_sql_grammar.specs.Faults.{Faults, parsing}
 use Rattle.sj_sql_grammar.specs.Phrases.{Tokens, if_some, comma_at, passed_at}
 use Rattle.sj_sql_grammar.specs.Reading.{list_from, values_from, member_at, members_from, column_at, columns_from, items_from}
 use Rattle.sj_sql_grammar.proofs.ReadTokens.{bind_is, bind_none, some_on, none_on}
-use Rattle.sj_sql_tree.specs.declared.tree.SValue.{SValue}
-use Rattle.sj_sql_tree.specs.declared.tree.TItem.{TItem}
-use Rattle.sj_sql_tree.specs.View.{svalue_of, plain_of, item_of, items_of}
+use Rattle.sj_sql_tree.specs.declared.tree.Value.{Value as ParsedValue}
+use Rattle.sj_sql_tree.specs.declared.tree.Member.{Member}
+use Rattle.sj_sql_tree.specs.declared.tree.Item.{Item}
+use Rattle.sj_sql_tree.specs.View.{value_of, values_of, member_of, members_of, plain_of, item_of, items_of}
 use Rattle.sj_sql_phrase.specs.Cells.{onto, fronted, listed, more_members}
 
 -- ---- one more at the end of a list
@@ -31,11 +32,19 @@ pub mapped_end : {A B : Type 0} (view : A → B) (xs : List A) (x : A) → map v
 mapped_end view [] x = refl
 mapped_end view (y ∷ ys) x = ap (λ zs. view y ∷ zs) (mapped_end view ys x)
 
-pub plain_end : (xs : List SValue) (x : SValue) → plain_of (xs ++ x ∷ []) ≡ plain_of xs ++ svalue_of x ∷ []
+pub plain_end : (xs : List ParsedValue) (x : ParsedValue) → plain_of (xs ++ x ∷ []) ≡ plain_of xs ++ value_of x ∷ []
 plain_end [] x = refl
-plain_end (y ∷ ys) x = ap (λ zs. svalue_of y ∷ zs) (plain_end ys x)
+plain_end (y ∷ ys) x = ap (λ zs. value_of y ∷ zs) (plain_end ys x)
 
-pub items_end : (xs : List TItem) (x : TItem) → items_of (xs ++ x ∷ []) ≡ items_of xs ++ item_of x ∷ []
+pub values_end : (xs : List ParsedValue) (x : ParsedValue) → onto MoreValues (map value_of xs) (MoreValues (value_of x) NoValues) ≡ values_of (xs ++ x ∷ [])
+values_end [] x = refl
+values_end (y ∷ ys) x = ap (MoreValues (value_of y)) (values_end ys x)
+
+pub members_end : (xs : List Member) (x : Member) → onto more_members (map member_of xs) (more_members (member_of x) NoMembers) ≡ members_of (xs ++ x ∷ [])
+members_end [] x = refl
+members_end (y ∷ ys) x = ap (more_members (member_of y)) (members_end ys x)
+
+pub items_end : (xs : List Item) (x : Item) → items_of (xs ++ x ∷ []) ≡ items_of xs ++ item_of x ∷ []
 items_end [] x = refl
 items_end (y ∷ ys) x = ap (λ zs. item_of y ∷ zs) (items_end ys x)
 

@@ -7,18 +7,10 @@ use Rattle.sj_sql_tree.specs.declared.tree.Common.{Common}
 use Rattle.sj_sql_tree.specs.declared.tree.ExistsCall.{ExistsCall}
 use Rattle.sj_sql_tree.specs.declared.tree.ValueCall.{ValueCall}
 use Rattle.sj_sql_tree.specs.declared.tree.QueryCall.{QueryCall}
-use Rattle.sj_sql_tree.specs.declared.tree.SValue.{SValue, Lit, Exists, Value, Query, IsJson, Object, Array}
-use Rattle.sj_sql_tree.specs.declared.tree.SValues.{SValues, Empty, More'}
-use Rattle.sj_sql_tree.specs.declared.tree.SMembers as m
-use Rattle.sj_sql_tree.specs.declared.tree.SMembers.{SMembers}
-use Rattle.sj_sql_tree.specs.declared.tree.TValue as v
-use Rattle.sj_sql_tree.specs.declared.tree.TValue.{TValue}
-use Rattle.sj_sql_tree.specs.declared.tree.TValues as vs
-use Rattle.sj_sql_tree.specs.declared.tree.TValues.{TValues}
-use Rattle.sj_sql_tree.specs.declared.tree.TMembers as n
-use Rattle.sj_sql_tree.specs.declared.tree.TMembers.{TMembers}
-use Rattle.sj_sql_tree.specs.declared.tree.TItem.{TItem}
-use Rattle.sj_sql_tree.specs.declared.tree.TItem.TheVariants as i
+use Rattle.sj_sql_tree.specs.declared.tree.Value.{Row_of-Member, end_of-Member, more_of-Member, Row_of-Value, end_of-Value, more_of-Value, Value, Lit, Column as ColumnNamed, Exists, ValueOf, Query, IsJson, Object', Array'}
+use Rattle.sj_sql_tree.specs.declared.tree.Member.{Member}
+use Rattle.sj_sql_tree.specs.declared.tree.Item.{Item}
+use Rattle.sj_sql_tree.specs.declared.tree.Item.TheVariants as i
 use Rattle.sj_sql_tree.specs.declared.tree.RegularColumn.{RegularColumn}
 use Rattle.sj_sql_tree.specs.declared.tree.FormattedColumn.{FormattedColumn}
 use Rattle.sj_sql_tree.specs.declared.tree.Column as c
@@ -46,42 +38,42 @@ abbrev pub query_of : QueryCall → t.QueryCall Path
 query_of x = record { common = common_of x.common; wrapper = x.wrapper; quotes = x.quotes; on_empty = x.on_empty; on_error = x.on_error }
 
 abbrev mutual
-  pub svalue_of : SValue → t.Value Path
-  svalue_of (Lit x) = t.Lit x
-  svalue_of (Exists x) = t.Exists (exists_of x.value)
-  svalue_of (Value x) = t.ValueOf (value_call_of x.value)
-  svalue_of (Query x) = t.Query (query_of x.value)
-  svalue_of (IsJson x) = t.IsJson x
-  svalue_of (Object members nulls unique) = t.Object (smembers_of members) nulls unique
-  svalue_of (Array values nulls) = t.Array (svalues_of values) nulls
+  pub value_of : Value → t.Value Path
+  value_of (Lit x) = t.Lit x
+  value_of (ColumnNamed name) = t.Column name
+  value_of (Exists x) = t.Exists (exists_of x.value)
+  value_of (ValueOf x) = t.ValueOf (value_call_of x.value)
+  value_of (Query x) = t.Query (query_of x.value)
+  value_of (IsJson x) = t.IsJson x
+  value_of (Object' shape members nulls unique) = t.Object (member_row_of members) nulls unique
+  value_of (Array' shape values nulls) = t.Array (value_row_of values) nulls
 
-  pub svalues_of : SValues → t.Values Path
-  svalues_of Empty = t.NoValues
-  svalues_of (More' a x b others) = t.MoreValues (svalue_of x) (svalues_of others)
+  -- the values and the members of a `Vec`
+  pub value_row_of : {n : _} → Row_of-Value n → t.Values Path
+  value_row_of end_of-Value = t.NoValues
+  value_row_of (more_of-Value x others) = t.MoreValues (value_of x) (value_row_of others)
 
-  pub smembers_of : SMembers → t.Members Path
-  smembers_of m.Empty = t.NoMembers
-  smembers_of (m.More' a x b y c others) = t.MoreMembers (svalue_of x) (svalue_of y) (smembers_of others)
+  pub member_row_of : {n : _} → Row_of-Member n → t.Members Path
+  member_row_of end_of-Member = t.NoMembers
+  member_row_of (more_of-Member key x others) = t.MoreMembers (value_of key) (value_of x) (member_row_of others)
 
-abbrev mutual
-  pub tvalue_of : TValue → t.Value Path
-  tvalue_of (v.Lit x) = t.Lit x
-  tvalue_of (v.Column x) = t.Column x
-  tvalue_of (v.Object members nulls unique) = t.Object (tmembers_of members) nulls unique
-  tvalue_of (v.Array values nulls) = t.Array (tvalues_of values) nulls
+-- the same of the values as a list, and of the members
+abbrev pub values_of : List Value → t.Values Path
+values_of [] = t.NoValues
+values_of (x ∷ others) = t.MoreValues (value_of x) (values_of others)
 
-  pub tvalues_of : TValues → t.Values Path
-  tvalues_of vs.Empty = t.NoValues
-  tvalues_of (vs.More' a x b others) = t.MoreValues (tvalue_of x) (tvalues_of others)
+abbrev pub members_of : List Member → t.Members Path
+members_of [] = t.NoMembers
+members_of (x ∷ others) = t.MoreMembers (value_of x.key) (value_of x.value) (members_of others)
 
-  pub tmembers_of : TMembers → t.Members Path
-  tmembers_of n.Empty = t.NoMembers
-  tmembers_of (n.More' a x b y c others) = t.MoreMembers (tvalue_of x) (tvalue_of y) (tmembers_of others)
+-- a member as its key and its value
+abbrev pub member_of : Member → t.Value Path × t.Value Path
+member_of x = (value_of x.key, value_of x.value)
 
-abbrev pub item_of : TItem → t.Item Path
-item_of (i.Value x) = t.Single (tvalue_of x)
-item_of (i.ArrayAgg x nulls) = t.ArrayAgg (tvalue_of x) nulls
-item_of (i.ObjectAgg x y nulls unique) = t.ObjectAgg (tvalue_of x) (tvalue_of y) nulls unique
+abbrev pub item_of : Item → t.Item Path
+item_of (i.Single x) = t.Single (value_of x)
+item_of (i.ArrayAgg x nulls) = t.ArrayAgg (value_of x) nulls
+item_of (i.ObjectAgg x y nulls unique) = t.ObjectAgg (value_of x) (value_of y) nulls unique
 
 abbrev pub regular_of : RegularColumn → t.RegularColumn Path
 regular_of x = record { name = x.name; ty = x.ty; path = path_of x.path; on_empty = x.on_empty; on_error = x.on_error }
@@ -115,11 +107,11 @@ plan_tree_of (pt.Named x) = t.Named (plan_of x)
 abbrev pub table_of : Table → t.Table Path
 table_of x = record { common = common_of x.common; name = x.name; columns = columns_of x.columns; plan = plan_tree_of x.plan; on_error = x.on_error }
 
-abbrev pub plain_of : List SValue → List (t.Value Path)
+abbrev pub plain_of : List Value → List (t.Value Path)
 plain_of [] = []
-plain_of (x ∷ xs) = svalue_of x ∷ plain_of xs
+plain_of (x ∷ xs) = value_of x ∷ plain_of xs
 
-abbrev pub items_of : List TItem → List (t.Item Path)
+abbrev pub items_of : List Item → List (t.Item Path)
 items_of [] = []
 items_of (x ∷ xs) = item_of x ∷ items_of xs
 

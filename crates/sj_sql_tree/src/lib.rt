@@ -1,8 +1,8 @@
 //! Statements as trees (ISO/IEC 9075-2, SQL/JSON).
 //!
 //! It stands on the definitions of sj_sql_grammar and the paths of sj_path_tree. Contracts see a statement as a tree of
-//! sj_sql_grammar, by `statement_of` in `specs/View.antt`, with lists in place of sequences and linked cells, and without
-//! pointers. The parser is sj_sql; what binds statements needs their trees alone.
+//! sj_sql_grammar, by `statement_of` in `specs/View.antt`, with lists in place of sequences, vectors and linked cells, and
+//! without pointers. The parser is sj_sql; what binds statements needs their trees alone.
 #![tactic(auto)]
 
 mod seq;
@@ -13,7 +13,6 @@ pub use sj_sql_grammar::{
     BindKind, Encoding, FileKind, InOut, IsJsonCall, Passed, Quotes, Siblings, TypeName, ValueDo,
 };
 pub use tree::{
-    Column, Columns, Common, ExistsCall, FormattedColumn, NamedPlan, PlanTree, QueryCall,
-    RegularColumn, SMembers, SValue, SValues, Statement, TItem, TMembers, TValue, TValues, Table,
-    ValueCall,
+    Column, Columns, Common, ExistsCall, FormattedColumn, Item, Member, NamedPlan, PlanTree,
+    QueryCall, RegularColumn, Statement, Table, Value, ValueCall,
 };

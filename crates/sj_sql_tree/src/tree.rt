@@ -1,7 +1,7 @@
-//! The trees of statements. Where a rule leads back to itself, a repeated part is an enum of linked cells, which is
-//! given up by a loop; any other repeated part is a sequence.
+//! The trees of statements. A repeated part of a value is a vector, since a recursive type holds no sequence. The columns
+//! of a table are linked cells, which are given up by a loop. Any other repeated part is a sequence.
 
-ghost use Rattle.sj_sql_tree.specs.Split.{SplitsValues, SplitsMembers, SplitsRowValues, SplitsRowMembers, SplitsColumns};
+ghost use Rattle.sj_sql_tree.specs.Split.{SplitsColumns};
 
 use crate::seq::Seq;
 use sj_base::Text;
@@ -13,11 +13,11 @@ use sj_value::{ExistsAction, Nulls, QueryAction, TableAction, Wrapper};
 #[derive(Drop)]
 pub enum Statement {
     /// `SELECT` and values, with no table.
-    Plain(Seq<SValue>),
+    Plain(Seq<Value>),
     /// `SELECT * FROM` a table.
     All(Table),
     /// `SELECT` and items, `FROM` a table.
-    Listed(Seq<TItem>, Table),
+    Listed(Seq<Item>, Table),
 }
 
 /// The document, the path and the variables of a function or a table.
@@ -54,119 +54,41 @@ pub struct QueryCall {
     pub on_error: QueryAction,
 }
 
-/// A value of a SELECT list without a table. A function stands in a box, so that the calls that recur over values take
-/// little stack.
-#[cycle(values)]
-#[derive(Drop)]
-pub enum SValue {
-    Lit(Literal),
-    Exists(Box<ExistsCall>),
-    Value(Box<ValueCall>),
-    Query(Box<QueryCall>),
-    IsJson(IsJsonCall),
-    /// JSON_OBJECT: its members, and whether WITH UNIQUE KEYS stands there.
-    Object(SMembers, Nulls, bool),
-    /// JSON_ARRAY.
-    Array(SValues, Nulls),
-}
-
-/// The values of JSON_ARRAY.
-#[cycle(values)]
-pub enum SValues {
-    Empty,
-    More(Box<SValue>, Box<SValues>),
-}
-
-/// The members of JSON_OBJECT, each with its key before its value.
-#[cycle(values)]
-pub enum SMembers {
-    Empty,
-    More(Box<SValue>, Box<SValue>, Box<SMembers>),
-}
-
-impl Drop for SValues {
-    #[cycle(give_up_values)]
-    fn drop(mut self) {
-        loop {
-            match self {
-                SValues::Empty => return,
-                SValues::More(_, others) => self = Box::into_inner(others),
-            }
-        }
-    }
-}
-
-impl Drop for SMembers {
-    #[cycle(give_up_values)]
-    fn drop(mut self) {
-        loop {
-            match self {
-                SMembers::Empty => return,
-                SMembers::More(_, _, others) => self = Box::into_inner(others),
-            }
-        }
-    }
-}
-
 /// An item of a SELECT list with a table.
 #[derive(Drop)]
-pub enum TItem {
-    Value(TValue),
+pub enum Item {
+    Single(Value),
     /// JSON_ARRAYAGG.
-    ArrayAgg(TValue, Nulls),
+    ArrayAgg(Value, Nulls),
     /// JSON_OBJECTAGG: its key, its value, and whether WITH UNIQUE KEYS stands there.
-    ObjectAgg(TValue, TValue, Nulls, bool),
+    ObjectAgg(Value, Value, Nulls, bool),
 }
 
-/// A value of a SELECT list with a table.
-#[cycle(row_values)]
+/// A value of a SELECT list. The parser puts a column only beside a table, and a function on the document only where there
+/// is none. A function stands in a box, so that the calls that recur over values take little stack.
+#[cycle(values)]
 #[derive(Drop)]
-pub enum TValue {
+pub enum Value {
     Lit(Literal),
     /// A column of the table.
     Column(Text),
+    Exists(Box<ExistsCall>),
+    /// JSON_VALUE.
+    ValueOf(Box<ValueCall>),
+    Query(Box<QueryCall>),
+    IsJson(IsJsonCall),
     /// JSON_OBJECT: its members, and whether WITH UNIQUE KEYS stands there.
-    Object(TMembers, Nulls, bool),
+    Object(Vec<Member>, Nulls, bool),
     /// JSON_ARRAY.
-    Array(TValues, Nulls),
+    Array(Vec<Value>, Nulls),
 }
 
-/// The values of JSON_ARRAY.
-#[cycle(row_values)]
-pub enum TValues {
-    Empty,
-    More(Box<TValue>, Box<TValues>),
-}
-
-/// The members of JSON_OBJECT, each with its key before its value.
-#[cycle(row_values)]
-pub enum TMembers {
-    Empty,
-    More(Box<TValue>, Box<TValue>, Box<TMembers>),
-}
-
-impl Drop for TValues {
-    #[cycle(give_up_row_values)]
-    fn drop(mut self) {
-        loop {
-            match self {
-                TValues::Empty => return,
-                TValues::More(_, others) => self = Box::into_inner(others),
-            }
-        }
-    }
-}
-
-impl Drop for TMembers {
-    #[cycle(give_up_row_values)]
-    fn drop(mut self) {
-        loop {
-            match self {
-                TMembers::Empty => return,
-                TMembers::More(_, _, others) => self = Box::into_inner(others),
-            }
-        }
-    }
+/// A member of JSON_OBJECT or of JSON_OBJECTAGG.
+#[cycle(values)]
+#[derive(Drop)]
+pub struct Member {
+    pub key: Value,
+    pub value: Value,
 }
 
 /// JSON_TABLE (ISO/IEC 9075-2, 7.11). Its name is that of its row path.
@@ -272,66 +194,6 @@ impl Drop for NamedPlan {
                 NamedPlan::Union(first, _) => self = Box::into_inner(first),
                 NamedPlan::Cross(first, _) => self = Box::into_inner(first),
             }
-        }
-    }
-}
-
-impl SValues {
-    /// The first value and the others, or nothing where there is no value.
-    pub fn split_first(self) -> Option<(SValue, SValues)>
-        ensures { SplitsValues self result }
-    {
-        match self {
-            SValues::Empty => None,
-            SValues::More(value, others) => {
-                Some((Box::into_inner(value), Box::into_inner(others)))
-            }
-        }
-    }
-}
-
-impl SMembers {
-    /// The key and the value of the first member, and the others, or nothing where there is no member.
-    pub fn split_first(self) -> Option<(SValue, SValue, SMembers)>
-        ensures { SplitsMembers self result }
-    {
-        match self {
-            SMembers::Empty => None,
-            SMembers::More(key, value, others) => Some((
-                Box::into_inner(key),
-                Box::into_inner(value),
-                Box::into_inner(others),
-            )),
-        }
-    }
-}
-
-impl TValues {
-    /// The first value and the others, or nothing where there is no value.
-    pub fn split_first(self) -> Option<(TValue, TValues)>
-        ensures { SplitsRowValues self result }
-    {
-        match self {
-            TValues::Empty => None,
-            TValues::More(value, others) => {
-                Some((Box::into_inner(value), Box::into_inner(others)))
-            }
-        }
-    }
-}
-
-impl TMembers {
-    /// The key and the value of the first member, and the others, or nothing where there is no member.
-    pub fn split_first(self) -> Option<(TValue, TValue, TMembers)>
-        ensures { SplitsRowMembers self result }
-    {
-        match self {
-            TMembers::Empty => None,
-            TMembers::More(key, value, others) => Some((
-                Box::into_inner(key),
-                Box::into_inner(value),
-                Box::into_inner(others),
-            )),
         }
     }
 }

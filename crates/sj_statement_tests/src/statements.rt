@@ -4,32 +4,26 @@ mod same;
 mod spellings;
 mod trees;
 
-use sj_path::Literal;
+use sj_base::Text;
 use sj_sql::{
-    FileFault, FileKind, NextStatement, Refused, SMembers, SValue, SValues, Seq, Statement,
-    Statements, next_statement, parse_file,
+    Column, Columns, FileFault, FileKind, NextStatement, Refused, Seq, Statement, Statements,
+    next_statement, parse_file,
 };
-use std::alloc::Global;
 use std::test::Fail;
-
-/// So many linked cells, one behind another.
-fn chain(alloc: Global, len: u32) -> Result<SValues, Fail> {
-    let mut cells = SValues::Empty;
-    for _turn in 0..len {
-        let value = Box::new(alloc, SValue::Lit(Literal::Null))?;
-        cells = SValues::More(value, Box::new(alloc, cells)?);
-    }
-    Ok(cells)
-}
 
 #[test]
 fn long_chains_are_given_up_by_a_loop(rt: HostRuntime) -> Result<(), Fail> {
-    let _values = chain(rt.alloc(), 1_000_000)?;
-    let mut members = SMembers::Empty;
+    let last = Box::new(
+        rt.alloc(),
+        Column::Ordinality(Text::from_str(rt.alloc(), "c")?),
+    )?;
+    let mut columns = Columns::Last(last);
     for _turn in 0..1_000_000u32 {
-        let key = Box::new(rt.alloc(), SValue::Lit(Literal::Null))?;
-        let value = Box::new(rt.alloc(), SValue::Lit(Literal::Null))?;
-        members = SMembers::More(key, value, Box::new(rt.alloc(), members)?);
+        let column = Box::new(
+            rt.alloc(),
+            Column::Ordinality(Text::from_str(rt.alloc(), "c")?),
+        )?;
+        columns = Columns::More(column, Box::new(rt.alloc(), columns)?);
     }
     Ok(())
 }

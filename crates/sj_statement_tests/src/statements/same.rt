@@ -3,9 +3,8 @@
 use sj_base::Text;
 use sj_path::{Expr, Initial, Literal, Path, Pred, Step, Sub};
 use sj_sql::{
-    Column, Columns, Common, ExistsCall, FormattedColumn, NamedPlan, PlanTree, QueryCall,
-    RegularColumn, SMembers, SValue, SValues, Statement, TItem, TMembers, TValue, TValues, Table,
-    ValueCall,
+    Column, Columns, Common, ExistsCall, FormattedColumn, Item, Member, NamedPlan, PlanTree,
+    QueryCall, RegularColumn, Statement, Table, Value, ValueCall,
 };
 use sj_sql_grammar::{Passed, ValueDo};
 
@@ -149,85 +148,52 @@ fn same_query(a: &QueryCall, b: &QueryCall) -> bool {
 }
 
 #[cycle(same_values)]
-fn same_value(a: &SValue, b: &SValue) -> bool {
+fn same_value(a: &Value, b: &Value) -> bool {
     match a {
-        SValue::Lit(a) => matches!(b, SValue::Lit(b) if same_literal(a, b)),
-        SValue::Exists(a) => matches!(b, SValue::Exists(b) if same_exists(a, b)),
-        SValue::Value(a) => matches!(b, SValue::Value(b) if same_value_call(a, b)),
-        SValue::Query(a) => matches!(b, SValue::Query(b) if same_query(a, b)),
-        SValue::IsJson(a) => matches!(b, SValue::IsJson(b) if a == b),
-        SValue::Object(a, nulls, unique) => {
-            matches!(b, SValue::Object(b, n, u) if nulls == n && unique == u && same_members(a, b))
+        Value::Lit(a) => matches!(b, Value::Lit(b) if same_literal(a, b)),
+        Value::Column(a) => matches!(b, Value::Column(b) if same_text(a, b)),
+        Value::Exists(a) => matches!(b, Value::Exists(b) if same_exists(a, b)),
+        Value::ValueOf(a) => matches!(b, Value::ValueOf(b) if same_value_call(a, b)),
+        Value::Query(a) => matches!(b, Value::Query(b) if same_query(a, b)),
+        Value::IsJson(a) => matches!(b, Value::IsJson(b) if a == b),
+        Value::Object(a, nulls, unique) => {
+            matches!(b, Value::Object(b, n, u) if nulls == n && unique == u && same_members(a, b))
         }
-        SValue::Array(a, nulls) => {
-            matches!(b, SValue::Array(b, n) if nulls == n && same_values(a, b))
+        Value::Array(a, nulls) => {
+            matches!(b, Value::Array(b, n) if nulls == n && same_values(a, b))
         }
     }
 }
 
 #[cycle(same_values)]
-fn same_values(a: &SValues, b: &SValues) -> bool {
-    match a {
-        SValues::Empty => matches!(b, SValues::Empty),
-        SValues::More(a, c) => {
-            matches!(b, SValues::More(b, d) if same_value(a, b) && same_values(c, d))
+fn same_values(a: &[Value], b: &[Value]) -> bool {
+    for (a, b) in a.iter().zip(b.iter()) {
+        if !same_value(a, b) {
+            return false;
         }
     }
+    a.len() == b.len()
 }
 
 #[cycle(same_values)]
-fn same_members(a: &SMembers, b: &SMembers) -> bool {
-    match a {
-        SMembers::Empty => matches!(b, SMembers::Empty),
-        SMembers::More(key, a, c) => {
-            matches!(b, SMembers::More(k, b, d) if same_value(key, k) && same_value(a, b) && same_members(c, d))
+fn same_members(a: &[Member], b: &[Member]) -> bool {
+    for (a, b) in a.iter().zip(b.iter()) {
+        if !same_value(&a.key, &b.key) || !same_value(&a.value, &b.value) {
+            return false;
         }
     }
+    a.len() == b.len()
 }
 
-#[cycle(same_row_values)]
-fn same_row_value(a: &TValue, b: &TValue) -> bool {
+fn same_item(a: &Item, b: &Item) -> bool {
     match a {
-        TValue::Lit(a) => matches!(b, TValue::Lit(b) if same_literal(a, b)),
-        TValue::Column(a) => matches!(b, TValue::Column(b) if same_text(a, b)),
-        TValue::Object(a, nulls, unique) => {
-            matches!(b, TValue::Object(b, n, u) if nulls == n && unique == u && same_row_members(a, b))
+        Item::Single(a) => matches!(b, Item::Single(b) if same_value(a, b)),
+        Item::ArrayAgg(a, nulls) => {
+            matches!(b, Item::ArrayAgg(b, n) if nulls == n && same_value(a, b))
         }
-        TValue::Array(a, nulls) => {
-            matches!(b, TValue::Array(b, n) if nulls == n && same_row_values(a, b))
-        }
-    }
-}
-
-#[cycle(same_row_values)]
-fn same_row_values(a: &TValues, b: &TValues) -> bool {
-    match a {
-        TValues::Empty => matches!(b, TValues::Empty),
-        TValues::More(a, c) => {
-            matches!(b, TValues::More(b, d) if same_row_value(a, b) && same_row_values(c, d))
-        }
-    }
-}
-
-#[cycle(same_row_values)]
-fn same_row_members(a: &TMembers, b: &TMembers) -> bool {
-    match a {
-        TMembers::Empty => matches!(b, TMembers::Empty),
-        TMembers::More(key, a, c) => {
-            matches!(b, TMembers::More(k, b, d) if same_row_value(key, k) && same_row_value(a, b) && same_row_members(c, d))
-        }
-    }
-}
-
-fn same_item(a: &TItem, b: &TItem) -> bool {
-    match a {
-        TItem::Value(a) => matches!(b, TItem::Value(b) if same_row_value(a, b)),
-        TItem::ArrayAgg(a, nulls) => {
-            matches!(b, TItem::ArrayAgg(b, n) if nulls == n && same_row_value(a, b))
-        }
-        TItem::ObjectAgg(key, a, nulls, unique) => {
-            matches!(b, TItem::ObjectAgg(k, b, n, u)
-                if nulls == n && unique == u && same_row_value(key, k) && same_row_value(a, b))
+        Item::ObjectAgg(key, a, nulls, unique) => {
+            matches!(b, Item::ObjectAgg(k, b, n, u)
+                if nulls == n && unique == u && same_value(key, k) && same_value(a, b))
         }
     }
 }
@@ -310,16 +276,7 @@ fn same_table(a: &Table, b: &Table) -> bool {
         && a.on_error == b.on_error
 }
 
-fn same_list(a: &[SValue], b: &[SValue]) -> bool {
-    for (a, b) in a.iter().zip(b.iter()) {
-        if !same_value(a, b) {
-            return false;
-        }
-    }
-    a.len() == b.len()
-}
-
-fn same_items(a: &[TItem], b: &[TItem]) -> bool {
+fn same_items(a: &[Item], b: &[Item]) -> bool {
     for (a, b) in a.iter().zip(b.iter()) {
         if !same_item(a, b) {
             return false;
@@ -332,7 +289,7 @@ fn same_items(a: &[TItem], b: &[TItem]) -> bool {
 pub(super) fn same_statement(a: &Statement, b: &Statement) -> bool {
     match a {
         Statement::Plain(a) => {
-            matches!(b, Statement::Plain(b) if same_list(a.as_slice(), b.as_slice()))
+            matches!(b, Statement::Plain(b) if same_values(a.as_slice(), b.as_slice()))
         }
         Statement::All(a) => matches!(b, Statement::All(b) if same_table(a, b)),
         Statement::Listed(a, c) => {

@@ -1,12 +1,13 @@
 use Rattle.std.proofs.Common.{◌≡◌, ◌-◌, length, map}
 use Rattle.sj_sql_grammar.specs.Faults.{parsing}
 use Rattle.sj_sql_grammar.specs.Reading.{value_at, members_from}
-use Rattle.sj_sql.specs.Boxes.{member_of}
 use Rattle.sj_sql_phrase.specs.Cells.{fronted, more_members}
 use Rattle.sj_sql.specs.Noted.{faults_of}
+use Rattle.sj_sql.specs.Sources.{source_of}
+use Rattle.sj_sql_tree.specs.View.{member_of}
 use Rattle.sj_sql.proofs.value.Level.members.Given as goal
 
 abbrev pub invariant-loop-turn : goal.invariant-loop-turn
 invariant-loop-turn g l =
-    members_from parsing (value_at parsing g.V.ValueTree.source l.self.depth) (length l.tokens) (faults_of l.fn.faults) l.tokens
-    ≡ fronted more_members (map (member_of g.V.ValueTree.value_of) l.members) (members_from parsing (value_at parsing g.V.ValueTree.source l.self.depth) (l._turn-end - l._turn) (faults_of l.so_far) l.left.tokens.now)
+    members_from parsing (value_at parsing (source_of l.self.source) l.self.depth) (length l.tokens) (faults_of l.fn.faults) l.tokens
+    ≡ fronted more_members (map member_of l.members) (members_from parsing (value_at parsing (source_of l.self.source) l.self.depth) (l._turn-end - l._turn) (faults_of l.so_far) l.left.tokens.now)

@@ -2,7 +2,7 @@ use Rattle.std.proofs.Common.{ℕ, List, Bor}
 use Rattle.std.specs.Str.{bytes_eq}
 use Rattle.sj_bind.proofs.AddedNames.{place_of}
 use Rattle.sj_bind.proofs.Lists.{any_mapped}
-use Rattle.sj_bind.proofs.row_values.number_of.Goals as goal
+use Rattle.sj_bind.proofs.values.number_of.Goals as goal
 
 pub unreachable-requires : goal.unreachable-requires
 unreachable-requires c =
