@@ -1,9 +1,10 @@
 -- A statement that is accepted can be bound. The rules give no type of this implementation to which items cannot be cast, and
 -- a type or an encoding that it lacks would stand among the marks of the tree.
-use Rattle.std.proofs.Common.{◌≡◌, ℕ, true, ◌&&◌, nat_le, List, [], ◌∷◌, ◌++◌, Option, Some, refl, sym, subst, arith}
+use Rattle.std.proofs.Common.{◌≡◌, ℕ, ◌+◌, true, ◌&&◌, nat_le, List, [], ◌∷◌, ◌++◌, length, Option, Some, refl, sym, subst, arith}
 use Rattle.std.specs.List.{All as Each}
 use Rattle.std.proofs.lemmas.Bool.Decides.{nat_tests}
 use Rattle.std.proofs.lemmas.List.Elements.{All-nil, All-cons, All-append}
+use Rattle.std.proofs.lemmas.List.{map-append}
 use Rattle.sj_path_grammar.specs.declared.refusal.Name.{Name}
 use Rattle.sj_path_grammar.specs.declared.refusal.Name.TheVariants as lacks
 use Rattle.sj_path_tree.specs.Tree.{Path}
@@ -26,10 +27,10 @@ use Rattle.sj_sql_grammar.specs.Notes.{exists_with, value_call_with, query_with,
 use Rattle.sj_sql_grammar.specs.Answers.{Mark, path, unsupported, listing, marks, IsUnsupported, Free, none, more, finishing, Accepted, Ending, IsScript, done, unended, faulty, refused, accepted, IsFile}
 use Rattle.sj_sql_grammar.proofs.ReadTokens.{If, nothing, here, given, either, chosen}
 use Rattle.sj_bind.specs.Clauses.{IsBindableType}
-use Rattle.sj_bind.specs.Leaves.{leaves_in, leaves}
+use Rattle.sj_bind.specs.Flat.{TableColumn, columns_in, columns_below, paths_in}
+use Rattle.sj_bind.specs.Rules.{columns_alone}
 use Rattle.sj_bind.specs.Parts.{Call, exists_call, value_call, query_call, calls_in, calls_in_values, calls_in_members, calls_in_list}
 use Rattle.sj_bind.specs.Bindable.{IsRead, IsBindableCall, IsBindableColumn, IsBindableTable, IsBindable}
-use Rattle.sj_bind.proofs.LeafLists.{leaves_of_columns}
 use Rattle.sj_bind.proofs.SourceParts.{plain_lacks, items_ask_nothing}
 
 -- ---- the types that the rules give
@@ -204,49 +205,50 @@ plain_bindable (g.more {x = x} (g.plain_item i alias) comma j) ms d =
 
 -- ---- tables
 
-abbrev AreBindableColumns : List (ColumnOf Path) → Type 0
-AreBindableColumns = Each IsBindableColumn
+abbrev AreBindableColumns : List TableColumn → Type 0
+AreBindableColumns columns = Each IsBindableColumn (columns_alone columns)
 
-one_column : (c : ColumnOf Path) → IsBindableColumn c → AreBindableColumns (c ∷ [])
-one_column c i = All-cons IsBindableColumn c [] i (All-nil IsBindableColumn)
+one_column : (parent : ℕ) (c : ColumnOf Path) → IsBindableColumn c → AreBindableColumns (record { path = parent; column = c } ∷ [])
+one_column parent c i = All-cons IsBindableColumn c [] i (All-nil IsBindableColumn)
+
+both_columns : (xs ys : List TableColumn) → AreBindableColumns xs → AreBindableColumns ys → AreBindableColumns (xs ++ ys)
+both_columns xs ys h k = subst (Each IsBindableColumn) (sym (map-append (λ (c : TableColumn). c.column) xs ys)) (All-append IsBindableColumn (columns_alone xs) (columns_alone ys) h k)
 
 mutual
-  column_bindable : {ts rest : Tokens} {x : ColumnOf PathText} → IsColumn ts x rest → (ms : List Mark) → Free IsUnsupported (note_column listing x ms)
-      → Free IsUnsupported ms × AreBindableColumns (leaves_in (column_with finishing x))
-  column_bindable (g.ordinality {name = n} name for ordinality) ms d = (d, one_column (Ordinality n) tt)
-  column_bindable (g.regular {name = n} {ty = ty} {path = p} {empty = e} {error = f} name type column_path empty error) ms d =
+  column_bindable : {ts rest : Tokens} {x : ColumnOf PathText} → IsColumn ts x rest → (parent next : ℕ) (ms : List Mark) → Free IsUnsupported (note_column listing x ms)
+      → Free IsUnsupported ms × AreBindableColumns (columns_in parent next (column_with finishing x))
+  column_bindable (g.ordinality {name = n} name for ordinality) parent next ms d = (d, one_column parent (Ordinality n) tt)
+  column_bindable (g.regular {name = n} {ty = ty} {path = p} {empty = e} {error = f} name type column_path empty error) parent next ms d =
       let r = type_bindable ty (type_given _ _ ty type) ms (no_path (note_type listing ty ms) p d) in
-      (r.0, one_column (Regular (regular_with finishing (record { name = n; ty = ty; path = p; on_empty = e; on_error = f }))) r.1)
-  column_bindable (g.formatted {name = n} {x = x} {path = p} {wrap = v} {quote = q} {empty = e} {error = f} name format encoding column_path wrap quote empty error) ms d =
+      (r.0, one_column parent (Regular (regular_with finishing (record { name = n; ty = ty; path = p; on_empty = e; on_error = f }))) r.1)
+  column_bindable (g.formatted {name = n} {x = x} {path = p} {wrap = v} {quote = q} {empty = e} {error = f} name format encoding column_path wrap quote empty error) parent next ms d =
       let r = encoding_read x ms (no_path (note_encoding listing x ms) p d) in
-      (r.0, one_column (Formatted (formatted_with finishing (record { name = n; encoding = x; path = p; wrapper = v; quotes = q; on_empty = e; on_error = f }))) r.1)
-  column_bindable (g.existence {name = n} {path = p} {error = e} name existence column_path error) ms d =
-      (no_path ms p d, one_column (column_with finishing (Existence n p e)) tt)
-  column_bindable (g.nested {path = p} nested nested_path name i) ms d = let r = columns_bindable i (ms ++ path p ∷ []) d in (no_path ms p r.0, r.1)
+      (r.0, one_column parent (Formatted (formatted_with finishing (record { name = n; encoding = x; path = p; wrapper = v; quotes = q; on_empty = e; on_error = f }))) r.1)
+  column_bindable (g.existence {name = n} {path = p} {error = e} name existence column_path error) parent next ms d =
+      (no_path ms p d, one_column parent (column_with finishing (Existence n p e)) tt)
+  column_bindable (g.nested {path = p} nested nested_path name i) parent next ms d = let r = columns_bindable i next (next + 1) (ms ++ path p ∷ []) d in (no_path ms p r.0, r.1)
 
-  columns_bindable : {ts rest : Tokens} {xs : Columns PathText} → IsColumns ts xs rest → (ms : List Mark) → Free IsUnsupported (note_columns listing xs ms)
-      → Free IsUnsupported ms × AreBindableColumns (leaves (columns_with finishing xs))
-  columns_bindable (g.columns word opens i closes) ms d = column_list_bindable i ms d
+  columns_bindable : {ts rest : Tokens} {xs : Columns PathText} → IsColumns ts xs rest → (parent next : ℕ) (ms : List Mark) → Free IsUnsupported (note_columns listing xs ms)
+      → Free IsUnsupported ms × AreBindableColumns (columns_below parent next (columns_with finishing xs))
+  columns_bindable (g.columns word opens i closes) parent next ms d = column_list_bindable i parent next ms d
 
-  column_list_bindable : {ts rest : Tokens} {xs : Columns PathText} → IsColumnList ts xs rest → (ms : List Mark) → Free IsUnsupported (note_columns listing xs ms)
-      → Free IsUnsupported ms × AreBindableColumns (leaves (columns_with finishing xs))
-  column_list_bindable (g.last_column i) ms d = column_bindable i ms d
-  column_list_bindable (g.more_columns {x = x} {xs = xs} i comma j) ms d =
-      let r = column_list_bindable j (note_column listing x ms) d in
-      let q = column_bindable i ms r.0 in
-      (q.0, All-append IsBindableColumn (leaves_in (column_with finishing x)) (leaves (columns_with finishing xs)) q.1 r.1)
+  column_list_bindable : {ts rest : Tokens} {xs : Columns PathText} → IsColumnList ts xs rest → (parent next : ℕ) (ms : List Mark) → Free IsUnsupported (note_columns listing xs ms)
+      → Free IsUnsupported ms × AreBindableColumns (columns_below parent next (columns_with finishing xs))
+  column_list_bindable (g.last_column i) parent next ms d = column_bindable i parent next ms d
+  column_list_bindable (g.more_columns {x = x} {xs = xs} i comma j) parent next ms d =
+      let n = next + length (paths_in parent next (column_with finishing x)) in
+      let r = column_list_bindable j parent n (note_column listing x ms) d in
+      let q = column_bindable i parent next ms r.0 in
+      (q.0, both_columns (columns_in parent next (column_with finishing x)) (columns_below parent n (columns_with finishing xs)) q.1 r.1)
 
 table_bindable : {ts rest : Tokens} {x : Table PathText} → IsTable ts x rest → (ms : List Mark) → Free IsUnsupported (note_table listing x ms) → IsBindableTable (table_with finishing x)
 table_bindable {x = x} i ms d =
     let r = columns_given i (note_common listing x.common ms) d in
-    record {
-      encoding = (common_read x.common ms r.0).1;
-      columns = subst AreBindableColumns (sym (leaves_of_columns 0 1 (columns_with finishing x.columns))) r.1;
-    }
+    record { encoding = (common_read x.common ms r.0).1; columns = r.1 }
   where
     columns_given : {ts rest : Tokens} {x : Table PathText} → IsTable ts x rest → (ms : List Mark) → Free IsUnsupported (note_columns listing x.columns ms)
-        → Free IsUnsupported ms × AreBindableColumns (leaves (columns_with finishing x.columns))
-    columns_given (g.json_table table opens document comma string name passing i plan error closes alias) ms d = columns_bindable i ms d
+        → Free IsUnsupported ms × AreBindableColumns (columns_below 0 1 (columns_with finishing x.columns))
+    columns_given (g.json_table table opens document comma string name passing i plan error closes alias) ms d = columns_bindable i 0 1 ms d
 
 -- ---- statements
 

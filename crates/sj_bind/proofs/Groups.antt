@@ -9,10 +9,11 @@ use Rattle.sj_sql_tree.specs.declared.tree.Value.{Value as ParsedValue}
 use Rattle.sj_sql_tree.specs.declared.tree.Item.{Item as ParsedItem}
 use Rattle.sj_sql_tree.specs.View.{plain_of, items_of}
 use Rattle.sj_bound.specs.Limits.{most_items}
-use Rattle.sj_bind.specs.Faults.{either, calls_fault, names_fault, columns_fault, items_fault}
+use Rattle.sj_bind.specs.Faults.{either, calls_fault, items_fault, table_fault, all_fault, listed_fault}
+use Rattle.sj_bind.specs.Flat.{FlatTable, flat}
 use Rattle.sj_bind.specs.Parts.{calls_in_list}
 use Rattle.sj_bind.specs.Plans.{has_plan_mismatch}
-use Rattle.sj_bind.specs.Rules.{bind_fault, call_passes_twice, call_lacks_variable, call_quotes_clash, call_default_fails, passes_twice, table_lacks_variable, column_quotes_clash, column_default_fails, all_columns, key_type, is_key}
+use Rattle.sj_bind.specs.Rules.{bind_fault, call_passes_twice, call_lacks_variable, call_quotes_clash, call_default_fails, table_passes_twice, table_lacks_variable, column_quotes_clash, column_default_fails, all_columns, key_type, is_key}
 use Rattle.sj_bind.specs.Variables.{HaveSame}
 use Rattle.sj_bind.proofs.Lists.{any_alike}
 use Rattle.sj_bind.specs.Tables.{has_too_many, has_column_twice, has_path_name_twice, lacks_path_name}
@@ -61,18 +62,24 @@ table_chain false false false false false false false true i rest = refl
 table_chain false false false false false false false false true rest = refl
 table_chain false false false false false false false false false rest = refl
 
-pub all_groups : (t : Table Path) → bind_fault (All t) ≡ (if has_too_many t then Some TooMany else either (either (names_fault t) (columns_fault t)) None)
-all_groups t =
-    table_chain (has_too_many t) (has_column_twice t) (has_path_name_twice t) (lacks_path_name t) (has_plan_mismatch t) (passes_twice t.common) (table_lacks_variable t)
-    (list_any column_quotes_clash (all_columns t)) (list_any column_default_fails (all_columns t)) None
+either_nothing : (fault : Option BindKind) → either fault None ≡ fault
+either_nothing None = refl
+either_nothing (Some kind) = refl
 
-pub listed_groups : (xs : List (Item Path)) (t : Table Path) → bind_fault (Listed xs t)
-    ≡ (if (nat_lt most_items (length xs) || has_too_many t) then Some TooMany else either (either (names_fault t) (columns_fault t)) (items_fault xs t))
-listed_groups xs t =
-    table_chain (nat_lt most_items (length xs) || has_too_many t) (has_column_twice t) (has_path_name_twice t) (lacks_path_name t) (has_plan_mismatch t) (passes_twice t.common)
+pub all_groups : (table : Table Path) → bind_fault (All table) ≡ all_fault (flat table)
+all_groups table =
+    let t = flat table in
+    table_chain (has_too_many t) (has_column_twice t) (has_path_name_twice t) (lacks_path_name t) (has_plan_mismatch t) (table_passes_twice t) (table_lacks_variable t)
+    (list_any column_quotes_clash (all_columns t)) (list_any column_default_fails (all_columns t)) None
+    ∙ ap (λ f. if has_too_many t then Some TooMany else f) (either_nothing (table_fault t))
+
+pub listed_groups : (xs : List (Item Path)) (table : Table Path) → bind_fault (Listed xs table) ≡ listed_fault xs (flat table)
+listed_groups xs table =
+    let t = flat table in
+    table_chain (nat_lt most_items (length xs) || has_too_many t) (has_column_twice t) (has_path_name_twice t) (lacks_path_name t) (has_plan_mismatch t) (table_passes_twice t)
     (table_lacks_variable t) (list_any column_quotes_clash (all_columns t)) (list_any column_default_fails (all_columns t)) (items_fault xs t)
 
-pub ruleset groups = (length-plain_of, length-items_of, plain_groups, all_groups, listed_groups)
+pub ruleset groups = (length-plain_of, length-items_of, plain_groups)
 
 is_key_alike : (some others : List (List ℕ)) → HaveSame some others → (x : Value Path) → is_key some x ≡ is_key others x
 is_key_alike some others same (Lit x) = refl
@@ -95,8 +102,6 @@ either_known None other h = absurd cc
 either_known (Some kind) other h = refl
 
 -- a list with a table stops at a rule on the table
-pub listed_stops : (xs : List (Item Path)) (t : Table Path) (fault : Option BindKind) → (nat_lt most_items (length xs) || has_too_many t) ≡ false → fault ≡ either (names_fault t) (columns_fault t) → is_some fault ≡ true
-    → fault ≡ bind_fault (Listed xs t)
+pub listed_stops : (xs : List (Item Path)) (t : FlatTable) (fault : Option BindKind) → (nat_lt most_items (length xs) || has_too_many t) ≡ false → fault ≡ table_fault t → is_some fault ≡ true → fault ≡ listed_fault xs t
 listed_stops xs t fault few is some =
-    sym (listed_groups xs t ∙ ap (λ b. if b then Some TooMany else either (either (names_fault t) (columns_fault t)) (items_fault xs t)) few
-    ∙ ap (λ f. either f (items_fault xs t)) (sym is) ∙ either_known fault (items_fault xs t) some)
+    sym (ap (λ b. if b then Some TooMany else either (table_fault t) (items_fault xs t)) few ∙ ap (λ f. either f (items_fault xs t)) (sym is) ∙ either_known fault (items_fault xs t) some)

@@ -8,14 +8,18 @@ use Rattle.sj_bound.specs.declared.bound.BoundItem.{BoundItem}
 use Rattle.sj_bound.specs.declared.bound.BoundItem.TheVariants as i
 use Rattle.sj_bound.specs.declared.bound.BoundValue.{Column}
 use Rattle.sj_bind.specs.Fits.{AreListFit, AreItemsFit}
-use Rattle.sj_bind.specs.Meaning.{bound_value, bound_item, bound_list, bound_items, columns_below}
-use Rattle.sj_bound.specs.View.{item_of, items_of}
+use Rattle.sj_bind.specs.Meaning.{bound_value, bound_item, bound_list, bound_items, bound_column, bound_columns, columns_below}
+use Rattle.sj_bind.specs.FlatView.{flat_column_of, columns_at}
+use Rattle.sj_bind.specs.FitColumns.{CanBindAll}
+use Rattle.sj_bind.specs.declared.flat.FlatColumn.{FlatColumn}
+use Rattle.sj_bound.specs.declared.bound.BoundColumn.{BoundColumn}
+use Rattle.sj_bound.specs.View.{item_of, items_of, column_of, columns_of}
 
 pub items_of-push : (xs : List BoundItem) (x : BoundItem) → items_of (xs ++ x ∷ []) ≡ items_of xs ++ item_of x ∷ []
 items_of-push [] x = refl
 items_of-push (y ∷ xs) x = ap (λ r. item_of y ∷ r) (items_of-push xs x)
 
-one_more : {A : Type 0} (items after : List BoundItem) (x : BoundItem) (first : A) (left rest : List A) (n : ℕ) → left ≡ first ∷ rest → after ≡ items ++ x ∷ []
+one_more : {A B : Type 0} (items after : List B) (x : B) (first : A) (left rest : List A) (n : ℕ) → left ≡ first ∷ rest → after ≡ items ++ x ∷ []
     → length items + length left ≡ n → length after + length rest ≡ n
 one_more items after x first left rest n e1 e2 h = omega (arith, ap length e2, length-append items (x ∷ []), ap length e1, h)
 
@@ -57,3 +61,23 @@ column_step items after n e few h = (
   omega (arith, ap length e, length-append items (i.Value (Column n) ∷ []), few),
   ap items_of e ∙ items_of-push items (i.Value (Column n)) ∙ ap (λ z. z ++ b.Single (b.Column n) ∷ []) h ∙ ap columns_below (sym (add-one n)),
 )
+
+columns_of-push : (xs : List BoundColumn) (x : BoundColumn) → columns_of (xs ++ x ∷ []) ≡ columns_of xs ++ column_of x ∷ []
+columns_of-push [] x = refl
+columns_of-push (y ∷ xs) x = ap (λ r. column_of y ∷ r) (columns_of-push xs x)
+
+-- one column of a table more is bound
+pub table_step : (columns after : List BoundColumn) (x : BoundColumn) (column : FlatColumn) (left rest : List FlatColumn) (n : ℕ) (all : List b.ColumnOf) → left ≡ column ∷ rest → after ≡ columns ++ x ∷ []
+    → column_of x ≡ bound_column (flat_column_of column) → CanBindAll (columns_at left) → length columns + length left ≡ n → columns_of columns ++ bound_columns (columns_at left) ≡ all
+    → CanBindAll (columns_at rest) × (length after + length rest ≡ n) × (columns_of after ++ bound_columns (columns_at rest) ≡ all)
+table_step columns after x column left rest n all e1 e2 e3 fit few h =
+    let fits = subst (λ (cs : List FlatColumn). CanBindAll (columns_at cs)) e1 fit in (
+      fits.1,
+      one_more columns after x column left rest n e1 e2 few,
+      ap (λ z. columns_of z ++ bound_columns (columns_at rest)) e2
+          ∙ ap (λ z. z ++ bound_columns (columns_at rest)) (columns_of-push columns x)
+          ∙ append_assoc (columns_of columns) (column_of x ∷ []) (bound_columns (columns_at rest))
+          ∙ ap (λ y. columns_of columns ++ y ∷ bound_columns (columns_at rest)) e3
+          ∙ ap (λ (cs : List FlatColumn). columns_of columns ++ bound_columns (columns_at cs)) (sym e1)
+          ∙ h,
+    )

@@ -7,7 +7,7 @@ use Rattle.std.proofs.lemmas.List.{map-append}
 use Rattle.std.proofs.lemmas.List.Folds.{list_any-append}
 use Rattle.std.proofs.lemmas.Slice.Eq.{bytes_eq-Decides}
 use Rattle.sj_bind.specs.Tables.{has_twice}
-use Rattle.sj_bind.proofs.Lists.{any_mapped}
+use Rattle.sj_bind.proofs.Lists.{any_mapped, neither}
 
 pub bytes_eq-sym : (xs ys : List ℕ) → bytes_eq xs ys ≡ bytes_eq ys xs
 bytes_eq-sym xs ys = go (bytes_eq xs ys) (bytes_eq ys xs) (bytes_eq-Decides xs ys) (bytes_eq-Decides ys xs)
@@ -31,6 +31,10 @@ has_twice-more (x ∷ xs) ys h = go (list_any (bytes_eq x) xs) h (list_any-appen
         either : (c : Bool) → has_twice (xs ++ ys) ≡ true → (c || has_twice (xs ++ ys)) ≡ true
         either true h = refl
         either false h = h
+
+pub twice-right : (xs ys : List (List ℕ)) → has_twice (xs ++ ys) ≡ false → has_twice ys ≡ false
+twice-right [] ys h = h
+twice-right (x ∷ xs) ys h = twice-right xs ys (neither (list_any (bytes_eq x) (xs ++ ys)) (has_twice (xs ++ ys)) h).1
 
 shuffled : (a e t c : Bool) → ((a || (e || false)) || (t || c)) ≡ ((a || t) || (e || c))
 shuffled true e t c = refl

@@ -1,361 +1,314 @@
 -- A plan with names that matches the paths of its table joins each of them once.
-use Rattle.std.proofs.Common.{◌≡◌, ℕ, suc, ◌+◌, ◌==◌, Bool, true, false, ◌&&◌, ◌||◌, if◌then◌else◌, List, [], ◌∷◌, ◌++◌, Option, Some, None, is_some, length, refl, sym, ap, ◌∙◌, arith, append_assoc, length-append, zero-add}
+use Rattle.std.proofs.Common.{◌≡◌, ℕ, ◌+◌, ◌==◌, ◌<◌, ◌≤◌, Bool, true, false, not, ◌&&◌, ◌||◌, if◌then◌else◌, List, [], ◌∷◌, ◌++◌, Option, Some, None, is_some, unwrap_or, length, ◌⊎◌, inl, inr, refl, sym, ap, subst, ◌∙◌, arith}
 use Rattle.std.specs.Option.{option_to_list}
-use Rattle.std.specs.List.{list_any}
+use Rattle.std.specs.List.{list_all, list_any, position_from}
 use Rattle.std.specs.Str.{bytes_eq}
 use Rattle.std.proofs.lemmas.Bool.Decides.{nat_tests}
-use Rattle.std.proofs.lemmas.Slice.Eq.{bytes_eq-Decides}
-use Rattle.sj_sql_grammar.specs.Tree.{Columns, Last, More, ColumnOf, Ordinality, Regular, Formatted, Existence, Nested, NamedPlan, PathOf, Outer, Inner, Union, Cross}
-use Rattle.sj_bind.specs.Paths.{Child, paths_in, paths_below, children_in, children, nested_in}
-use Rattle.sj_bind.specs.Tables.{has_twice, path_names_in, path_names_below}
-use Rattle.sj_value.specs.Plans.{one_at, times, root_of}
-use Rattle.sj_bind.specs.Plans.{standing, is_name, name_count, stands_once, each_once, path_named, nested_of, is_nil, fits, has_root, number_of, numbered}
 use Rattle.std.proofs.lemmas.List.Folds.{list_any-append}
-use Rattle.sj_bind.proofs.Lists.{neither, apart}
-use Rattle.sj_bind.proofs.NameLists.{bytes_eq-sym, has_twice-more}
-use Rattle.sj_bind.proofs.ConsecutiveNumbers.{inside, inside-none, inside-one, inside-append, inside-first}
-
--- ---- tests
+use Rattle.std.proofs.lemmas.Slice.Eq.{bytes_eq-Decides}
+use Rattle.sj_sql_grammar.specs.Tree.{NamedPlan, PathOf, Outer, Inner, Union, Cross}
+use Rattle.sj_value.specs.Plans.{PlanTree, path_rows, outer_join, inner_join, union_of, cross_of, one_at, times, root_of}
+use Rattle.sj_bind.specs.Flat.{TablePath}
+use Rattle.sj_bind.specs.Tables.{has_twice, names_of_paths}
+use Rattle.sj_bind.specs.Plans.{is_same, is_under, standing, is_name, name_count, stands_once, path_named, has_nested, each_once, fits, has_root, numbered}
+use Rattle.sj_bind.proofs.Lists.{neither}
+use Rattle.sj_bind.proofs.NameLists.{bytes_eq-sym, twice-right}
+use Rattle.sj_bind.proofs.PlanNames.{count_both}
+use Rattle.sj_bind.proofs.Places.{apart, itself, turned, IsAt, at_least, at_most, found_at, AreNested, parent_at}
 
 pub both : (a b : Bool) → (a && b) ≡ true → (a ≡ true) × (b ≡ true)
 both true true h = (refl, refl)
 both true false h = cc
 both false b h = cc
 
--- ---- names that stand once
+was_true : (b : Bool) → not b ≡ true → b ≡ false
+was_true true h = cc
+was_true false h = refl
 
-twice-left : (xs ys : List (List ℕ)) → has_twice (xs ++ ys) ≡ false → has_twice xs ≡ false
-twice-left xs ys h = go (has_twice xs) (has_twice-more xs ys)
+-- ---- names of which each is that of one path
+
+-- the name of a path is among the names
+among : (next : ℕ) (ps : List TablePath) (k : ℕ) (x : TablePath) → IsAt next ps k x → (name : List ℕ) → is_name name x.name ≡ true → list_any (bytes_eq name) (names_of_paths ps) ≡ true
+unfolding IsAt
+among next [] k x h name is = absurd h
+among next (p ∷ ps) k x (inl h) name is = first p.name (ap (λ (y : TablePath). is_name name y.name) h.1 ∙ is)
   where
-    go : (b : Bool) → (b ≡ true → has_twice (xs ++ ys) ≡ true) → b ≡ false
-    go true f = let e = f refl in cc
-    go false f = refl
-
-pub twice-right : (xs ys : List (List ℕ)) → has_twice (xs ++ ys) ≡ false → has_twice ys ≡ false
-twice-right [] ys h = h
-twice-right (x ∷ xs) ys h = twice-right xs ys (neither (list_any (bytes_eq x) (xs ++ ys)) (has_twice (xs ++ ys)) h).1
-
-any-right : (p : List ℕ → Bool) (xs ys : List (List ℕ)) → list_any p (xs ++ ys) ≡ false → list_any p ys ≡ false
-any-right p xs ys h = (apart p xs ys h).1
-
--- the names of paths
-child_names : {P : Type 0} → List (Child P) → List (List ℕ)
-child_names [] = []
-child_names (c ∷ cs) = option_to_list c.name ++ child_names cs
-
-child_names-append : {P : Type 0} (cs ds : List (Child P)) → child_names (cs ++ ds) ≡ child_names cs ++ child_names ds
-unfolding child_names
-child_names-append [] ds = refl
-child_names-append (c ∷ cs) ds = ap (λ z. option_to_list c.name ++ z) (child_names-append cs ds) ∙ sym (append_assoc (option_to_list c.name) (child_names cs) (child_names ds))
-
--- no name is that of two paths, at any depth
-Clean : {P : Type 0} → List (Child P) → Type 0
-Clean [] = Unit {0}
-Clean (c ∷ cs) = (has_twice (path_names_below c.columns) ≡ false) × Clean cs
-
-Clean-append : {P : Type 0} (cs ds : List (Child P)) → Clean cs → Clean ds → Clean (cs ++ ds)
-unfolding Clean
-Clean-append [] ds h k = k
-Clean-append (c ∷ cs) ds h k = (h.0, Clean-append cs ds h.1 k)
-
-clean_in : {P : Type 0} (next : ℕ) (column : ColumnOf P) → has_twice (path_names_in column) ≡ false → Clean (children_in next column)
-unfolding Clean
-clean_in next (Ordinality name) h = tt
-clean_in next (Regular column) h = tt
-clean_in next (Formatted column) h = tt
-clean_in next (Existence name path on_error) h = tt
-clean_in next (Nested path name columns) h = (twice-right (option_to_list name) (path_names_below columns) h, tt)
-
-clean_children : {P : Type 0} (next : ℕ) (columns : Columns P) → has_twice (path_names_below columns) ≡ false → Clean (children next columns)
-clean_children next (Last column) h = clean_in next column h
-clean_children next (More column others) h =
-    Clean-append (children_in next column) (children (next + length (paths_in column)) others)
-    (clean_in next column (twice-left (path_names_in column) (path_names_below others) h))
-    (clean_children (next + length (paths_in column)) others (twice-right (path_names_in column) (path_names_below others) h))
-
-clean_found : {P : Type 0} (name : List ℕ) (paths : List (Child P)) (c : Child P) → Clean paths → path_named name paths ≡ Some c → has_twice (path_names_below c.columns) ≡ false
-unfolding Clean
-clean_found name [] c h e = cc
-clean_found name (d ∷ ds) c h e = go (is_name name d.name) e (clean_found name ds c h.1)
+    first : (own : Option (List ℕ)) → is_name name own ≡ true → list_any (bytes_eq name) (option_to_list own ++ names_of_paths ps) ≡ true
+    first None is = cc
+    first (Some own) is = ap (λ (b : Bool). b || list_any (bytes_eq name) (names_of_paths ps)) (bytes_eq-sym name own ∙ is)
+among next (p ∷ ps) k x (inr h) name is =
+    list_any-append (bytes_eq name) (option_to_list p.name) (names_of_paths ps)
+    ∙ ap (λ (b : Bool). list_any (bytes_eq name) (option_to_list p.name) || b) (among (next + 1) ps k x h name is) ∙ or_true (list_any (bytes_eq name) (option_to_list p.name))
   where
-    go : (b : Bool) → (if b then Some d else path_named name ds) ≡ Some c → (path_named name ds ≡ Some c → has_twice (path_names_below c.columns) ≡ false)
-        → has_twice (path_names_below c.columns) ≡ false
-    go true f k = let same : d ≡ c = cc in ap (λ z. has_twice (path_names_below z.columns)) (sym same) ∙ h.0
-    go false f k = k f
+    or_true : (b : Bool) → (b || true) ≡ true
+    or_true true = refl
+    or_true false = refl
 
-nor : (a b : Bool) → a ≡ false → b ≡ false → (a || b) ≡ false
-nor a b h k = ap (λ z. z || b) h ∙ k
+-- the test by which a path is found
+abbrev is_it : Option ℕ → List ℕ → TablePath → Bool
+is_it parent name p = is_under parent p && is_name name p.name
 
--- the names right under columns are among those at any depth
-any_in : {P : Type 0} (p : List ℕ → Bool) (next : ℕ) (column : ColumnOf P) → list_any p (path_names_in column) ≡ false → list_any p (child_names (children_in next column)) ≡ false
-unfolding child_names
-any_in p next (Ordinality name) h = refl
-any_in p next (Regular column) h = refl
-any_in p next (Formatted column) h = refl
-any_in p next (Existence name path on_error) h = refl
-any_in p next (Nested path None columns) h = refl
-any_in p next (Nested path (Some n) columns) h = ap (λ z. z || false) (neither (p n) (list_any p (path_names_below columns)) h).0
-
-any_children : {P : Type 0} (p : List ℕ → Bool) (next : ℕ) (columns : Columns P) → list_any p (path_names_below columns) ≡ false → list_any p (child_names (children next columns)) ≡ false
-any_children p next (Last column) h = any_in p next column h
-any_children p next (More column others) h =
-    let rest = children (next + length (paths_in column)) others in
-    let s = neither (list_any p (path_names_in column)) (list_any p (path_names_below others)) (sym (list_any-append p (path_names_in column) (path_names_below others)) ∙ h) in
-    ap (list_any p) (child_names-append (children_in next column) rest) ∙ list_any-append p (child_names (children_in next column)) (child_names rest)
-    ∙ nor (list_any p (child_names (children_in next column))) (list_any p (child_names rest)) (any_in p next column s.0) (any_children p (next + length (paths_in column)) others s.1)
-
-distinct_children : {P : Type 0} (next : ℕ) (columns : Columns P) → has_twice (path_names_below columns) ≡ false → has_twice (child_names (children next columns)) ≡ false
-unfolding child_names
-distinct_children next (Last (Ordinality name)) h = refl
-distinct_children next (Last (Regular column)) h = refl
-distinct_children next (Last (Formatted column)) h = refl
-distinct_children next (Last (Existence name path on_error)) h = refl
-distinct_children next (Last (Nested path None columns)) h = refl
-distinct_children next (Last (Nested path (Some n) columns)) h = refl
-distinct_children next (More (Ordinality name) others) h = distinct_children (next + 0) others h
-distinct_children next (More (Regular column) others) h = distinct_children (next + 0) others h
-distinct_children next (More (Formatted column) others) h = distinct_children (next + 0) others h
-distinct_children next (More (Existence name path on_error) others) h = distinct_children (next + 0) others h
-distinct_children next (More (Nested path None columns) others) h =
-    distinct_children (next + suc (length (paths_below columns))) others (twice-right (path_names_below columns) (path_names_below others) h)
-distinct_children next (More (Nested path (Some n) columns) others) h =
-    let at = next + suc (length (paths_below columns)) in
-    let s = neither (list_any (bytes_eq n) (path_names_below columns ++ path_names_below others)) (has_twice (path_names_below columns ++ path_names_below others)) h in
-    nor (list_any (bytes_eq n) (child_names (children at others))) (has_twice (child_names (children at others)))
-    (any_children (bytes_eq n) at others (any-right (bytes_eq n) (path_names_below columns) (path_names_below others) s.0))
-    (distinct_children at others (twice-right (path_names_below columns) (path_names_below others) s.1))
-
--- ---- numbers below paths
-
--- whether k is the number of a path or of one at any depth under it
-share : {P : Type 0} → ℕ → Option (Child P) → ℕ
-share k None = 0
-share k (Some c) = inside k c.number (suc (length (paths_below c.columns)))
-
--- the same for the paths of these names
-weight : {P : Type 0} → ℕ → List (Child P) → List (List ℕ) → ℕ
-weight k paths [] = 0
-weight k paths (n ∷ ns) = share k (path_named n paths) + weight k paths ns
-
--- the same for all paths
-shares : {P : Type 0} → ℕ → List (Child P) → ℕ
-shares k [] = 0
-shares k (c ∷ cs) = share k (Some c) + shares k cs
-
--- each name is that of one of the paths
-AllNamed : {P : Type 0} → List (Child P) → List (List ℕ) → Type 0
-AllNamed paths [] = Unit {0}
-AllNamed paths (n ∷ ns) = (is_some (path_named n paths) ≡ true) × AllNamed paths ns
-
-weight-append : {P : Type 0} (k : ℕ) (paths : List (Child P)) (xs ys : List (List ℕ)) → weight k paths (xs ++ ys) ≡ weight k paths xs + weight k paths ys
-unfolding weight
-weight-append k paths [] ys = omega arith
-weight-append k paths (x ∷ xs) ys = let h = weight-append k paths xs ys in omega arith
-
-AllNamed-append : {P : Type 0} (paths : List (Child P)) (xs ys : List (List ℕ)) → AllNamed paths xs → AllNamed paths ys → AllNamed paths (xs ++ ys)
-unfolding AllNamed
-AllNamed-append paths [] ys h k = k
-AllNamed-append paths (x ∷ xs) ys h k = (h.0, AllNamed-append paths xs ys h.1 k)
-
-shares-append : {P : Type 0} (k : ℕ) (cs ds : List (Child P)) → shares k (cs ++ ds) ≡ shares k cs + shares k ds
-unfolding shares
-shares-append k [] ds = omega arith
-shares-append k (c ∷ cs) ds = let h = shares-append k cs ds in omega arith
-
-shares-in : {P : Type 0} (k next : ℕ) (column : ColumnOf P) → shares k (children_in next column) ≡ inside k next (length (paths_in column))
-unfolding shares share
-shares-in k next (Ordinality name) = sym (inside-none k next)
-shares-in k next (Regular column) = sym (inside-none k next)
-shares-in k next (Formatted column) = sym (inside-none k next)
-shares-in k next (Existence name path on_error) = sym (inside-none k next)
-shares-in k next (Nested path name columns) = omega arith
-
--- the paths right under columns have the numbers of all paths under them
-shares-children : {P : Type 0} (k next : ℕ) (columns : Columns P) → shares k (children next columns) ≡ inside k next (length (paths_below columns))
-shares-children k next (Last column) = shares-in k next column
-shares-children k next (More column others) =
-    shares-append k (children_in next column) (children (next + length (paths_in column)) others)
-    ∙ ap (λ z. z + shares k (children (next + length (paths_in column)) others)) (shares-in k next column)
-    ∙ ap (λ z. inside k next (length (paths_in column)) + z) (shares-children k (next + length (paths_in column)) others)
-    ∙ inside-append k next (length (paths_in column)) (length (paths_below others))
-    ∙ ap (inside k next) (sym (length-append (paths_in column) (paths_below others)))
-
--- ---- names that are each of one path
-
-without : List ℕ → List (List ℕ) → List (List ℕ)
-without own [] = []
-without own (n ∷ ns) = if bytes_eq own n then without own ns else n ∷ without own ns
-
-abbrev called : {P : Type 0} → ℕ → Option (List ℕ) → Columns P → Child P
-called number name columns = record { number = number; name = name; columns = columns }
-
-none_left : {P : Type 0} (k m : ℕ) (own : List ℕ) (cols : Columns P) (cs : List (Child P)) (names : List (List ℕ)) → name_count own names ≡ 0
-    → (weight k (called m (Some own) cols ∷ cs) names ≡ weight k cs names) × (without own names ≡ names)
-unfolding weight without
-none_left k m own cols cs [] h = (refl, refl)
-none_left k m own cols cs (n ∷ ns) h = go (bytes_eq own n) h (none_left k m own cols cs ns)
+-- the path that is found by its name is the only one
+only : (q : Option ℕ) (name : List ℕ) (next : ℕ) (ps : List TablePath) (c k : ℕ) (x : TablePath) → IsAt next ps k x → has_twice (names_of_paths ps) ≡ false
+    → position_from (is_it q name) next ps ≡ Some c → one_at k c ≡ (if is_it q name x then 1 else 0)
+unfolding IsAt
+only q name next [] c k x at once found = absurd at
+only q name next (p ∷ ps) c k x at once found = go (is_it q name p) refl found (λ h. only q name (next + 1) ps c k x h tail)
   where
-    go : (b : Bool) → (if b then 1 else 0) + name_count own ns ≡ 0
-        → (name_count own ns ≡ 0 → (weight k (called m (Some own) cols ∷ cs) ns ≡ weight k cs ns) × (without own ns ≡ ns))
-        → (share k (if b then Some (called m (Some own) cols) else path_named n cs) + weight k (called m (Some own) cols ∷ cs) ns ≡ share k (path_named n cs) + weight k cs ns)
-        × ((if b then without own ns else n ∷ without own ns) ≡ n ∷ ns)
-    go true e f = absurd (omega arith)
-    go false e f = let r = f (omega arith) in (ap (λ z. share k (path_named n cs) + z) r.0, ap (λ z. n ∷ z) r.1)
+    tail : has_twice (names_of_paths ps) ≡ false
+    tail = twice-right (option_to_list p.name) (names_of_paths ps) once
 
-one_left : {P : Type 0} (k m : ℕ) (own : List ℕ) (cols : Columns P) (cs : List (Child P)) (names : List (List ℕ)) → name_count own names ≡ 1
-    → weight k (called m (Some own) cols ∷ cs) names ≡ share k (Some (called m (Some own) cols)) + weight k cs (without own names)
-unfolding weight without
-one_left k m own cols cs [] h = absurd (omega arith)
-one_left k m own cols cs (n ∷ ns) h = go (bytes_eq own n) h (none_left k m own cols cs ns) (one_left k m own cols cs ns)
+    -- p has the name, so no other path has it
+    other : (own : Option (List ℕ)) → is_name name own ≡ true → has_twice (option_to_list own ++ names_of_paths ps) ≡ false → (o : Option (List ℕ))
+        → (is_name name o ≡ true → list_any (bytes_eq name) (names_of_paths ps) ≡ true) → is_name name o ≡ false
+    other None is d o f = cc
+    other (Some own) is d o f = no (is_name name o) refl
+      where
+        no : (b : Bool) → is_name name o ≡ b → b ≡ false
+        no false e = refl
+        no true e =
+            let same : own ≡ name = (bytes_eq-Decides own name).0 is in
+            let none : list_any (bytes_eq own) (names_of_paths ps) ≡ false = (neither (list_any (bytes_eq own) (names_of_paths ps)) (has_twice (names_of_paths ps)) d).0 in
+            let there = f e in
+            let here : list_any (bytes_eq name) (names_of_paths ps) ≡ false = subst (λ (n : List ℕ). list_any (bytes_eq n) (names_of_paths ps) ≡ false) same none in
+            sym (sym here ∙ there)
+
+    and_false : (a b : Bool) → b ≡ false → (a && b) ≡ false
+    and_false true b h = h
+    and_false false b h = refl
+
+    go : (b : Bool) → is_it q name p ≡ b → (if b then Some next else position_from (is_it q name) (next + 1) ps) ≡ Some c
+        → (IsAt (next + 1) ps k x → position_from (is_it q name) (next + 1) ps ≡ Some c → one_at k c ≡ (if is_it q name x then 1 else 0)) → one_at k c ≡ (if is_it q name x then 1 else 0)
+    go true is e others = let same : c ≡ next = cc in by at same
+      where
+        by : ((k ≡ next) × (p ≡ x)) ⊎ IsAt (next + 1) ps k x → c ≡ next → one_at k c ≡ (if is_it q name x then 1 else 0)
+        by (inl h) same = ap (λ n. one_at n c) (h.0 ∙ sym same) ∙ itself c ∙ sym (ap (λ (b : Bool). if b then 1 else 0) (ap (is_it q name) (sym h.1) ∙ is))
+        by (inr h) same =
+            let low = at_least (next + 1) ps k x h in
+            let named = both (is_under q p) (is_name name p.name) is in
+            let no = other p.name named.1 once x.name (among (next + 1) ps k x h name) in
+            apart k c (inr (omega arith)) ∙ sym (ap (λ (b : Bool). if b then 1 else 0) (and_false (is_under q x) (is_name name x.name) no))
+    go false is e others = by at
+      where
+        by : ((k ≡ next) × (p ≡ x)) ⊎ IsAt (next + 1) ps k x → one_at k c ≡ (if is_it q name x then 1 else 0)
+        by (inl h) =
+            let f = found_at (is_it q name) (next + 1) ps c e in
+            let low = at_least (next + 1) ps c f.0 f.1 in let same = h.0 in
+            apart k c (inl (omega arith)) ∙ sym (ap (λ (b : Bool). if b then 1 else 0) (ap (is_it q name) (sym h.1) ∙ is))
+        by (inr h) = others h e
+
+-- ---- plans that fit
+
+-- how often the parent of a path stands in a plan
+above : Option ℕ → PlanTree → ℕ
+above None plan = 0
+above (Some m) plan = times m plan
+
+-- how often a path of this name stands in a list, where it is right under q
+own_count : Option (List ℕ) → List (List ℕ) → ℕ
+own_count None names = 0
+own_count (Some own) names = name_count own names
+
+share : Option ℕ → TablePath → List (List ℕ) → ℕ
+share q x names = if is_under q x then own_count x.name names else 0
+
+share_both : (q : Option ℕ) (x : TablePath) (xs ys : List (List ℕ)) → share q x (xs ++ ys) ≡ share q x xs + share q x ys
+unfolding share own_count
+share_both q x xs ys = go (is_under q x) x.name
   where
-    go : (b : Bool) → (if b then 1 else 0) + name_count own ns ≡ 1
-        → (name_count own ns ≡ 0 → (weight k (called m (Some own) cols ∷ cs) ns ≡ weight k cs ns) × (without own ns ≡ ns))
-        → (name_count own ns ≡ 1 → weight k (called m (Some own) cols ∷ cs) ns ≡ share k (Some (called m (Some own) cols)) + weight k cs (without own ns))
-        → share k (if b then Some (called m (Some own) cols) else path_named n cs) + weight k (called m (Some own) cols ∷ cs) ns
-        ≡ share k (Some (called m (Some own) cols)) + weight k cs (if b then without own ns else n ∷ without own ns)
-    go true e f g = let r = f (omega arith) in ap (λ z. share k (Some (called m (Some own) cols)) + z) (r.0 ∙ ap (weight k cs) (sym r.1))
-    go false e f g = let r = g (omega arith) in omega arith
+    go : (b : Bool) (own : Option (List ℕ)) → (if b then own_count own (xs ++ ys) else 0) ≡ (if b then own_count own xs else 0) + (if b then own_count own ys else 0)
+    go true None = refl
+    go true (Some own) = count_both own xs ys
+    go false own = refl
 
-named_left : {P : Type 0} (m : ℕ) (own : List ℕ) (cols : Columns P) (cs : List (Child P)) (names : List (List ℕ)) → AllNamed (called m (Some own) cols ∷ cs) names
-    → AllNamed cs (without own names)
-unfolding AllNamed without
-named_left m own cols cs [] h = tt
-named_left m own cols cs (n ∷ ns) h = go (bytes_eq own n) h.0 (named_left m own cols cs ns h.1)
+share_one : (q : Option ℕ) (x : TablePath) (name : List ℕ) → share q x (name ∷ []) ≡ (if is_it q name x then 1 else 0)
+unfolding share own_count
+share_one q x name = go (is_under q x) x.name
   where
-    go : (b : Bool) → is_some (if b then Some (called m (Some own) cols) else path_named n cs) ≡ true → AllNamed cs (without own ns)
-        → AllNamed cs (if b then without own ns else n ∷ without own ns)
-    go true e r = r
-    go false e r = (e, r)
+    one : (b : Bool) → (if b then 1 else 0) + 0 ≡ (if b then 1 else 0)
+    one true = refl
+    one false = refl
 
-count_left : (own o : List ℕ) (names : List (List ℕ)) → bytes_eq own o ≡ false → name_count o (without own names) ≡ name_count o names
-unfolding without
-count_left own o [] h = refl
-count_left own o (n ∷ ns) h =
-    go (bytes_eq own n) (λ e. bytes_eq-sym o n ∙ ap (λ z. bytes_eq z o) (sym ((bytes_eq-Decides own n).0 e)) ∙ h) (count_left own o ns h)
-  where
-    go : (b : Bool) → (b ≡ true → bytes_eq o n ≡ false) → name_count o (without own ns) ≡ name_count o ns
-        → name_count o (if b then without own ns else n ∷ without own ns) ≡ (if bytes_eq o n then 1 else 0) + name_count o ns
-    go true f r = r ∙ sym (ap (λ (z : Bool). (if z then 1 else 0) + name_count o ns) (f refl) ∙ zero-add (name_count o ns))
-    go false f r = ap (λ z. (if bytes_eq o n then 1 else 0) + z) r
+    go : (b : Bool) (own : Option (List ℕ)) → (if b then own_count own (name ∷ []) else 0) ≡ (if (b && is_name name own) then 1 else 0)
+    go true None = refl
+    go true (Some own) = one (bytes_eq own name)
+    go false own = refl
 
-and : (a b : Bool) → a ≡ true → b ≡ true → (a && b) ≡ true
-and a b h k = ap (λ z. z && b) h ∙ k
+above_both : (parent : Option ℕ) (a b : PlanTree) → above parent (union_of a b) ≡ above parent a + above parent b
+unfolding above
+above_both None a b = refl
+above_both (Some m) a b = refl
 
-once_left : {P : Type 0} (own : List ℕ) (names : List (List ℕ)) (cs : List (Child P)) → list_any (bytes_eq own) (child_names cs) ≡ false → each_once names cs ≡ true
-    → each_once (without own names) cs ≡ true
-unfolding child_names
-once_left own names [] h e = refl
-once_left own names (d ∷ ds) h e = go d.name h e (once_left own names ds)
-  where
-    go : (x : Option (List ℕ)) → list_any (bytes_eq own) (option_to_list x ++ child_names ds) ≡ false → (stands_once names x && each_once names ds) ≡ true
-        → (list_any (bytes_eq own) (child_names ds) ≡ false → each_once names ds ≡ true → each_once (without own names) ds ≡ true)
-        → (stands_once (without own names) x && each_once (without own names) ds) ≡ true
-    go None h e f = cc
-    go (Some o) h e f =
-        let n = neither (bytes_eq own o) (list_any (bytes_eq own) (child_names ds)) h in
-        let b = both (name_count o names == 1) (each_once names ds) e in
-        and (name_count o (without own names) == 1) (each_once (without own names) ds) (ap (λ z. z == 1) (count_left own o names n.0) ∙ b.0) (f n.1 b.1)
+above_cross : (parent : Option ℕ) (a b : PlanTree) → above parent (cross_of a b) ≡ above parent a + above parent b
+unfolding above
+above_cross None a b = refl
+above_cross (Some m) a b = refl
 
-is_one : (m : ℕ) → (m == 1) ≡ true → m ≡ 1
-is_one m h = grind (arith, nat_tests)
+above_join : (parent : Option ℕ) (c : ℕ) (below : PlanTree) → above parent (outer_join c below) ≡ (if is_same (Some c) parent then 1 else 0) + above parent below
+unfolding above
+above_join None c below = refl
+above_join (Some m) c below = ap (λ n. n + times m below) (turned m c)
 
--- Names of which each path has one, and that are each of one of them, have the numbers of all of them.
-exchange : {P : Type 0} (k : ℕ) (paths : List (Child P)) (names : List (List ℕ)) → AllNamed paths names → each_once names paths ≡ true → has_twice (child_names paths) ≡ false
-    → weight k paths names ≡ shares k paths
-unfolding weight shares AllNamed child_names
-exchange k [] [] a o d = refl
-exchange k [] (n ∷ ns) a o d = let e = a.0 in cc
-exchange {P = P} k (c ∷ cs) names a o d = go c.name a o d (exchange k cs)
-  where
-    go : (x : Option (List ℕ)) → AllNamed (called c.number x c.columns ∷ cs) names → (stands_once names x && each_once names cs) ≡ true
-        → has_twice (option_to_list x ++ child_names cs) ≡ false
-        → ((ns : List (List ℕ)) → AllNamed cs ns → each_once ns cs ≡ true → has_twice (child_names cs) ≡ false → weight k cs ns ≡ shares k cs)
-        → weight k (called c.number x c.columns ∷ cs) names ≡ share k (Some (called c.number x c.columns)) + shares k cs
-    go None a o d f = cc
-    go (Some own) a o d f =
-        let b = both (name_count own names == 1) (each_once names cs) o in
-        let n = neither (list_any (bytes_eq own) (child_names cs)) (has_twice (child_names cs)) d in
-        one_left k c.number own c.columns cs names (is_one (name_count own names) b.0)
-        ∙ ap (λ z. share k (Some (called c.number (Some own) c.columns)) + z) (f (without own names) (named_left c.number own c.columns cs names a) (once_left own names cs n.0 b.1) n.1)
+above_inner : (parent : Option ℕ) (c : ℕ) (below : PlanTree) → above parent (outer_join c below) ≡ above parent (inner_join c below)
+unfolding above
+above_inner None c below = refl
+above_inner (Some m) c below = refl
 
--- ---- plans with names
+above_alone : (parent : Option ℕ) (c : ℕ) → is_same (Some c) parent ≡ false → above parent (path_rows c) ≡ 0
+unfolding above
+above_alone None c h = refl
+above_alone (Some m) c h = grind (arith, nat_tests)
 
-no_paths : {P : Type 0} (next : ℕ) (columns : Columns P) → is_nil (children next columns) ≡ true → length (paths_below columns) ≡ 0
-no_paths next (Last (Ordinality name)) h = refl
-no_paths next (Last (Regular column)) h = refl
-no_paths next (Last (Formatted column)) h = refl
-no_paths next (Last (Existence name path on_error)) h = refl
-no_paths next (Last (Nested path name columns)) h = cc
-no_paths next (More (Ordinality name) others) h = no_paths (next + 0) others h
-no_paths next (More (Regular column) others) h = no_paths (next + 0) others h
-no_paths next (More (Formatted column) others) h = no_paths (next + 0) others h
-no_paths next (More (Existence name path on_error) others) h = no_paths (next + 0) others h
-no_paths next (More (Nested path name columns) others) h = cc
+module _ (paths : List TablePath) (once : has_twice (names_of_paths paths) ≡ false) where
+  -- a path with nothing nested in it is no parent
+  no_parent : (test : TablePath → Bool) (next : ℕ) (ps : List TablePath) (k : ℕ) (x : TablePath) → IsAt next ps k x → list_any test ps ≡ false → test x ≡ false
+  unfolding IsAt
+  no_parent test next [] k x h none = absurd h
+  no_parent test next (p ∷ ps) k x (inl h) none = ap test (sym h.1) ∙ (neither (test p) (list_any test ps) none).0
+  no_parent test next (p ∷ ps) k x (inr h) none = no_parent test (next + 1) ps k x h (neither (test p) (list_any test ps) none).1
 
-all_named : {P : Type 0} (plan : NamedPlan) (paths : List (Child P)) → fits plan paths ≡ true → AllNamed paths (standing plan)
-unfolding AllNamed
-all_named (PathOf name) paths h = ((both (is_some (path_named name paths)) (is_nil (nested_of (path_named name paths))) h).0, tt)
-all_named (Outer name below) paths h =
-    ((both (is_some (path_named name paths)) (each_once (standing below) (nested_of (path_named name paths)) && fits below (nested_of (path_named name paths))) h).0, tt)
-all_named (Inner name below) paths h =
-    ((both (is_some (path_named name paths)) (each_once (standing below) (nested_of (path_named name paths)) && fits below (nested_of (path_named name paths))) h).0, tt)
-all_named (Union a b) paths h =
-    let s = both (fits a paths) (fits b paths) h in AllNamed-append paths (standing a) (standing b) (all_named a paths s.0) (all_named b paths s.1)
-all_named (Cross a b) paths h =
-    let s = both (fits a paths) (fits b paths) h in AllNamed-append paths (standing a) (standing b) (all_named a paths s.0) (all_named b paths s.1)
+  each_at : (test : TablePath → Bool) (next : ℕ) (ps : List TablePath) (k : ℕ) (x : TablePath) → IsAt next ps k x → list_all test ps ≡ true → test x ≡ true
+  unfolding IsAt
+  each_at test next [] k x h all = absurd h
+  each_at test next (p ∷ ps) k x (inl h) all = ap test (sym h.1) ∙ (both (test p) (list_all test ps) all).0
+  each_at test next (p ∷ ps) k x (inr h) all = each_at test (next + 1) ps k x h (both (test p) (list_all test ps) all).1
 
-alone : {P : Type 0} (k : ℕ) (o : Option (Child P)) → (is_some o && is_nil (nested_of o)) ≡ true → one_at k (number_of o) ≡ share k o + 0
-unfolding share
-alone k None e = cc
-alone k (Some c) e =
-    let z = no_paths (c.number + 1) c.columns e in
-    let i = inside-one k c.number in let j = ap (λ n. inside k c.number (suc n)) z in omega arith
+  module _ (k : ℕ) (x : TablePath) (at : IsAt 0 paths k x) where
+    -- a path under the one that is a parent stands once in the plan below
+    under_once : (names : List (List ℕ)) (q : Option ℕ) → each_once paths names q ≡ true → share q x names ≡ (if is_under q x then 1 else 0)
+    unfolding share own_count
+    under_once names q all = go (is_under q x) x.name (each_at (λ (p : TablePath). not (is_under q p) || stands_once names p.name) 0 paths k x at all)
+      where
+        is_one : (m : ℕ) → (m == 1) ≡ true → m ≡ 1
+        is_one m h = grind (arith, nat_tests)
 
-parent : {P : Type 0} (k : ℕ) (below : NamedPlan) (o : Option (Child P)) → (is_some o && (each_once (standing below) (nested_of o) && fits below (nested_of o))) ≡ true
-    → ((c : Child P) → o ≡ Some c → has_twice (path_names_below c.columns) ≡ false)
-    → ((ps : List (Child P)) → Clean ps → fits below ps ≡ true → times k (numbered below ps) ≡ weight k ps (standing below))
-    → one_at k (number_of o) + times k (numbered below (nested_of o)) ≡ share k o + 0
-unfolding share
-parent k below None e f ih = cc
-parent k below (Some c) e f ih =
-    let b = both (each_once (standing below) (nested_in c)) (fits below (nested_in c)) e in
-    let u = f c refl in
-    let t = ih (nested_in c) (clean_children (c.number + 1) c.columns u) b.1 in
-    let x = exchange k (nested_in c) (standing below) (all_named below (nested_in c) b.1) b.0 (distinct_children (c.number + 1) c.columns u) in
-    let s = shares-children k (c.number + 1) c.columns in
-    let i = inside-first k c.number (length (paths_below c.columns)) in omega arith
+        go : (b : Bool) (own : Option (List ℕ)) → (not b || stands_once names own) ≡ true → (if b then own_count own names else 0) ≡ (if b then 1 else 0)
+        go true None h = cc
+        go true (Some own) h = is_one (name_count own names) h
+        go false own h = refl
 
--- a plan that fits paths has the numbers of those that stand in it
-times_named : {P : Type 0} (k : ℕ) (plan : NamedPlan) (paths : List (Child P)) → Clean paths → fits plan paths ≡ true → times k (numbered plan paths) ≡ weight k paths (standing plan)
-unfolding weight
-times_named k (PathOf name) paths clean h = alone k (path_named name paths) h
-times_named k (Outer name below) paths clean h = parent k below (path_named name paths) h (λ c e. clean_found name paths c clean e) (times_named k below)
-times_named k (Inner name below) paths clean h = parent k below (path_named name paths) h (λ c e. clean_found name paths c clean e) (times_named k below)
-times_named k (Union a b) paths clean h =
-    let s = both (fits a paths) (fits b paths) h in let x = times_named k a paths clean s.0 in let y = times_named k b paths clean s.1 in
-    let w = weight-append k paths (standing a) (standing b) in omega arith
-times_named k (Cross a b) paths clean h =
-    let s = both (fits a paths) (fits b paths) h in let x = times_named k a paths clean s.0 in let y = times_named k b paths clean s.1 in
-    let w = weight-append k paths (standing a) (standing b) in omega arith
+    found_once : (q : Option ℕ) (name : List ℕ) (c : ℕ) → path_named paths q name ≡ Some c → one_at k c ≡ share q x (name ∷ [])
+    found_once q name c e = only q name 0 paths c k x at once e ∙ sym (share_one q x name)
 
--- ---- whole tables
+    joins : (name : List ℕ) (below : NamedPlan) (q : Option ℕ) → (is_some (path_named paths q name) && (each_once paths (standing below) (path_named paths q name) && fits paths below (path_named paths q name))) ≡ true
+        → ((o : Option ℕ) → fits paths below o ≡ true → times k (numbered paths below o) ≡ above x.parent (numbered paths below o) + share o x (standing below))
+        → one_at k (unwrap_or (path_named paths q name) 0) + times k (numbered paths below (path_named paths q name))
+        ≡ above x.parent (outer_join (unwrap_or (path_named paths q name) 0) (numbered paths below (path_named paths q name))) + share q x (name ∷ [])
+    joins name below q h ih = go (path_named paths q name) refl h
+      where
+        go : (o : Option ℕ) → path_named paths q name ≡ o → (is_some o && (each_once paths (standing below) o && fits paths below o)) ≡ true
+            → one_at k (unwrap_or o 0) + times k (numbered paths below o) ≡ above x.parent (outer_join (unwrap_or o 0) (numbered paths below o)) + share q x (name ∷ [])
+        go None e f = cc
+        go (Some c) e f =
+            let s = both (each_once paths (standing below) (Some c)) (fits paths below (Some c)) f in
+            let own = found_once q name c e in
+            let rest = ih (Some c) s.1 in
+            let one = under_once (standing below) (Some c) s.0 in
+            let up = above_join x.parent c (numbered paths below (Some c)) in omega arith
 
-root_weight : {P : Type 0} (k : ℕ) (row : Child P) (name : List ℕ) → is_name name row.name ≡ true → weight k (row ∷ []) (name ∷ []) ≡ inside k row.number (suc (length (paths_below row.columns)))
-unfolding weight share
-root_weight k row name h = let e = ap (λ b. share k (if b then Some row else None)) h in omega arith
+    -- it stands in a plan as often as its parent, and as its name stands there right under q
+    handed : (plan : NamedPlan) (q : Option ℕ) → fits paths plan q ≡ true → times k (numbered paths plan q) ≡ above x.parent (numbered paths plan q) + share q x (standing plan)
+    handed (PathOf name) q h = go (path_named paths q name) refl h
+      where
+        go : (o : Option ℕ) → path_named paths q name ≡ o → (is_some o && not (has_nested paths o)) ≡ true → times k (path_rows (unwrap_or o 0)) ≡ above x.parent (path_rows (unwrap_or o 0)) + share q x (name ∷ [])
+        go None e f = cc
+        go (Some c) e f =
+            let none = above_alone x.parent c (no_parent (is_under (Some c)) 0 paths k x at (was_true (has_nested paths (Some c)) f)) in
+            let own = found_once q name c e in omega arith
+    handed (Outer name below) q h = joins name below q h (handed below)
+    handed (Inner name below) q h =
+        joins name below q h (handed below)
+        ∙ ap (λ n. n + share q x (name ∷ [])) (above_inner x.parent (unwrap_or (path_named paths q name) 0) (numbered paths below (path_named paths q name)))
+    handed (Union a b) q h =
+        let s = both (fits paths a q) (fits paths b q) h in let l = handed a q s.0 in let r = handed b q s.1 in
+        let u = above_both x.parent (numbered paths a q) (numbered paths b q) in let w = share_both q x (standing a) (standing b) in omega arith
+    handed (Cross a b) q h =
+        let s = both (fits paths a q) (fits paths b q) h in let l = handed a q s.0 in let r = handed b q s.1 in
+        let u = above_cross x.parent (numbered paths a q) (numbered paths b q) in let w = share_both q x (standing a) (standing b) in omega arith
 
-pub named-times : {P : Type 0} (k : ℕ) (plan : NamedPlan) (row : Child P) → has_root plan row.name ≡ true → fits plan (row ∷ []) ≡ true → has_twice (path_names_below row.columns) ≡ false
-    → times k (numbered plan (row ∷ [])) ≡ inside k row.number (suc (length (paths_below row.columns)))
-unfolding Clean
-named-times k (PathOf name) row r h d = times_named k (PathOf name) (row ∷ []) (d, tt) h ∙ root_weight k row name r
-named-times k (Outer name below) row r h d = times_named k (Outer name below) (row ∷ []) (d, tt) h ∙ root_weight k row name r
-named-times k (Inner name below) row r h d = times_named k (Inner name below) (row ∷ []) (d, tt) h ∙ root_weight k row name r
-named-times k (Union a b) row r h d = cc
-named-times k (Cross a b) row r h d = cc
+  below_all : (q : Option ℕ) (name : List ℕ) (c : ℕ) → path_named paths q name ≡ Some c → c < length paths
+  below_all q name c e = let f = found_at (is_it q name) 0 paths c e in let h = at_most 0 paths c f.0 f.1 in omega arith
 
-pub named-root : {P : Type 0} (plan : NamedPlan) (row : Child P) → has_root plan row.name ≡ true → root_of (numbered plan (row ∷ [])) ≡ Some row.number
-named-root (PathOf name) row r = ap (λ b. Some (number_of (if b then Some row else None))) r
-named-root (Outer name below) row r = ap (λ b. Some (number_of (if b then Some row else None))) r
-named-root (Inner name below) row r = ap (λ b. Some (number_of (if b then Some row else None))) r
-named-root (Union a b) row r = cc
-named-root (Cross a b) row r = cc
+  nowhere_joined : (k : ℕ) → length paths ≤ k → (name : List ℕ) (below : NamedPlan) (q : Option ℕ)
+      → (is_some (path_named paths q name) && (each_once paths (standing below) (path_named paths q name) && fits paths below (path_named paths q name))) ≡ true
+      → ((o : Option ℕ) → fits paths below o ≡ true → times k (numbered paths below o) ≡ 0)
+      → one_at k (unwrap_or (path_named paths q name) 0) + times k (numbered paths below (path_named paths q name)) ≡ 0
+  nowhere_joined k high name below q h ih = go (path_named paths q name) refl h
+    where
+      go : (o : Option ℕ) → path_named paths q name ≡ o → (is_some o && (each_once paths (standing below) o && fits paths below o)) ≡ true → one_at k (unwrap_or o 0) + times k (numbered paths below o) ≡ 0
+      go None e f = cc
+      go (Some c) e f =
+          let s = both (each_once paths (standing below) (Some c)) (fits paths below (Some c)) f in
+          let low = below_all q name c e in let a = apart k c (inr (omega arith)) in let b = ih (Some c) s.1 in omega arith
+
+  -- a number that is that of no path stands nowhere
+  nowhere : (k : ℕ) → length paths ≤ k → (plan : NamedPlan) (q : Option ℕ) → fits paths plan q ≡ true → times k (numbered paths plan q) ≡ 0
+  nowhere k high (PathOf name) q h = go (path_named paths q name) refl h
+    where
+      go : (o : Option ℕ) → path_named paths q name ≡ o → (is_some o && not (has_nested paths o)) ≡ true → one_at k (unwrap_or o 0) ≡ 0
+      go None e f = cc
+      go (Some c) e f = let low = below_all q name c e in apart k c (inr (omega arith))
+  nowhere k high (Outer name below) q h = nowhere_joined k high name below q h (nowhere k high below)
+  nowhere k high (Inner name below) q h = nowhere_joined k high name below q h (nowhere k high below)
+  nowhere k high (Union a b) q h = let s = both (fits paths a q) (fits paths b q) h in let l = nowhere k high a q s.0 in let r = nowhere k high b q s.1 in omega arith
+  nowhere k high (Cross a b) q h = let s = both (fits paths a q) (fits paths b q) h in let l = nowhere k high a q s.0 in let r = nowhere k high b q s.1 in omega arith
+
+-- ---- the root
+
+module _ (row : TablePath) (ps : List TablePath) (alone : row.parent ≡ None) (nested : AreNested 1 ps) where
+  -- the row path alone is nested in none
+  row_found : (name : List ℕ) (c : ℕ) → path_named (row ∷ ps) None name ≡ Some c → (c ≡ 0) × (is_name name row.name ≡ true)
+  row_found name c e = go (is_it None name row) refl e
+    where
+      go : (b : Bool) → is_it None name row ≡ b → (if b then Some 0 else position_from (is_it None name) 1 ps) ≡ Some c → (c ≡ 0) × (is_name name row.name ≡ true)
+      go true is f = (cc, (both (is_under None row) (is_name name row.name) is).1)
+      go false is f =
+          let y = found_at (is_it None name) 1 ps c f in
+          let up = parent_at 1 ps c y.0 nested y.1 in
+          let no : is_under None y.0 ≡ false = ap (is_same None) up.1 in
+          let yes = (both (is_under None y.0) (is_name name y.0.name) y.2).0 in cc
+
+  root_name : (name : List ℕ) → is_some (path_named (row ∷ ps) None name) ≡ true → (unwrap_or (path_named (row ∷ ps) None name) 0 ≡ 0) × (is_name name row.name ≡ true)
+  root_name name h = go (path_named (row ∷ ps) None name) refl h
+    where
+      go : (o : Option ℕ) → path_named (row ∷ ps) None name ≡ o → is_some o ≡ true → (unwrap_or o 0 ≡ 0) × (is_name name row.name ≡ true)
+      go None e f = cc
+      go (Some c) e f = row_found name c e
+
+  module _ (once : has_twice (names_of_paths (row ∷ ps)) ≡ false) where
+    row_once : (name : List ℕ) → is_name name row.name ≡ true → share None row (name ∷ []) ≡ 1
+    row_once name is = share_one None row name ∙ ap (λ (b : Bool). if b then 1 else 0) (ap (λ (b : Bool). b && is_name name row.name) (ap (is_same None) alone) ∙ is)
+
+    pub named-first : (plan : NamedPlan) → has_root plan ≡ true → fits (row ∷ ps) plan None ≡ true → times 0 (numbered (row ∷ ps) plan None) ≡ 1
+    unfolding IsAt above
+    named-first plan r h =
+        handed (row ∷ ps) once 0 row (inl (refl, refl)) plan None h
+        ∙ ap (λ (o : Option ℕ). above o (numbered (row ∷ ps) plan None) + share None row (standing plan)) alone ∙ root plan r h
+      where
+        root : (plan : NamedPlan) → has_root plan ≡ true → fits (row ∷ ps) plan None ≡ true → 0 + share None row (standing plan) ≡ 1
+        root (PathOf name) r h = let s = both (is_some (path_named (row ∷ ps) None name)) _ h in let o = row_once name (root_name name s.0).1 in omega arith
+        root (Outer name below) r h = let s = both (is_some (path_named (row ∷ ps) None name)) _ h in let o = row_once name (root_name name s.0).1 in omega arith
+        root (Inner name below) r h = let s = both (is_some (path_named (row ∷ ps) None name)) _ h in let o = row_once name (root_name name s.0).1 in omega arith
+        root (Union a b) r h = cc
+        root (Cross a b) r h = cc
+
+    pub named-step : (plan : NamedPlan) → fits (row ∷ ps) plan None ≡ true → (k m : ℕ) (x : TablePath) → IsAt 1 ps k x → x.parent ≡ Some m
+        → times k (numbered (row ∷ ps) plan None) ≡ times m (numbered (row ∷ ps) plan None)
+    unfolding IsAt above share
+    named-step plan h k m x at is =
+        handed (row ∷ ps) once k x (inr at) plan None h
+        ∙ ap (λ (o : Option ℕ). above o (numbered (row ∷ ps) plan None) + (if is_same None o then own_count x.name (standing plan) else 0)) is
+        ∙ plus_none (times m (numbered (row ∷ ps) plan None))
+      where
+        plus_none : (n : ℕ) → n + 0 ≡ n
+        plus_none n = omega arith
+
+    pub named-past : (plan : NamedPlan) → fits (row ∷ ps) plan None ≡ true → (k : ℕ) → 1 + length ps ≤ k → times k (numbered (row ∷ ps) plan None) ≡ 0
+    named-past plan h k high = nowhere (row ∷ ps) once k (omega arith) plan None h
+
+  pub named-root : (plan : NamedPlan) → has_root plan ≡ true → fits (row ∷ ps) plan None ≡ true → root_of (numbered (row ∷ ps) plan None) ≡ Some 0
+  named-root (PathOf name) r h = ap Some (root_name name (both (is_some (path_named (row ∷ ps) None name)) _ h).0).0
+  named-root (Outer name below) r h = ap Some (root_name name (both (is_some (path_named (row ∷ ps) None name)) _ h).0).0
+  named-root (Inner name below) r h = ap Some (root_name name (both (is_some (path_named (row ∷ ps) None name)) _ h).0).0
+  named-root (Union a b) r h = cc
+  named-root (Cross a b) r h = cc

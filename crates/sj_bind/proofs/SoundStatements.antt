@@ -16,14 +16,15 @@ use Rattle.sj_bind.specs.Rules.{bind_fault, is_key, is_aggregate, all_columns, t
 use Rattle.sj_bound.specs.Sound as sound
 use Rattle.sj_bind.specs.Bindable.{IsBindable, HasNoColumn, AsksNothing}
 use Rattle.sj_bound.specs.Sound.{IsTextColumn, IsSoundItem, IsSound, AreAllAlike}
-use Rattle.sj_bind.specs.Tables.{column_names, table_columns}
+use Rattle.sj_bind.specs.Flat.{flat}
+use Rattle.sj_bind.specs.Tables.{column_names}
 use Rattle.sj_bound.specs.View.{bound_of}
 use Rattle.sj_bind.proofs.UnbrokenRules.{clean_plain, clean_all, clean_list, few_columns}
 use Rattle.sj_bind.proofs.BindableValues.{IsKept, AreKept, no_calls, no_name}
 use Rattle.sj_bind.proofs.Lists.{holds, neither, apart, halves}
 use Rattle.sj_bind.proofs.SoundTables.{placed, are_texts, sound_table, length-bound_columns}
 use Rattle.sj_bind.proofs.SoundValues.{sound_key, sound_value}
-use Rattle.sj_bind.proofs.TableSizes.{length-table_columns}
+use Rattle.sj_bind.proofs.Groups.{all_groups, listed_groups}
 
 -- ---- a list without a table
 
@@ -125,21 +126,22 @@ is_sound (t.Plain xs) bindable h =
       few_items = omega (arith, length-bound_list xs, c.few);
     }
 is_sound (t.All x) bindable h =
-    let c = clean_all x h in
-    let few = few_columns x c.few in
+    let flat_x = flat x in
+    let c = clean_all flat_x (sym (all_groups x) ∙ h) in
     record {
-      items = sound_columns_below (bound_columns (table_columns x)) (length (column_names x)) (omega (arith, length-bound_columns (table_columns x), length-table_columns x));
-      alike = inl (plain_columns_below (length (column_names x)));
-      table = sound_table x bindable c c.covered;
-      few_items = omega (arith, length-columns_below (length (column_names x)), few);
+      items = sound_columns_below (bound_columns flat_x.columns) (length flat_x.columns) (omega (arith, length-bound_columns flat_x.columns));
+      alike = inl (plain_columns_below (length flat_x.columns));
+      table = sound_table x bindable c;
+      few_items = omega (arith, length-columns_below (length flat_x.columns), few_columns flat_x c.few);
     }
 is_sound (t.Listed xs x) bindable h =
-    let c = clean_list xs x bindable.1 h in
+    let flat_x = flat x in
+    let c = clean_list xs flat_x bindable.1 (sym (listed_groups xs x) ∙ h) in
     record {
-      items = sound_items (column_names x) (text_names (all_columns x)) (bound_columns (table_columns x)) (placed x c.table) (are_texts x c.table) xs bindable.1 c.known c.keys;
-      alike = alike (column_names x) xs c.alike;
-      table = sound_table x bindable.0 c.table c.table.covered;
-      few_items = omega (arith, length-bound_items (column_names x) xs, c.few);
+      items = sound_items (column_names flat_x) (text_names (all_columns flat_x)) (bound_columns flat_x.columns) (placed flat_x c.table) (are_texts flat_x c.table) xs bindable.1 c.known c.keys;
+      alike = alike (column_names flat_x) xs c.alike;
+      table = sound_table x bindable.0 c.table;
+      few_items = omega (arith, length-bound_items (column_names flat_x) xs, c.few);
     }
 
 -- so the answer of the binding is sound

@@ -6,6 +6,7 @@ use Rattle.sj_sql_grammar.specs.declared.clauses.Encoding.TheVariants.{Read, Ref
 use Rattle.sj_sql_grammar.specs.Tree as t
 use Rattle.sj_sql_grammar.specs.Tree.{Common, Value, Item, ColumnOf, Table, Statement, Plain, All, Listed}
 use Rattle.sj_bind.specs.Clauses.{IsBindableType}
+use Rattle.sj_bind.specs.Flat.{flat}
 use Rattle.sj_bind.specs.Parts.{Call, exists_call, value_call, query_call, calls, calls_in_item, names_in}
 use Rattle.sj_bind.specs.Rules.{all_columns}
 
@@ -29,7 +30,7 @@ IsBindableColumn (t.Nested path name columns) = Unit {0}
 
 pub record IsBindableTable (table : Table Path) : Type 0 where
   pub encoding : IsRead table.common.encoding
-  pub columns : Each IsBindableColumn (all_columns table)
+  pub columns : Each IsBindableColumn (all_columns (flat table))
 
 -- without a table no column stands in a value
 abbrev pub HasNoColumn : Value Path → Type 0

@@ -1,15 +1,16 @@
 -- WHAT A STATEMENT IS BOUND TO: each name is replaced by the number of its column, `*` by all columns, a DEFAULT literal by its
 -- cast, QUOTES by whether it is OMIT, and PASSING by its list of variables.
-use Rattle.std.specs.Prelude.{ℕ, zero, suc, List, [], ◌∷◌, ◌++◌, length, Some, None}
+use Rattle.std.specs.Prelude.{ℕ, zero, suc, List, [], ◌∷◌, ◌++◌, map, length, Some, None}
 use Rattle.std.specs.List.{position_or_len}
 use Rattle.std.specs.Str.{bytes_eq}
 use Rattle.sj_path_tree.specs.Tree.{Path}
-use Rattle.sj_sql_grammar.specs.Tree.{Value, Lit, Column, Exists, ValueOf, Query, IsJson, Object, Array, Values, NoValues, MoreValues, Members, NoMembers, MoreMembers, Item, Single, ArrayAgg, ObjectAgg, ColumnOf, Ordinality, Regular, Formatted, Existence, Nested, Table, Statement, Plain, All, Listed}
+use Rattle.sj_sql_grammar.specs.Tree.{Value, Lit, Column, Exists, ValueOf, Query, IsJson, Object, Array, Values, NoValues, MoreValues, Members, NoMembers, MoreMembers, Item, Single, ArrayAgg, ObjectAgg, ColumnOf, Ordinality, Regular, Formatted, Existence, Nested, Statement, Plain, All, Listed}
 use Rattle.sj_bound.specs.Bound as b
 use Rattle.sj_bind.specs.Clauses.{passed, path_with, value_clauses, query_clauses}
+use Rattle.sj_bind.specs.Flat.{TableColumn, FlatTable, flat}
 use Rattle.sj_bind.specs.Plans.{table_plan}
 use Rattle.sj_bind.specs.Rules.{all_paths}
-use Rattle.sj_bind.specs.Tables.{TableColumn, table_columns, column_names}
+use Rattle.sj_bind.specs.Tables.{column_names}
 
 -- the number of the column with this name
 abbrev pub column_number : List (List ℕ) → List ℕ → ℕ
@@ -66,25 +67,24 @@ column_under n (Formatted c) = b.Formatted n c.path (query_clauses c.wrapper c.q
 column_under n (Existence name path on_error) = b.Existence n path on_error
 column_under n (Nested path name columns) = b.Ordinality n
 
-abbrev pub bound_column : TableColumn Path → b.ColumnOf
+abbrev pub bound_column : TableColumn → b.ColumnOf
 bound_column c = column_under c.path c.column
 
-abbrev pub bound_columns : List (TableColumn Path) → List b.ColumnOf
-bound_columns [] = []
-bound_columns (c ∷ cs) = bound_column c ∷ bound_columns cs
+abbrev pub bound_columns : List TableColumn → List b.ColumnOf
+bound_columns columns = map bound_column columns
 
-abbrev pub bound_table : Table Path → b.Table
+abbrev pub bound_table : FlatTable → b.Table
 bound_table t = record {
   paths = all_paths t;
-  vars = passed t.common.passing;
+  vars = passed t.passing;
   plan = table_plan t;
   on_error = t.on_error;
-  columns = bound_columns (table_columns t);
+  columns = bound_columns t.columns;
 }
 
 -- ---- statements
 
 abbrev pub bound : Statement Path → b.Bound
 bound (Plain xs) = record { items = bound_list xs; table = None }
-bound (All t) = record { items = columns_below (length (column_names t)); table = Some (bound_table t) }
-bound (Listed xs t) = record { items = bound_items (column_names t) xs; table = Some (bound_table t) }
+bound (All t) = record { items = columns_below (length (flat t).columns); table = Some (bound_table (flat t)) }
+bound (Listed xs t) = record { items = bound_items (column_names (flat t)) xs; table = Some (bound_table (flat t)) }

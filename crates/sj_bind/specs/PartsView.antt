@@ -4,10 +4,7 @@ use Rattle.std.specs.Borrow.{Bor}
 use Rattle.sj_path_tree.specs.Tree.{Path}
 use Rattle.sj_sql_grammar.specs.Tree as t
 use Rattle.sj_sql_tree.specs.declared.tree.Value.{Value as ParsedValue}
-use Rattle.sj_sql_tree.specs.declared.tree.Column.{Column}
-use Rattle.sj_path_tree.specs.declared.tree.Path.{Path as ParsedPath}
-use Rattle.sj_path_tree.specs.View.{path_of}
-use Rattle.sj_sql_tree.specs.View.{value_of, column_of, exists_of, value_call_of, query_of}
+use Rattle.sj_sql_tree.specs.View.{value_of, exists_of, value_call_of, query_of}
 use Rattle.sj_bind.specs.declared.parts.Call.{Call}
 use Rattle.sj_bind.specs.declared.parts.Call.TheVariants as c
 use Rattle.sj_bind.specs.Parts as p
@@ -24,11 +21,3 @@ calls_of (x ∷ xs) = call_of x ∷ calls_of xs
 abbrev pub keys_of : List (Bor ParsedValue) → List (t.Value Path)
 keys_of [] = []
 keys_of (x ∷ xs) = value_of x.now ∷ keys_of xs
-
-abbrev pub columns_at : List (Bor Column) → List (t.ColumnOf Path)
-columns_at [] = []
-columns_at (x ∷ xs) = column_of x.now ∷ columns_at xs
-
-abbrev pub paths_at : List (Bor ParsedPath) → List Path
-paths_at [] = []
-paths_at (x ∷ xs) = path_of x.now ∷ paths_at xs

@@ -1,6 +1,6 @@
 -- THE RULES of binding, in their order. Each is true of a statement that breaks it, and the first that is broken is the fault.
-use Rattle.std.specs.Prelude.{ℕ, Bool, true, false, not, ◌&&◌, ◌||◌, List, [], ◌∷◌, ◌++◌, length, nat_lt, Option, Some, None, if◌then◌else◌}
-use Rattle.std.specs.List.{list_any}
+use Rattle.std.specs.Prelude.{ℕ, Bool, true, false, not, ◌&&◌, ◌||◌, List, [], ◌∷◌, map, length, nat_lt, Option, Some, None, if◌then◌else◌}
+use Rattle.std.specs.List.{flat_map, list_any}
 use Rattle.sj_base.specs.Names.{is_among}
 use Rattle.sj_path_tree.specs.declared.parts.Literal.{Literal}
 use Rattle.sj_path_tree.specs.declared.parts.Literal.TheVariants as literal
@@ -11,35 +11,33 @@ use Rattle.sj_sql_grammar.specs.declared.clauses.TypeName.{TypeName}
 use Rattle.sj_sql_grammar.specs.declared.clauses.ValueDo.{ValueDo}
 use Rattle.sj_sql_grammar.specs.declared.refusal.BindKind.{BindKind}
 use Rattle.sj_sql_grammar.specs.declared.refusal.BindKind.TheVariants.{TooMany, ColumnTwice, PathNameTwice, PathNameMissing, PlanMismatch, VariableTwice, UnknownVariable, QuotesWithWrapper, DefaultCast, UnknownColumn, AggregateMixed, KeyType}
-use Rattle.sj_sql_grammar.specs.Tree.{Common, Value, Lit, Column, Exists, ValueOf, Query, IsJson, Object, Array, Item, Single, ArrayAgg, ObjectAgg, ColumnOf, Ordinality, Regular, Formatted, Existence, Nested, Table, Statement, Plain, All, Listed}
+use Rattle.sj_sql_grammar.specs.Tree.{Common, Value, Lit, Column, Exists, ValueOf, Query, IsJson, Object, Array, Item, Single, ArrayAgg, ObjectAgg, ColumnOf, Ordinality, Regular, Formatted, Existence, Nested, Statement, Plain, All, Listed}
 use Rattle.sj_bound.specs.Limits.{most_items}
 use Rattle.sj_bind.specs.Clauses.{passed, passed_names, sql_type, names_text, default_fails, quotes_clash}
+use Rattle.sj_bind.specs.Flat.{TablePath, TableColumn, FlatTable, flat}
 use Rattle.sj_bind.specs.Parts.{Call, exists_call, value_call, query_call, call_common, calls, keys_in_list, keys_in_items, names_in_items}
-use Rattle.sj_bind.specs.Paths.{TablePath, table_paths}
 use Rattle.sj_bind.specs.Plans.{has_plan_mismatch}
-use Rattle.sj_bind.specs.Tables.{TableColumn, table_columns, column_names, has_twice, has_too_many, has_column_twice, has_path_name_twice, lacks_path_name}
+use Rattle.sj_bind.specs.Tables.{column_names, has_twice, has_too_many, has_column_twice, has_path_name_twice, lacks_path_name}
 
 -- a rule on the table, if there is one
-abbrev pub on_table : (Table Path → Bool) → Statement Path → Bool
+abbrev pub on_table : (FlatTable → Bool) → Statement Path → Bool
 on_table rule (Plain xs) = false
-on_table rule (All table) = rule table
-on_table rule (Listed xs table) = rule table
+on_table rule (All table) = rule (flat table)
+on_table rule (Listed xs table) = rule (flat table)
 
--- the columns of a table at any depth, in the order of the text
-abbrev pub columns_alone : List (TableColumn Path) → List (ColumnOf Path)
-columns_alone [] = []
-columns_alone (c ∷ cs) = c.column ∷ columns_alone cs
+-- the columns of a table, without the numbers of their paths
+abbrev pub columns_alone : List TableColumn → List (ColumnOf Path)
+columns_alone columns = map (λ c. c.column) columns
 
-abbrev pub all_columns : Table Path → List (ColumnOf Path)
-all_columns table = columns_alone (table_columns table)
+abbrev pub all_columns : FlatTable → List (ColumnOf Path)
+all_columns table = columns_alone table.columns
 
--- the row path and the nested paths of a table
-abbrev pub paths_alone : List (TablePath Path) → List Path
-paths_alone [] = []
-paths_alone (p ∷ ps) = p.path ∷ paths_alone ps
+-- the paths, without their names
+abbrev pub paths_alone : List TablePath → List Path
+paths_alone paths = map (λ p. p.path) paths
 
-abbrev pub all_paths : Table Path → List Path
-all_paths table = paths_alone (table_paths table)
+abbrev pub all_paths : FlatTable → List Path
+all_paths table = paths_alone table.paths
 
 -- ---- numbers
 
@@ -62,8 +60,11 @@ passes_twice c = has_twice (passed_names c.passing)
 abbrev pub call_passes_twice : Call Path → Bool
 call_passes_twice c = passes_twice (call_common c)
 
+abbrev pub table_passes_twice : FlatTable → Bool
+table_passes_twice table = has_twice (passed_names table.passing)
+
 abbrev pub variable_twice : Statement Path → Bool
-variable_twice s = list_any call_passes_twice (calls s) || on_table (λ table. passes_twice table.common) s
+variable_twice s = list_any call_passes_twice (calls s) || on_table table_passes_twice s
 
 -- a path that has a variable that the PASSING clause does not name
 abbrev pub lacks_variable : List Passed → Path → Bool
@@ -80,8 +81,8 @@ column_lacks_variable passing (Existence name path _) = lacks_variable passing p
 column_lacks_variable passing (Nested path name columns) = false
 
 -- the row path, a nested path or the path of a column
-abbrev pub table_lacks_variable : Table Path → Bool
-table_lacks_variable table = list_any (lacks_variable table.common.passing) (all_paths table) || list_any (column_lacks_variable table.common.passing) (all_columns table)
+abbrev pub table_lacks_variable : FlatTable → Bool
+table_lacks_variable table = list_any (lacks_variable table.passing) (all_paths table) || list_any (column_lacks_variable table.passing) (all_columns table)
 
 abbrev pub unknown_variable : Statement Path → Bool
 unknown_variable s = list_any call_lacks_variable (calls s) || on_table table_lacks_variable s
@@ -127,10 +128,13 @@ default_cast s = list_any call_default_fails (calls s) || on_table (λ table. li
 -- ---- names of columns
 
 -- a name in the list that is no column of the table
+abbrev pub names_unknown : List (Item Path) → FlatTable → Bool
+names_unknown xs table = list_any (λ name. not (is_among (column_names table) name)) (names_in_items xs)
+
 abbrev pub unknown_column : Statement Path → Bool
 unknown_column (Plain xs) = false
 unknown_column (All table) = false
-unknown_column (Listed xs table) = list_any (λ name. not (is_among (column_names table) name)) (names_in_items xs)
+unknown_column (Listed xs table) = names_unknown xs (flat table)
 
 -- ---- aggregates
 
@@ -140,10 +144,13 @@ is_aggregate (ArrayAgg x _) = true
 is_aggregate (ObjectAgg key x _ unique) = true
 
 -- an item is an aggregate, and another is none
+abbrev pub are_mixed : List (Item Path) → Bool
+are_mixed xs = list_any is_aggregate xs && list_any (λ x. not (is_aggregate x)) xs
+
 abbrev pub aggregate_mixed : Statement Path → Bool
 aggregate_mixed (Plain xs) = false
 aggregate_mixed (All table) = false
-aggregate_mixed (Listed xs table) = list_any is_aggregate xs && list_any (λ x. not (is_aggregate x)) xs
+aggregate_mixed (Listed xs table) = are_mixed xs
 
 -- ---- keys
 
@@ -156,8 +163,7 @@ text_name (Existence name path _) = []
 text_name (Nested path name columns) = []
 
 abbrev pub text_names : List (ColumnOf Path) → List (List ℕ)
-text_names [] = []
-text_names (c ∷ cs) = text_name c ++ text_names cs
+text_names columns = flat_map text_name columns
 
 abbrev pub is_key_literal : Literal → Bool
 is_key_literal (literal.Text s) = true
@@ -176,10 +182,13 @@ is_key texts (IsJson c) = false
 is_key texts (Object _ _ unique) = false
 is_key texts (Array _ _) = false
 
+abbrev pub keys_wrong : List (Item Path) → FlatTable → Bool
+keys_wrong xs table = list_any (λ key. not (is_key (text_names (all_columns table)) key)) (keys_in_items xs)
+
 abbrev pub key_type : Statement Path → Bool
 key_type (Plain xs) = list_any (λ key. not (is_key [] key)) (keys_in_list xs)
 key_type (All table) = false
-key_type (Listed xs table) = list_any (λ key. not (is_key (text_names (all_columns table)) key)) (keys_in_items xs)
+key_type (Listed xs table) = keys_wrong xs (flat table)
 
 -- ---- the first rule that is broken
 

@@ -5,6 +5,7 @@ ghost use Rattle.sj_sql_grammar.specs.Tree as t;
 ghost use Rattle.sj_sql_tree.specs.View.{plain_of, items_of, table_of, statement_of};
 ghost use Rattle.sj_bind.specs.Answer.{Binds};
 ghost use Rattle.sj_bind.specs.Fits.{AreItemsFit, AreListFit};
+ghost use Rattle.sj_bind.specs.FlatView.{flat_of};
 ghost use Rattle.sj_bind.specs.Meaning.{bound_items, bound_list, columns_below};
 ghost use Rattle.sj_bind.specs.Names.{names_of};
 ghost use Rattle.sj_bind.specs.Bindable.{IsBindable, IsBindableTable, AsksNothing};
@@ -14,9 +15,10 @@ ghost use Rattle.sj_bind.specs.Tables.{column_names, has_column_twice};
 ghost use Rattle.sj_bound.specs.View as view;
 
 use crate::fault::{all_fault, listed_fault, plain_fault};
+use crate::flat::{FlatTable, flatten};
 use crate::name_set::NameSet;
 use crate::refusal::BindRefusal;
-use crate::table::{bind_table, column_count, column_index};
+use crate::table::{bind_table, column_index};
 use crate::values::{bind_item, bind_value};
 use sj_base::Memory;
 use sj_bound::{Bound, BoundItem, BoundValue};
@@ -70,11 +72,12 @@ fn bind_all(alloc: Global, table: Table) -> Result<Bound, BindRefusal>
     requires { IsBindableTable (table_of table) }
     ensures { Binds (t.All (table_of table)) result }
 {
-    if let Some(kind) = all_fault(alloc, &table)? {
+    let flat = flatten(alloc, table)?;
+    if let Some(kind) = all_fault(alloc, &flat)? {
         return Err(BindRefusal::Kind(kind));
     }
-    let items = first_columns(alloc, column_count(&table))?;
-    let table = bind_table(alloc, table)?;
+    let items = first_columns(alloc, flat.columns.len() as u32)?;
+    let table = bind_table(alloc, flat)?;
     Ok(Bound {
         items,
         table: Some(table),
@@ -97,23 +100,28 @@ fn bind_listed(alloc: Global, items: Seq<Item>, table: Table) -> Result<Bound, B
     requires asks_nothing { All AsksNothing (items_of items) }
     ensures { Binds (t.Listed (items_of items) (table_of table)) result }
 {
-    if let Some(kind) = listed_fault(alloc, &items, &table)? {
+    let flat = flatten(alloc, table)?;
+    if let Some(kind) = listed_fault(alloc, &items, &flat)? {
         return Err(BindRefusal::Kind(kind));
     }
-    let items = bind_beside(alloc, items, &table)?;
-    let table = bind_table(alloc, table)?;
+    let items = bind_beside(alloc, items, &flat)?;
+    let table = bind_table(alloc, flat)?;
     Ok(Bound {
         items,
         table: Some(table),
     })
 }
 
-fn bind_beside(alloc: Global, items: Seq<Item>, table: &Table) -> Result<Seq<BoundItem>, Memory>
-    requires once { has_column_twice (table_of table.now) ≡ false }
-    requires few_columns { length (column_names (table_of table.now)) ≤ most_columns }
-    requires fit { AreItemsFit (column_names (table_of table.now)) (items_of items) }
+fn bind_beside(
+    alloc: Global,
+    items: Seq<Item>,
+    table: &FlatTable,
+) -> Result<Seq<BoundItem>, Memory>
+    requires once { has_column_twice (flat_of table.now) ≡ false }
+    requires few_columns { length (column_names (flat_of table.now)) ≤ most_columns }
+    requires fit { AreItemsFit (column_names (flat_of table.now)) (items_of items) }
     requires few { length items ≤ most_items }
-    ensures { IfOk result (λ bound. view.items_of bound ≡ bound_items (column_names (table_of table.now)) (items_of items)) }
+    ensures { IfOk result (λ bound. view.items_of bound ≡ bound_items (column_names (flat_of table.now)) (items_of items)) }
 {
     let columns = column_index(alloc, table)?;
     bind_items(alloc, items, &columns)

@@ -2,18 +2,19 @@
 
 ghost use Rattle.std.specs.Prelude.{◌≡◌, ◌||◌, false, nat_lt, length, IfOk, All};
 ghost use Rattle.sj_sql_grammar.specs.Tree as t;
-ghost use Rattle.sj_sql_tree.specs.View.{plain_of, items_of, table_of};
+ghost use Rattle.sj_sql_tree.specs.View.{plain_of, items_of};
 ghost use Rattle.sj_bound.specs.Limits.{most_items};
 ghost use Rattle.sj_bind.specs.Faults as group;
+ghost use Rattle.sj_bind.specs.FlatView.{flat_of};
 ghost use Rattle.sj_bind.specs.Names.{names_of};
 ghost use Rattle.sj_bind.specs.PartsView.{calls_of};
 ghost use Rattle.sj_bind.specs.Rules as spec;
 ghost use Rattle.sj_bind.specs.Tables as tables;
-ghost use Rattle.sj_bind.specs.Bindable.{IsBindable, IsBindableCall, IsBindableTable};
+ghost use Rattle.sj_bind.specs.Bindable.{IsBindable, IsBindableCall, IsBindableColumn};
 ghost use Rattle.sj_bind.specs.Variables.{HaveSame};
 
 use crate::calls::{some_default_fails, some_lacks_variable, some_passes_twice, some_quotes_clash};
-use crate::columns::table_parts;
+use crate::flat::FlatTable;
 use crate::items::are_mixed;
 use crate::keys::{some_key_is_wrong, text_names};
 use crate::name_set::NameSet;
@@ -26,10 +27,10 @@ use crate::table::{
 use crate::table_rules::{
     some_column_default_fails, some_column_quotes_clash, table_lacks_variable,
 };
-use crate::variables::passes_twice;
+use crate::variables::has_name_twice;
 use sj_base::Memory;
 use sj_sql_grammar::BindKind;
-use sj_sql_tree::{Item, Seq, Table, Value};
+use sj_sql_tree::{Item, Seq, Value};
 use std::alloc::Global;
 
 /// The most items that a SELECT list may have.
@@ -76,9 +77,8 @@ pub fn plain_fault(alloc: Global, values: &Seq<Value>) -> Result<Option<BindKind
 }
 
 /// The first rule on names and the plan that a table breaks.
-fn names_fault(alloc: Global, table: &Table) -> Result<Option<BindKind>, Memory>
-    requires { tables.has_too_many (table_of table.now) ≡ false }
-    ensures { IfOk result (λ f. f ≡ group.names_fault (table_of table.now)) }
+fn names_fault(alloc: Global, table: &FlatTable) -> Result<Option<BindKind>, Memory>
+    ensures { IfOk result (λ f. f ≡ group.names_fault (flat_of table.now)) }
 {
     if has_column_twice(alloc, table)? {
         return Ok(Some(BindKind::ColumnTwice));
@@ -96,31 +96,29 @@ fn names_fault(alloc: Global, table: &Table) -> Result<Option<BindKind>, Memory>
 }
 
 /// The first rule on variables and columns that a table breaks.
-fn columns_fault(alloc: Global, table: &Table) -> Result<Option<BindKind>, Memory>
-    requires { IsBindableTable (table_of table.now) }
-    ensures { IfOk result (λ f. f ≡ group.columns_fault (table_of table.now)) }
+fn columns_fault(alloc: Global, table: &FlatTable) -> Result<Option<BindKind>, Memory>
+    requires { All IsBindableColumn (spec.all_columns (flat_of table.now)) }
+    ensures { IfOk result (λ f. f ≡ group.columns_fault (flat_of table.now)) }
 {
-    if passes_twice(alloc, &table.common)? {
+    if has_name_twice(alloc, table.passing.as_slice())? {
         return Ok(Some(BindKind::VariableTwice));
     }
-    let parts = table_parts(alloc, table)?;
-    if table_lacks_variable(alloc, table, &parts)? {
+    if table_lacks_variable(alloc, table)? {
         return Ok(Some(BindKind::UnknownVariable));
     }
-    if some_column_quotes_clash(parts.columns.as_slice()) {
+    if some_column_quotes_clash(table.columns.as_slice()) {
         return Ok(Some(BindKind::QuotesWithWrapper));
     }
-    if some_column_default_fails(alloc, parts.columns.as_slice())? {
+    if some_column_default_fails(alloc, table.columns.as_slice())? {
         return Ok(Some(BindKind::DefaultCast));
     }
     Ok(None)
 }
 
 /// The first rule that `SELECT *` breaks.
-#[tactic(auto, using(crate::proofs::Groups::groups))]
-pub fn all_fault(alloc: Global, table: &Table) -> Result<Option<BindKind>, Memory>
-    requires { IsBindableTable (table_of table.now) }
-    ensures { IfOk result (λ f. f ≡ spec.bind_fault (t.All (table_of table.now))) }
+pub fn all_fault(alloc: Global, table: &FlatTable) -> Result<Option<BindKind>, Memory>
+    requires { All IsBindableColumn (spec.all_columns (flat_of table.now)) }
+    ensures { IfOk result (λ f. f ≡ group.all_fault (flat_of table.now)) }
 {
     if has_too_many(table) {
         return Ok(Some(BindKind::TooMany));
@@ -128,10 +126,9 @@ pub fn all_fault(alloc: Global, table: &Table) -> Result<Option<BindKind>, Memor
     table_fault(alloc, table)
 }
 
-fn table_fault(alloc: Global, table: &Table) -> Result<Option<BindKind>, Memory>
-    requires bindable { IsBindableTable (table_of table.now) }
-    requires few { tables.has_too_many (table_of table.now) ≡ false }
-    ensures { IfOk result (λ f. f ≡ group.either (group.names_fault (table_of table.now)) (group.columns_fault (table_of table.now))) }
+fn table_fault(alloc: Global, table: &FlatTable) -> Result<Option<BindKind>, Memory>
+    requires { All IsBindableColumn (spec.all_columns (flat_of table.now)) }
+    ensures { IfOk result (λ f. f ≡ group.table_fault (flat_of table.now)) }
 {
     let fault = names_fault(alloc, table)?;
     if fault.is_some() {
@@ -141,13 +138,13 @@ fn table_fault(alloc: Global, table: &Table) -> Result<Option<BindKind>, Memory>
 }
 
 /// The rules on names and on keys that the list breaks beside a table.
-fn broken_beside(alloc: Global, items: &[Item], table: &Table) -> Result<Broken, Memory>
-    requires { tables.has_column_twice (table_of table.now) ≡ false }
-    ensures unknown { IfOk result (λ b. b.unknown_name ≡ spec.unknown_column (t.Listed (items_of items.now) (table_of table.now))) }
-    ensures wrong { IfOk result (λ b. b.wrong_key ≡ spec.key_type (t.Listed (items_of items.now) (table_of table.now))) }
+fn broken_beside(alloc: Global, items: &[Item], table: &FlatTable) -> Result<Broken, Memory>
+    requires { tables.has_column_twice (flat_of table.now) ≡ false }
+    ensures unknown { IfOk result (λ b. b.unknown_name ≡ spec.names_unknown (items_of items.now) (flat_of table.now)) }
+    ensures wrong { IfOk result (λ b. b.wrong_key ≡ spec.keys_wrong (items_of items.now) (flat_of table.now)) }
 {
     let columns = column_index(alloc, table)?;
-    let texts = text_columns(alloc, table)?;
+    let texts = text_names(alloc, table.columns.as_slice())?;
     let known = KnownNames {
         columns: &columns,
         texts: &texts,
@@ -155,18 +152,14 @@ fn broken_beside(alloc: Global, items: &[Item], table: &Table) -> Result<Broken,
     Ok(broken_by_items(items, known))
 }
 
-/// The names of the columns of a table that are texts. A name that stands there twice is there once.
-fn text_columns<'t>(alloc: Global, table: &'t Table) -> Result<NameSet<'t>, Memory>
-    ensures { IfOk result (λ names. HaveSame (names_of names) (spec.text_names (spec.all_columns (table_of table.now)))) }
-{
-    let parts = table_parts(alloc, table)?;
-    text_names(alloc, parts.columns.as_slice())
-}
-
 /// The first rule on the list that it breaks beside a table.
-fn items_fault(alloc: Global, items: &[Item], table: &Table) -> Result<Option<BindKind>, Memory>
-    requires { tables.has_column_twice (table_of table.now) ≡ false }
-    ensures { IfOk result (λ f. f ≡ group.items_fault (items_of items.now) (table_of table.now)) }
+fn items_fault(
+    alloc: Global,
+    items: &[Item],
+    table: &FlatTable,
+) -> Result<Option<BindKind>, Memory>
+    requires { tables.has_column_twice (flat_of table.now) ≡ false }
+    ensures { IfOk result (λ f. f ≡ group.items_fault (items_of items.now) (flat_of table.now)) }
 {
     let broken = broken_beside(alloc, items, table)?;
     if broken.unknown_name {
@@ -182,21 +175,20 @@ fn items_fault(alloc: Global, items: &[Item], table: &Table) -> Result<Option<Bi
 }
 
 #[tactic(auto, using(crate::proofs::Groups::groups))]
-fn has_too_many_parts(items: &Seq<Item>, table: &Table) -> bool
-    ensures { result ≡ (nat_lt most_items (length (items_of items.now)) || tables.has_too_many (table_of table.now)) }
+fn has_too_many_parts(items: &Seq<Item>, table: &FlatTable) -> bool
+    ensures { result ≡ (nat_lt most_items (length (items_of items.now)) || tables.has_too_many (flat_of table.now)) }
 {
     items.len() > MOST_ITEMS || has_too_many(table)
 }
 
 /// The first rule that a list with a table breaks.
-#[tactic(auto, using(crate::proofs::Groups::groups))]
 pub fn listed_fault(
     alloc: Global,
     items: &Seq<Item>,
-    table: &Table,
+    table: &FlatTable,
 ) -> Result<Option<BindKind>, Memory>
-    requires { IsBindableTable (table_of table.now) }
-    ensures { IfOk result (λ f. f ≡ spec.bind_fault (t.Listed (items_of items.now) (table_of table.now))) }
+    requires { All IsBindableColumn (spec.all_columns (flat_of table.now)) }
+    ensures { IfOk result (λ f. f ≡ group.listed_fault (items_of items.now) (flat_of table.now)) }
 {
     if has_too_many_parts(items, table) {
         return Ok(Some(BindKind::TooMany));

@@ -4,12 +4,14 @@ ghost use Rattle.std.specs.Prelude.{◌≡◌, ◌∷◌, [], not, IfOk, OnOk};
 ghost use Rattle.std.specs.List.{list_any};
 ghost use Rattle.sj_sql_tree.specs.View.{column_of, value_of};
 ghost use Rattle.sj_bind.specs.Names.{names_of};
-ghost use Rattle.sj_bind.specs.PartsView.{keys_of, columns_at};
+ghost use Rattle.sj_bind.specs.FlatView.{columns_at};
+ghost use Rattle.sj_bind.specs.PartsView.{keys_of};
 ghost use Rattle.sj_bind.specs.Rules as spec;
 ghost use Rattle.sj_bind.specs.Variables.{AddsNames, HaveSame};
 
 use crate::clauses::names_text;
 use crate::covered::has_name;
+use crate::flat::FlatColumn;
 use crate::name_set::NameSet;
 use sj_base::Memory;
 use sj_path_tree::Literal;
@@ -55,12 +57,12 @@ pub fn some_key_is_wrong(alloc: Global, keys: &[&Value]) -> bool
 }
 
 /// The names of the columns that are texts. A name that stands there twice is there once.
-pub fn text_names<'t>(alloc: Global, columns: &[&'t Column]) -> Result<NameSet<'t>, Memory>
-    ensures { IfOk result (λ names. HaveSame (names_of names) (spec.text_names (columns_at columns.now))) }
+pub fn text_names<'t>(alloc: Global, columns: &'t [FlatColumn]) -> Result<NameSet<'t>, Memory>
+    ensures { IfOk result (λ names. HaveSame (names_of names) (spec.text_names (spec.columns_alone (columns_at columns.now)))) }
 {
     let mut names = NameSet::new(alloc);
     for column in columns {
-        note_text(column, &mut names)?;
+        note_text(&column.column, &mut names)?;
     }
     Ok(names)
 }

@@ -8,9 +8,9 @@
 mod binding;
 mod calls;
 mod clauses;
-mod columns;
 mod covered;
 mod fault;
+mod flat;
 mod items;
 mod keys;
 mod law;

@@ -2,30 +2,28 @@
 
 ghost use Rattle.std.specs.Prelude.{◌≡◌, IfOk, All};
 ghost use Rattle.std.specs.List.{list_any};
-ghost use Rattle.sj_path_tree.specs.View.{path_of};
-ghost use Rattle.sj_sql_tree.specs.View.{column_of, table_of};
+ghost use Rattle.sj_sql_tree.specs.View.{column_of};
 ghost use Rattle.sj_bind.specs.Names.{names_of};
-ghost use Rattle.sj_bind.specs.PartsView.{columns_at, paths_at};
+ghost use Rattle.sj_bind.specs.FlatView.{columns_at, paths_at, flat_of};
 ghost use Rattle.sj_bind.specs.Rules as spec;
 ghost use Rattle.sj_bind.specs.Bindable.{IsBindableColumn};
 ghost use Rattle.sj_bind.specs.Variables.{column_misses, misses};
 
 use crate::calls::defaults_fail;
 use crate::clauses::quotes_clash;
-use crate::columns::TableParts;
 use crate::covered::covers;
+use crate::flat::{FlatColumn, FlatPath, FlatTable};
 use crate::name_set::NameSet;
 use crate::variables::variable_names;
 use sj_base::Memory;
-use sj_path_tree::Path;
-use sj_sql_tree::{Column, Table};
+use sj_sql_tree::Column;
 use std::alloc::Global;
 
-fn some_path_misses(names: &NameSet<'_>, paths: &[&Path]) -> bool
-    ensures { result ≡ list_any (misses (names_of names.now)) (paths_at paths.now) }
+fn some_path_misses(names: &NameSet<'_>, paths: &[FlatPath]) -> bool
+    ensures { result ≡ list_any (misses (names_of names.now)) (spec.paths_alone (paths_at paths.now)) }
 {
     for path in paths {
-        if !covers(names, path) {
+        if !covers(names, &path.path) {
             return true;
         }
     }
@@ -43,11 +41,11 @@ fn one_column_misses(names: &NameSet<'_>, column: &Column) -> bool
     }
 }
 
-fn some_column_misses(names: &NameSet<'_>, columns: &[&Column]) -> bool
-    ensures { result ≡ list_any (column_misses (names_of names.now)) (columns_at columns.now) }
+fn some_column_misses(names: &NameSet<'_>, columns: &[FlatColumn]) -> bool
+    ensures { result ≡ list_any (column_misses (names_of names.now)) (spec.columns_alone (columns_at columns.now)) }
 {
     for column in columns {
-        if one_column_misses(names, column) {
+        if one_column_misses(names, &column.column) {
             return true;
         }
     }
@@ -55,20 +53,14 @@ fn some_column_misses(names: &NameSet<'_>, columns: &[&Column]) -> bool
 }
 
 /// Whether the row path, a nested path or the path of a column has a variable that the PASSING clause does not name.
-pub fn table_lacks_variable(
-    alloc: Global,
-    table: &Table,
-    parts: &TableParts<'_>,
-) -> Result<bool, Memory>
-    requires columns { columns_at parts.now.columns.items ≡ spec.all_columns (table_of table.now) }
-    requires paths { paths_at parts.now.paths.items ≡ spec.all_paths (table_of table.now) }
-    ensures { IfOk result (λ b. b ≡ spec.table_lacks_variable (table_of table.now)) }
+pub fn table_lacks_variable(alloc: Global, table: &FlatTable) -> Result<bool, Memory>
+    ensures { IfOk result (λ b. b ≡ spec.table_lacks_variable (flat_of table.now)) }
 {
-    let names = variable_names(alloc, table.common.passing.as_slice())?;
-    if some_path_misses(&names, parts.paths.as_slice()) {
+    let names = variable_names(alloc, table.passing.as_slice())?;
+    if some_path_misses(&names, table.paths.as_slice()) {
         return Ok(true);
     }
-    Ok(some_column_misses(&names, parts.columns.as_slice()))
+    Ok(some_column_misses(&names, table.columns.as_slice()))
 }
 
 fn column_quotes_clash(column: &Column) -> bool
@@ -84,11 +76,11 @@ fn column_quotes_clash(column: &Column) -> bool
 }
 
 /// Whether a QUOTES clause of a column stands beside WITH WRAPPER.
-pub fn some_column_quotes_clash(columns: &[&Column]) -> bool
-    ensures { result ≡ list_any spec.column_quotes_clash (columns_at columns.now) }
+pub fn some_column_quotes_clash(columns: &[FlatColumn]) -> bool
+    ensures { result ≡ list_any spec.column_quotes_clash (spec.columns_alone (columns_at columns.now)) }
 {
     for column in columns {
-        if column_quotes_clash(column) {
+        if column_quotes_clash(&column.column) {
             return true;
         }
     }
@@ -111,12 +103,12 @@ fn column_default_fails(alloc: Global, column: &Column) -> Result<bool, Memory>
 }
 
 /// Whether a DEFAULT literal of a column cannot be cast to its type.
-pub fn some_column_default_fails(alloc: Global, columns: &[&Column]) -> Result<bool, Memory>
-    requires { All IsBindableColumn (columns_at columns.now) }
-    ensures { IfOk result (λ b. b ≡ list_any spec.column_default_fails (columns_at columns.now)) }
+pub fn some_column_default_fails(alloc: Global, columns: &[FlatColumn]) -> Result<bool, Memory>
+    requires { All IsBindableColumn (spec.columns_alone (columns_at columns.now)) }
+    ensures { IfOk result (λ b. b ≡ list_any spec.column_default_fails (spec.columns_alone (columns_at columns.now))) }
 {
     for column in columns {
-        if column_default_fails(alloc, column)? {
+        if column_default_fails(alloc, &column.column)? {
             return Ok(true);
         }
     }

@@ -27,8 +27,9 @@ pub fn passes_twice(alloc: Global, common: &Common) -> Result<bool, Memory>
     has_name_twice(alloc, common.passing.as_slice())
 }
 
+/// Whether the same name is given twice.
 #[tactic(auto, using(crate::proofs::NameLists::twice_from))]
-fn has_name_twice(alloc: Global, passing: &[Passed]) -> Result<bool, Memory>
+pub fn has_name_twice(alloc: Global, passing: &[Passed]) -> Result<bool, Memory>
     ensures { IfOk result (λ b. b ≡ has_twice (passed_names passing.now)) }
 {
     let mut seen = NameSet::new(alloc);

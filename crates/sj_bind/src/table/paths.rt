@@ -1,156 +1,53 @@
 //! The nested paths of a table.
 
-ghost use Rattle.std.specs.Prelude.{◌≡◌, ℕ, ◌+◌, ◌≤◌, not, length, IfSome, option_map};
-ghost use Rattle.sj_sql_tree.specs.View.{table_of, columns_of, column_of};
-ghost use Rattle.sj_bind.specs.Tables as spec;
-ghost use Rattle.sj_bind.specs.Tables.{lacks_name_in, lacks_name_below};
-ghost use Rattle.sj_bind.specs.Paths.{paths_in, paths_below, children_in, children};
-ghost use Rattle.sj_bind.specs.Plans.{is_nil, path_named};
-ghost use Rattle.sj_bind.specs.NumberedPaths.{child_of};
+ghost use Rattle.std.specs.Prelude.{◌≡◌, ◌<◌, length, IfSome};
+ghost use Rattle.sj_bind.specs.FlatView.{flat_path_of, paths_at};
+ghost use Rattle.sj_bind.specs.Plans as spec;
 
-use sj_sql_tree::{Column, Columns, PlanTree, Table};
+use crate::flat::FlatPath;
+use sj_base::Text;
 
-/// A nested path: its number and its columns.
-#[derive(Clone, Copy)]
-pub struct NumberedPath<'a> {
-    pub number: u32,
-    pub columns: &'a Columns,
-}
-
-/// Whether the table has a plan with names, and a path that has none.
-pub fn lacks_path_name(table: &Table) -> bool
-    ensures { result ≡ spec.lacks_path_name (table_of table.now) }
+/// Whether the path stands right under the path of this number, or is the row path where there is none.
+pub fn is_under(path: &FlatPath, parent: Option<usize>) -> bool
+    ensures { result ≡ spec.is_under parent (flat_path_of path.now) }
 {
-    match &table.plan {
-        PlanTree::Default(_, _) => false,
-        PlanTree::Named(_) => table.name.is_none() || has_unnamed(&table.columns),
+    match (parent, path.parent) {
+        (None, None) => true,
+        (Some(parent), Some(own)) => parent == own,
+        _ => false,
     }
 }
 
-#[cycle(unnamed)]
-fn has_unnamed(columns: &Columns) -> bool
-    ensures { result ≡ lacks_name_below (columns_of columns.now) }
+fn is_called(own: &Option<Text>, name: &str) -> bool
+    ensures { result ≡ spec.is_name name.now own.now }
 {
-    let mut rest = columns;
-    loop {
-        match rest {
-            Columns::Last(column) => return has_unnamed_in(column),
-            Columns::More(column, others) => {
-                if has_unnamed_in(column) {
-                    return true;
-                }
-                rest = others;
-            }
+    match own {
+        Some(own) => own.as_str() == name,
+        None => false,
+    }
+}
+
+/// Whether paths are nested in the path of this number.
+pub fn has_nested(paths: &[FlatPath], parent: Option<usize>) -> bool
+    ensures { result ≡ spec.has_nested (paths_at paths.now) parent }
+{
+    for path in paths {
+        if is_under(path, parent) {
+            return true;
         }
     }
+    false
 }
 
-#[cycle(unnamed)]
-fn has_unnamed_in(column: &Column) -> bool
-    ensures { result ≡ lacks_name_in (column_of column.now) }
+/// The number of the path of this name right under a parent.
+pub fn find_path(paths: &[FlatPath], parent: Option<usize>, name: &str) -> Option<usize>
+    ensures found { result ≡ spec.path_named (paths_at paths.now) parent name.now }
+    ensures within { IfSome result (λ number. number < length paths.now) }
 {
-    match column {
-        Column::Ordinality(_)
-        | Column::Regular(_)
-        | Column::Formatted(_)
-        | Column::Exists(_, _, _) => false,
-        Column::Nested(_, name, columns) => name.is_none() || has_unnamed(columns),
-    }
-}
-
-/// How many paths are nested in a column, at any depth, with itself.
-#[cycle(path_count)]
-pub fn count_paths_in(column: &Column) -> u32
-    requires { length (paths_in (column_of column.now)) ≤ u32.MAX }
-    ensures { result ≡ length (paths_in (column_of column.now)) }
-{
-    match column {
-        Column::Ordinality(_)
-        | Column::Regular(_)
-        | Column::Formatted(_)
-        | Column::Exists(_, _, _) => 0,
-        Column::Nested(_, _, columns) => 1 + count_paths(columns),
-    }
-}
-
-/// How many paths are nested in columns, at any depth.
-#[cycle(path_count)]
-pub fn count_paths(columns: &Columns) -> u32
-    requires { length (paths_below (columns_of columns.now)) ≤ u32.MAX }
-    ensures { result ≡ length (paths_below (columns_of columns.now)) }
-{
-    let mut rest = columns;
-    let mut count = 0;
-    loop {
-        match rest {
-            Columns::Last(column) => return count + count_paths_in(column),
-            Columns::More(column, others) => {
-                count += count_paths_in(column);
-                rest = others;
-            }
+    for (number, path) in paths.iter().enumerate() {
+        if is_under(path, parent) && is_called(&path.name, name) {
+            return Some(number);
         }
     }
-}
-
-/// Whether a path is nested right under the columns.
-#[tactic(auto, using(crate::proofs::PathLists::nil_both))]
-pub fn has_nested(columns: &Columns) -> bool
-    ensures { (next : ℕ) → result ≡ not (is_nil (children next (columns_of columns.now))) }
-{
-    let mut rest = columns;
-    loop {
-        match rest {
-            Columns::Last(column) => return is_nested(column),
-            Columns::More(column, others) => {
-                if is_nested(column) {
-                    return true;
-                }
-                rest = others;
-            }
-        }
-    }
-}
-
-fn is_nested(column: &Column) -> bool
-    ensures { (next : ℕ) → result ≡ not (is_nil (children_in next (column_of column.now))) }
-{
-    matches!(column, Column::Nested(_, _, _))
-}
-
-/// The path of this name among those right under the columns, of which the first has the number `next`.
-#[tactic(auto, using(crate::proofs::PathLists::named_past, crate::proofs::PathLists::named_here))]
-pub fn find_path<'a>(columns: &'a Columns, next: u32, name: &str) -> Option<NumberedPath<'a>>
-    requires { next + length (paths_below (columns_of columns.now)) ≤ u32.MAX }
-    ensures found { option_map (child_of name.now) result ≡ path_named name.now (children next (columns_of columns.now)) }
-    ensures within { IfSome result (λ place. place.number + 1 + length (paths_below (columns_of place.columns.now)) ≤ next + length (paths_below (columns_of columns.now))) }
-{
-    let mut next = next;
-    let mut rest = columns;
-    loop {
-        match rest {
-            Columns::Last(column) => return path_here(column, next, name),
-            Columns::More(column, others) => {
-                if let Some(place) = path_here(column, next, name) {
-                    return Some(place);
-                }
-                next += count_paths_in(column);
-                rest = others;
-            }
-        }
-    }
-}
-
-/// A column as the path of this name, if it is one.
-fn path_here<'a>(column: &'a Column, next: u32, name: &str) -> Option<NumberedPath<'a>>
-    requires { next + length (paths_in (column_of column.now)) ≤ u32.MAX }
-    ensures found { option_map (child_of name.now) result ≡ path_named name.now (children_in next (column_of column.now)) }
-    ensures within { IfSome result (λ place. place.number + 1 + length (paths_below (columns_of place.columns.now)) ≤ next + length (paths_in (column_of column.now))) }
-{
-    match column {
-        Column::Nested(_, Some(own), columns) if own.as_str() == name => Some(NumberedPath {
-            number: next,
-            columns,
-        }),
-        _ => None,
-    }
+    None
 }

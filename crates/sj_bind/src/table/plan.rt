@@ -1,170 +1,111 @@
 //! The plan of a table over the numbers of its paths.
 
-ghost use Rattle.std.specs.Prelude.{◌≡◌, ◌+◌, ◌≤◌, ◌∷◌, [], true, false, length, is_some, option_map, None, Some, IfOk};
-ghost use Rattle.sj_value.specs.Plans.{plan_tree, IsPlanOver};
-ghost use Rattle.sj_sql_tree.specs.View.{table_of, columns_of, column_of, plan_of, plan_tree_of};
-ghost use Rattle.sj_bound.specs.Limits.{most_paths};
-ghost use Rattle.sj_bind.specs.Tables.{has_too_many, has_path_name_twice};
-ghost use Rattle.sj_bind.specs.Paths.{paths_in, paths_below, children, row_path, table_paths};
-ghost use Rattle.sj_bind.specs.NumberedPaths.{child_of};
+ghost use Rattle.std.specs.Prelude.{◌≡◌, ◌+◌, ◌<◌, ◌≤◌, true, false, length, is_some, option_map, Some, IfOk};
+ghost use Rattle.sj_value.specs.Plans.{plan_tree};
+ghost use Rattle.sj_sql_tree.specs.View.{plan_of};
+ghost use Rattle.sj_bind.specs.FlatView.{paths_at, flat_of};
+ghost use Rattle.sj_bind.specs.Tables.{has_too_many};
 ghost use Rattle.sj_bind.specs.Plans as spec;
 ghost use Rattle.sj_bind.specs.Grown as grown;
-ghost use Rattle.sj_bind.specs.Grown.{one_more, grown_in, grown_below};
+ghost use Rattle.sj_bind.specs.Grown.{one_more};
 
-use super::matching::root_of;
-use super::paths::{NumberedPath, count_paths_in, find_path};
+use super::paths::{find_path, is_under};
+use crate::flat::{FlatPath, FlatTable};
 use sj_base::{Memory, Text, boxed};
 use sj_sql_grammar::{InOut, Siblings};
-use sj_sql_tree::{Column, Columns, NamedPlan, PlanTree, Table};
+use sj_sql_tree::{NamedPlan, PlanTree};
 use sj_value::Plan;
 use std::alloc::Global;
 
-/// The plan of the table over the numbers of its paths, each of which stands in it once.
-pub fn table_plan(alloc: Global, table: &Table) -> Result<Plan, Memory>
-    requires few { has_too_many (table_of table.now) ≡ false }
-    requires names { has_path_name_twice (table_of table.now) ≡ false }
-    requires matched { spec.has_plan_mismatch (table_of table.now) ≡ false }
-    ensures same { IfOk result (λ plan. plan_tree plan ≡ spec.table_plan (table_of table.now)) }
-    ensures over { IfOk result (λ plan. IsPlanOver (length (table_paths (table_of table.now))) (plan_tree plan)) }
+/// The plan of the table over the numbers of its paths.
+pub fn table_plan(alloc: Global, table: &FlatTable) -> Result<Plan, Memory>
+    requires few { has_too_many (flat_of table.now) ≡ false }
+    requires matched { spec.has_plan_mismatch (flat_of table.now) ≡ false }
+    ensures { IfOk result (λ plan. plan_tree plan ≡ spec.table_plan (flat_of table.now)) }
 {
-    plan_by(alloc, &table.plan, table)
-}
-
-/// What a plan of the table with names or words is over the numbers of its paths.
-#[tactic(auto, using(crate::proofs::DefaultPlans::default_is))]
-fn plan_by(alloc: Global, plan: &PlanTree, table: &Table) -> Result<Plan, Memory>
-    requires few { has_too_many (table_of table.now) ≡ false }
-    requires matched { spec.differs (plan_tree_of plan.now) (table_of table.now) ≡ false }
-    ensures { IfOk result (λ p. plan_tree p ≡ spec.plan_by (plan_tree_of plan.now) (table_of table.now)) }
-{
-    match plan {
+    let paths = table.paths.as_slice();
+    match &table.plan {
         PlanTree::Default(in_out, siblings) => {
-            default_plan(alloc, &table.columns, 0, *in_out, *siblings)
+            default_plan(alloc, paths, 0, 0, *in_out, *siblings)
         }
-        PlanTree::Named(plan) => numbered_root(alloc, plan, table),
+        PlanTree::Named(plan) => numbered(alloc, plan, paths, None),
     }
 }
 
-/// The plan with numbers in the place of names, where its root is the row path.
-fn numbered_root(alloc: Global, plan: &NamedPlan, table: &Table) -> Result<Plan, Memory>
-    requires few { length (table_paths (table_of table.now)) ≤ most_paths }
-    requires matched { spec.matches (plan_of plan.now) (table_of table.now) ≡ true }
-    ensures { IfOk result (λ p. plan_tree p ≡ spec.numbered (plan_of plan.now) (row_path (table_of table.now) ∷ [])) }
+/// The plan with numbers in the place of names, which are those of paths right under a parent, or that of the row path where
+/// there is none.
+fn numbered(
+    alloc: Global,
+    plan: &NamedPlan,
+    paths: &[FlatPath],
+    parent: Option<usize>,
+) -> Result<Plan, Memory>
+    requires few { length paths.now ≤ u32.MAX }
+    requires fits { spec.fits (paths_at paths.now) (plan_of plan.now) parent ≡ true }
+    ensures { IfOk result (λ p. plan_tree p ≡ spec.numbered (paths_at paths.now) (plan_of plan.now) parent) }
 {
     match plan {
-        NamedPlan::Path(_) => Ok(Plan::Path(0)),
-        NamedPlan::Outer(_, below) => over(alloc, InOut::Outer, root_of(table), below),
-        NamedPlan::Inner(_, below) => over(alloc, InOut::Inner, root_of(table), below),
-        NamedPlan::Union(_, _) | NamedPlan::Cross(_, _) => unreachable!(),
-    }
-}
-
-/// The plan with numbers in the place of names, which are those of paths right under the columns. The first of these has the
-/// number `next`.
-#[cycle(numbered)]
-fn numbered(alloc: Global, plan: &NamedPlan, columns: &Columns, next: u32) -> Result<Plan, Memory>
-    requires few { next + length (paths_below (columns_of columns.now)) ≤ u32.MAX }
-    requires fits { spec.fits (plan_of plan.now) (children next (columns_of columns.now)) ≡ true }
-    ensures { IfOk result (λ p. plan_tree p ≡ spec.numbered (plan_of plan.now) (children next (columns_of columns.now))) }
-{
-    match plan {
-        NamedPlan::Path(name) => Ok(Plan::Path(known_path(columns, next, name).number)),
+        NamedPlan::Path(name) => Ok(Plan::Path(known_path(paths, parent, name) as u32)),
         NamedPlan::Outer(name, below) => {
-            over(alloc, InOut::Outer, known_path(columns, next, name), below)
+            let path = known_path(paths, parent, name);
+            let below = numbered(alloc, below, paths, Some(path))?;
+            joined(alloc, InOut::Outer, path as u32, below)
         }
         NamedPlan::Inner(name, below) => {
-            over(alloc, InOut::Inner, known_path(columns, next, name), below)
+            let path = known_path(paths, parent, name);
+            let below = numbered(alloc, below, paths, Some(path))?;
+            joined(alloc, InOut::Inner, path as u32, below)
         }
         NamedPlan::Union(a, b) => {
-            let a = numbered(alloc, a, columns, next)?;
-            let b = numbered(alloc, b, columns, next)?;
+            let a = numbered(alloc, a, paths, parent)?;
+            let b = numbered(alloc, b, paths, parent)?;
             beside(alloc, Siblings::Union, a, b)
         }
         NamedPlan::Cross(a, b) => {
-            let a = numbered(alloc, a, columns, next)?;
-            let b = numbered(alloc, b, columns, next)?;
+            let a = numbered(alloc, a, paths, parent)?;
+            let b = numbered(alloc, b, paths, parent)?;
             beside(alloc, Siblings::Cross, a, b)
         }
     }
 }
 
-/// A path over the plan of its nested paths.
-#[cycle(numbered)]
-fn over(alloc: Global, in_out: InOut, path: NumberedPath, below: &NamedPlan) -> Result<Plan, Memory>
-    requires few { path.number + 1 + length (paths_below (columns_of path.columns.now)) ≤ u32.MAX }
-    requires fits { spec.fits (plan_of below.now) (children (path.number + 1) (columns_of path.columns.now)) ≡ true }
-    ensures { IfOk result (λ p. plan_tree p ≡ spec.joined in_out path.entry.number (spec.numbered (plan_of below.now) (children (path.entry.number + 1) (columns_of path.entry.columns.now)))) }
+/// The number of the path of this name right under a parent.
+fn known_path(paths: &[FlatPath], parent: Option<usize>, name: &Text) -> usize
+    requires { is_some (spec.path_named (paths_at paths.now) parent name.now) ≡ true }
+    ensures found { spec.path_named (paths_at paths.now) parent name.now ≡ Some result }
+    ensures within { result < length paths.now }
 {
-    let plan = numbered(alloc, below, path.columns, path.number + 1)?;
-    joined(alloc, in_out, path.number, plan)
-}
-
-/// The path of this name among those right under the columns, of which the first has the number `next`.
-fn known_path<'a>(columns: &'a Columns, next: u32, name: &Text) -> NumberedPath<'a>
-    requires few { next + length (paths_below (columns_of columns.now)) ≤ u32.MAX }
-    requires known { is_some (spec.path_named name.now (children next (columns_of columns.now))) ≡ true }
-    ensures found { spec.path_named name.now (children next (columns_of columns.now)) ≡ Some (child_of name.now result) }
-    ensures within { result.number + 1 + length (paths_below (columns_of result.columns.now)) ≤ next + length (paths_below (columns_of columns.now)) }
-{
-    match find_path(columns, next, name.as_str()) {
-        Some(path) => path,
+    match find_path(paths, parent, name.as_str()) {
+        Some(number) => number,
         None => unreachable!(),
     }
 }
 
-/// The plan of PLAN DEFAULT for the path of this number, which has these columns.
-#[cycle(defaults)]
+/// The plan of PLAN DEFAULT for the path of this number. Those that are nested in it stand among the paths, of which the first
+/// has the number `next`.
 fn default_plan(
     alloc: Global,
-    columns: &Columns,
+    paths: &[FlatPath],
+    next: u32,
     number: u32,
     in_out: InOut,
     siblings: Siblings,
 ) -> Result<Plan, Memory>
-    requires { number + 1 + length (paths_below (columns_of columns.now)) ≤ u32.MAX }
-    ensures { IfOk result (λ plan. plan_tree plan ≡ grown.path_over in_out number (grown_below in_out siblings (number + 1) None (columns_of columns.now))) }
+    requires { next + length paths.now ≤ u32.MAX }
+    ensures { IfOk result (λ plan. plan_tree plan ≡ spec.over in_out siblings number (spec.default_in in_out siblings number next (paths_at paths.now))) }
 {
     let mut below = None;
-    let mut next = number + 1;
-    let mut rest = columns;
-    loop {
-        match rest {
-            Columns::Last(column) => {
-                let below = with_column(alloc, below, column, next, in_out, siblings)?;
-                return path_over(alloc, number, below, in_out);
-            }
-            Columns::More(column, others) => {
-                below = with_column(alloc, below, column, next, in_out, siblings)?;
-                next += count_paths_in(column);
-                rest = others;
-            }
+    let mut next = next;
+    let mut rest = paths;
+    while let Some((path, others)) = rest.split_first() {
+        if is_under(path, Some(number as usize)) {
+            let plan = default_plan(alloc, others, next + 1, next, in_out, siblings)?;
+            below = with_plan(alloc, below, plan, siblings)?;
         }
+        next += 1;
+        rest = others;
     }
-}
-
-/// The plans so far, with that of a column beside them where it is a nested path.
-#[cycle(defaults)]
-fn with_column(
-    alloc: Global,
-    below: Option<Plan>,
-    column: &Column,
-    next: u32,
-    in_out: InOut,
-    siblings: Siblings,
-) -> Result<Option<Plan>, Memory>
-    requires { next + length (paths_in (column_of column.now)) ≤ u32.MAX }
-    ensures { IfOk result (λ plans. option_map plan_tree plans ≡ grown_in in_out siblings next (option_map plan_tree below) (column_of column.now)) }
-{
-    match column {
-        Column::Ordinality(_)
-        | Column::Regular(_)
-        | Column::Formatted(_)
-        | Column::Exists(_, _, _) => Ok(below),
-        Column::Nested(_, _, columns) => {
-            let plan = default_plan(alloc, columns, next, in_out, siblings)?;
-            with_plan(alloc, below, plan, siblings)
-        }
-    }
+    path_over(alloc, number, below, in_out)
 }
 
 /// The plans so far, and one more beside them.

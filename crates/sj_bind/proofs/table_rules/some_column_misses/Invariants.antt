@@ -2,9 +2,10 @@ use Rattle.std.proofs.Common.{◌≡◌, drop}
 use Rattle.std.specs.List.{list_any}
 use Rattle.sj_bind.specs.Variables.{column_misses}
 use Rattle.sj_bind.specs.Names.{names_of}
-use Rattle.sj_bind.specs.PartsView.{columns_at}
+use Rattle.sj_bind.specs.FlatView.{columns_at}
+use Rattle.sj_bind.specs.Rules.{columns_alone}
 use Rattle.sj_bind.proofs.table_rules.some_column_misses.Given as goal
 
 -- those so far keep the rule
 abbrev pub invariant-loop-column : goal.invariant-loop-column
-invariant-loop-column l = list_any (column_misses (names_of l.names)) (columns_at (drop l.column-index l.columns)) ≡ list_any (column_misses (names_of l.names)) (columns_at l.columns)
+invariant-loop-column l = list_any (column_misses (names_of l.names)) (columns_alone (columns_at (drop l.column-index l.columns))) ≡ list_any (column_misses (names_of l.names)) (columns_alone (columns_at l.columns))

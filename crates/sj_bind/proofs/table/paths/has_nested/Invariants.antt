@@ -1,9 +1,8 @@
-use Rattle.std.proofs.Common.{◌≡◌, ℕ}
-use Rattle.sj_sql_tree.specs.View.{columns_of}
-use Rattle.sj_bind.specs.Paths.{children}
-use Rattle.sj_bind.specs.Plans.{is_nil}
+use Rattle.std.proofs.Common.{◌≡◌, drop}
+use Rattle.sj_bind.specs.FlatView.{paths_at}
+use Rattle.sj_bind.specs.Plans.{has_nested}
 use Rattle.sj_bind.proofs.table.paths.has_nested.Given as goal
 
--- no path was found, wherever the numbers begin
-abbrev pub invariant-loop-rest : goal.invariant-loop-rest
-invariant-loop-rest l = (next : ℕ) → is_nil (children next (columns_of l.fn.columns)) ≡ is_nil (children next (columns_of l.rest))
+-- none of the paths so far is nested there
+abbrev pub invariant-loop-path : goal.invariant-loop-path
+invariant-loop-path l = has_nested (paths_at (drop l.path-index l.paths)) l.parent ≡ has_nested (paths_at l.paths) l.parent
