@@ -31,7 +31,8 @@ class Addition:
 
 ADDITIONS = [
     Addition("item method (`ceiling`)", r"\bCeiling\b", r"\bceiling\(\)", PATHS),
-    Addition("part of a path that is refused by name (`.double()`)", r"\bDouble\b", r"\bdouble\b", [*PATHS, "sj_sql_grammar"]),
+    # (DOUBLE PRECISION of SQL is another word)
+    Addition("part of a path that is refused by name (`.double()`)", r"\bDouble\b(?! ts\b)(?! ∷ the w\.Precision)", r"\bdouble\b", [*PATHS, "sj_sql_grammar"]),
     Addition("operator of arithmetic (`%`)", r"\b(?:Percent|Rem)\b", r" % ", PATHS),
     Addition("comparison of a path (`!=`)", r"\bNe\b", r"!=", [*PATHS, "sj_decimal", "sj_item"]),
     Addition("keyword of statements (`KEEP`)", r"\bKeep\b|\"KEEP\"", r"\bKEEP\b", ["sj_sql_token", "sj_sql_grammar", "sj_sql_phrase"]),

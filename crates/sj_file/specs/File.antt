@@ -87,14 +87,15 @@ IsWithin (f.Generated number name) = number ≤ most_lines
 
 -- ---- the file that is named
 
-abbrev pub name_in : Form → List ℕ
-name_in (running keys name) = name
-name_in (checking name) = name
-name_in (generating number name) = name
+-- a form names one file of statements at the most
+abbrev pub named_in : Form → Option (List ℕ)
+named_in (running keys name) = Some name
+named_in (checking name) = Some name
+named_in (generating number name) = Some name
 
 abbrev pub file_named : Option Form → Option (List ℕ)
 file_named None = None
-file_named (Some form) = Some (name_in form)
+file_named (Some form) = named_in form
 
 -- where its statements are run over the input
 abbrev pub file_run : Option Form → Option (List ℕ)

@@ -18,7 +18,7 @@ use Rattle.sj_file.specs.declared.job.Keys.TheVariants.{Any}
 use Rattle.sj_file.specs.declared.status.Status.{Status}
 use Rattle.sj_file.specs.declared.status.Status.TheVariants.{Done, Usage, Refused, ShelfFault, ReadFault, WriteFault, Memory, InputLimit, FileTooLong}
 use Rattle.sj_file.specs.Piece.{max_piece}
-use Rattle.sj_file.specs.File.{Form, running, checking, generating, name_in, file_named, file_run, file_shown}
+use Rattle.sj_file.specs.File.{ShelfSide, Form, running, checking, generating, named_in, file_named, file_run, file_shown}
 use Rattle.sj_file.specs.Verdict.{Accepts, Refuses}
 use Rattle.sj_file.specs.Conditions.{IfRuns, IfChecks, IfGenerates, IfNames, IfAccepted, IsOrMemory}
 use Rattle.sj_file.proofs.Verdicts.{one_accepted, not_both}
@@ -29,16 +29,16 @@ use Rattle.sj_stream.specs.LineJob.{LineJob, output, whole_output, allowed}
 use Rattle.sj_run.specs.Output.{job}
 use Rattle.sj_stream.specs.Stream.{IsPrefix, IsWhy, Streamed, IsFrontOf, WroteLeast, WroteWhole, StepsWithin, TookMost}
 use Rattle.sj_run.specs.Summary.{summary_text}
-use Rattle.sj_run.specs.Ran.{Moment, accepted_text, Tells, RanGenerated, Does, Idle, Did, Ran, IsBefore}
+use Rattle.sj_run.specs.Ran.{Moment, accepted_text, Tells, RanGenerated, Does, Idle, Did, RanOver, Ran, IsBefore}
 use Rattle.sj_stream.proofs.Steps.{raised_none}
 use Rattle.sj_stream.proofs.Streaming.{whole_output-append, output-end, prefix_trans, consumes_none, told, streamed_front}
 
 -- ---- what was done
 
 -- it was done with the statements of the file
-does_with : (f : Form) (b a : Moment) (status : Status) (file : List ℕ) (K : List Bound) → file_shown b.shelf.files (Some (name_in f)) ≡ Some file → Accepts file K → Did f b a status → Does f K b.input a.input b.out a.out status
-does_with f b a status file K shown accepts d =
-    subst (λ (k : List Bound). Does f k b.input a.input b.out a.out status) (one_accepted file d.statements K (accepted_as (name_in f) b.shelf a.shelf d.statements file shown d.accepted) accepts) d.does
+does_with : (f : Form) (name : List ℕ) (b a : Moment) (status : Status) (file : List ℕ) (K : List Bound) → file_shown b.shelf.files (Some name) ≡ Some file → Accepts file K → Did f name b a status → Does f K b.input a.input b.out a.out status
+does_with f name b a status file K shown accepts d =
+    subst (λ (k : List Bound). Does f k b.input a.input b.out a.out status) (one_accepted file d.statements K (accepted_as name b.shelf a.shelf d.statements file shown d.accepted) accepts) d.does
 
 why_not_before : (K : LineJob) (i i' : InputSide) (o : OutputSide) (o' : PrintState) (bytes text : List ℕ) (status : Status) → IsWhy K i i' o o' bytes text status → IsBefore status → ⊥
 why_not_before K i i' o o' bytes text Done why is = is
@@ -73,10 +73,10 @@ not_before (generating number name) K i i' o o' status d is = tells_not_before (
 -- ---- by the form
 
 -- either no file was accepted, or this was done with its statements
-either : (f : Form) (b a : Moment) (status : Status) (file : List ℕ) (K : List Bound) (Q : Type 0) → file_shown b.shelf.files (Some (name_in f)) ≡ Some file → Accepts file K → Ran (Some f) b a status
-    → (Idle (name_in f) b a status → Q) → (Does f K b.input a.input b.out a.out status → Q) → Q
-either f b a status file K Q shown accepts (inl idle) h g = h idle
-either f b a status file K Q shown accepts (inr d) h g = g (does_with f b a status file K shown accepts d)
+either : (f : Form) (name : List ℕ) (b a : Moment) (status : Status) (file : List ℕ) (K : List Bound) (Q : Type 0) → file_shown b.shelf.files (Some name) ≡ Some file → Accepts file K → RanOver f (Some name) b a status
+    → (Idle name b a status → Q) → (Does f K b.input a.input b.out a.out status → Q) → Q
+either f name b a status file K Q shown accepts (inl idle) h g = h idle
+either f name b a status file K Q shown accepts (inr d) h g = g (does_with f name b a status file K shown accepts d)
 
 -- What holds where no file was accepted, and where its statements were run, holds of a run. So for the other two forms.
 on_run : (f : Option Form) (b a : Moment) (status : Status) (P : Keys → List Bound → Type 0) → Ran f b a status
@@ -86,7 +86,7 @@ on_run : (f : Option Form) (b a : Moment) (status : Status) (P : Keys → List B
 on_run f b a status P r idle ran =
     for_run f b.shelf.files (λ keys file. IfAccepted file (P keys))
     (λ keys name file is shown K accepts.
-    either (running keys name) b a status file K (P keys K) shown accepts (subst (λ (x : Option Form). Ran x b a status) is r) (idle keys K name) (λ d. ran keys K d.0 d.1))
+    either (running keys name) name b a status file K (P keys K) shown accepts (subst (λ (x : Option Form). Ran x b a status) is r) (idle keys K name) (λ d. ran keys K d.0 d.1))
 
 on_check : (f : Option Form) (b a : Moment) (status : Status) (P : List Bound → Type 0) → Ran f b a status
     → ((K : List Bound) (name : List ℕ) → Idle name b a status → P K) → ((K : List Bound) → Tells (accepted_text K) b.out a.out status → P K)
@@ -94,7 +94,7 @@ on_check : (f : Option Form) (b a : Moment) (status : Status) (P : List Bound �
 on_check f b a status P r idle told =
     for_check f b.shelf.files (λ file. IfAccepted file P)
     (λ name file is shown K accepts.
-    either (checking name) b a status file K (P K) shown accepts (subst (λ (x : Option Form). Ran x b a status) is r) (idle K name) (λ d. told K d.1))
+    either (checking name) name b a status file K (P K) shown accepts (subst (λ (x : Option Form). Ran x b a status) is r) (idle K name) (λ d. told K d.1))
 
 on_generated : (f : Option Form) (b a : Moment) (status : Status) (P : ℕ → List Bound → Type 0) → Ran f b a status
     → ((number : ℕ) (K : List Bound) (name : List ℕ) → Idle name b a status → P number K)
@@ -103,7 +103,7 @@ on_generated : (f : Option Form) (b a : Moment) (status : Status) (P : ℕ → L
 on_generated f b a status P r idle told =
     for_generated f b.shelf.files (λ number file. IfAccepted file (P number))
     (λ number name file is shown K accepts.
-    either (generating number name) b a status file K (P number K) shown accepts (subst (λ (x : Option Form). Ran x b a status) is r) (idle number K name) (λ d. told number K d.0 d.1))
+    either (generating number name) name b a status file K (P number K) shown accepts (subst (λ (x : Option Form). Ran x b a status) is r) (idle number K name) (λ d. told number K d.0 d.1))
 
 -- ---- runs over the input
 
@@ -248,7 +248,7 @@ pub ran_completes : (f : Option Form) (b a : Moment) (status : Status) → Ran f
 ran_completes f b a status r shelf read out =
     for_run f b.shelf.files (λ keys file. length file ≤ max_file → IfAccepted file (λ K. IfSome b.input.left (λ all. length all < max_input → IsOrMemory status Done)))
     (λ keys name file is shown short K accepts. by_some b.input.left _ (λ all left fits.
-    either (running keys name) b a status file K _ shown accepts (subst (λ (x : Option Form). Ran x b a status) is r)
+    either (running keys name) name b a status file K _ shown accepts (subst (λ (x : Option Form). Ran x b a status) is r)
     (λ idle. inr (only_memory name b.shelf a.shelf status file K shown accepts short shelf idle.why))
     (λ d. streamed_complete (job keys K) b.input a.input b.out (record { out = a.out; page = d.0 }) status all left fits read out d.1)))
 
@@ -292,7 +292,7 @@ pub ran_check_completes : (f : Option Form) (b a : Moment) (status : Status) →
 ran_check_completes f b a status r shelf out =
     for_check f b.shelf.files (λ file. length file ≤ max_file → IfAccepted file (λ K. IsOrMemory status Done))
     (λ name file is shown short K accepts.
-    either (checking name) b a status file K _ shown accepts (subst (λ (x : Option Form). Ran x b a status) is r)
+    either (checking name) name b a status file K _ shown accepts (subst (λ (x : Option Form). Ran x b a status) is r)
     (λ idle. inr (only_memory name b.shelf a.shelf status file K shown accepts short shelf idle.why)) (λ d. tells_complete (accepted_text K) b.out a.out status out d.1))
 
 -- ---- runs over generated lines
@@ -313,7 +313,7 @@ pub ran_generated_completes : (f : Option Form) (b a : Moment) (status : Status)
 ran_generated_completes f b a status r shelf out =
     for_generated f b.shelf.files (λ number file. length file ≤ max_file → IfAccepted file (λ K. IsOrMemory status Done))
     (λ number name file is shown short K accepts.
-    either (generating number name) b a status file K _ shown accepts (subst (λ (x : Option Form). Ran x b a status) is r)
+    either (generating number name) name b a status file K _ shown accepts (subst (λ (x : Option Form). Ran x b a status) is r)
     (λ idle. inr (only_memory name b.shelf a.shelf status file K shown accepts short shelf idle.why)) (λ d. tells_complete (summary_text number K) b.out a.out status out d.1))
 
 idle_steps : (i i' : InputSide) (n : ℕ) → i' ≡ i → i'.steps ≤ raised i.steps n
@@ -330,64 +330,79 @@ ran_generated_within f b a status r =
 pub ran_refuses : (f : Option Form) (b a : Moment) (status : Status) → Ran f b a status → (Rose b.shelf.faults a.shelf.faults → ⊥)
     → IfNames f b.shelf.files (λ file. length file ≤ max_file → (n : ℕ) (other : FileKind) → Refuses file n other → IsOrMemory status (Refused n other))
 ran_refuses None b a status r shelf = by_some (file_shown b.shelf.files None) _ (λ file shown. absurd (no_name b.shelf.files file shown))
-ran_refuses (Some f) b a status (inl idle) shelf =
-    by_some (file_shown b.shelf.files (Some (name_in f))) _ (λ file shown short n other bad. this_refusal (name_in f) b.shelf a.shelf status file n other shown short bad shelf idle.why)
-ran_refuses (Some f) b a status (inr d) shelf =
-    by_some (file_shown b.shelf.files (Some (name_in f))) _ (λ file shown short n other bad. absurd (not_both file d.statements n other (accepted_as (name_in f) b.shelf a.shelf d.statements file shown d.accepted) bad))
+ran_refuses (Some f) b a status r shelf = over (named_in f) r
+  where
+    over : (named : Option (List ℕ)) → RanOver f named b a status → IfSome (file_shown b.shelf.files named) (λ file. length file ≤ max_file → (n : ℕ) (other : FileKind) → Refuses file n other → IsOrMemory status (Refused n other))
+    over None d = by_some (file_shown b.shelf.files None) _ (λ file shown. absurd (no_name b.shelf.files file shown))
+    over (Some name) (inl idle) =
+        by_some (file_shown b.shelf.files (Some name)) _ (λ file shown short n other bad. this_refusal name b.shelf a.shelf status file n other shown short bad shelf idle.why)
+    over (Some name) (inr d) =
+        by_some (file_shown b.shelf.files (Some name)) _ (λ file shown short n other bad. absurd (not_both file d.statements n other (accepted_as name b.shelf a.shelf d.statements file shown d.accepted) bad))
 
 -- a refusal is that of the file
 pub ran_refused : (f : Option Form) (b a : Moment) (status : Status) → Ran f b a status → (k : ℕ) (kind : FileKind) → status ≡ Refused k kind
     → (a.shelf.faults ≡ b.shelf.faults) × IfNames f b.shelf.files (λ file. (length file ≤ max_file) × Refuses file k kind)
 ran_refused None b a status r k kind is = absurd (cc (r.0, is))
-ran_refused (Some f) b a status r k kind is = by_refusal (subst (Ran (Some f) b a) is r)
+ran_refused (Some f) b a status r k kind is = over (named_in f) (subst (Ran (Some f) b a) is r)
   where
-    by_refusal : Ran (Some f) b a (Refused k kind) → (a.shelf.faults ≡ b.shelf.faults) × IfNames (Some f) b.shelf.files (λ file. (length file ≤ max_file) × Refuses file k kind)
-    by_refusal (inl idle) = (idle.why.holds.no_fault, by_some (file_shown b.shelf.files (Some (name_in f))) _ (λ file shown. refused_as (name_in f) b.shelf a.shelf k kind file shown idle.why))
-    by_refusal (inr d) = absurd (not_before f d.statements b.input a.input b.out a.out (Refused k kind) d.does tt)
+    over : (named : Option (List ℕ)) → RanOver f named b a (Refused k kind) → (a.shelf.faults ≡ b.shelf.faults) × IfSome (file_shown b.shelf.files named) (λ file. (length file ≤ max_file) × Refuses file k kind)
+    over None d = absurd (not_before f [] b.input a.input b.out a.out (Refused k kind) d.does tt)
+    over (Some name) (inl idle) = (idle.why.holds.no_fault, by_some (file_shown b.shelf.files (Some name)) _ (λ file shown. refused_as name b.shelf a.shelf k kind file shown idle.why))
+    over (Some name) (inr d) = absurd (not_before f d.statements b.input a.input b.out a.out (Refused k kind) d.does tt)
 
 -- ---- files that are too long or absent
 
 pub ran_too_long : (f : Option Form) (b a : Moment) (status : Status) → Ran f b a status → status ≡ FileTooLong
     → (a.shelf.faults ≡ b.shelf.faults) × IfNames f b.shelf.files (λ file. max_file < length file)
 ran_too_long None b a status r is = absurd (cc (r.0, is))
-ran_too_long (Some f) b a status r is = by_length (subst (Ran (Some f) b a) is r)
+ran_too_long (Some f) b a status r is = over (named_in f) (subst (Ran (Some f) b a) is r)
   where
-    by_length : Ran (Some f) b a FileTooLong → (a.shelf.faults ≡ b.shelf.faults) × IfNames (Some f) b.shelf.files (λ file. max_file < length file)
-    by_length (inl idle) = (idle.why.1, by_some (file_shown b.shelf.files (Some (name_in f))) _ (λ file shown. long_file b.shelf.files (name_in f) file a.shelf.left shown idle.why.0))
-    by_length (inr d) = absurd (not_before f d.statements b.input a.input b.out a.out FileTooLong d.does tt)
+    over : (named : Option (List ℕ)) → RanOver f named b a FileTooLong → (a.shelf.faults ≡ b.shelf.faults) × IfSome (file_shown b.shelf.files named) (λ file. max_file < length file)
+    over None d = absurd (not_before f [] b.input a.input b.out a.out FileTooLong d.does tt)
+    over (Some name) (inl idle) = (idle.why.1, by_some (file_shown b.shelf.files (Some name)) _ (λ file shown. long_file b.shelf.files name file a.shelf.left shown idle.why.0))
+    over (Some name) (inr d) = absurd (not_before f d.statements b.input a.input b.out a.out FileTooLong d.does tt)
 
 -- no more of it was read than the first byte past the limit
 pub ran_too_long_reads : (f : Option Form) (b a : Moment) (status : Status) → Ran f b a status → status ≡ FileTooLong
     → IfNames f b.shelf.files (λ file. IfSome a.shelf.left (λ rest. length file ≡ max_file + 1 + length rest))
 ran_too_long_reads None b a status r is = absurd (cc (r.0, is))
-ran_too_long_reads (Some f) b a status r is = by_length (subst (Ran (Some f) b a) is r)
+ran_too_long_reads (Some f) b a status r is = over (named_in f) (subst (Ran (Some f) b a) is r)
   where
-    by_length : Ran (Some f) b a FileTooLong → IfNames (Some f) b.shelf.files (λ file. IfSome a.shelf.left (λ rest. length file ≡ max_file + 1 + length rest))
-    by_length (inl idle) = by_some (file_shown b.shelf.files (Some (name_in f))) _ (λ file shown. by_some a.shelf.left _ (λ rest left. left_of file a.shelf.left rest left (past_limit b.shelf.files (name_in f) file a.shelf.left shown idle.why.0)))
-    by_length (inr d) = absurd (not_before f d.statements b.input a.input b.out a.out FileTooLong d.does tt)
+    over : (named : Option (List ℕ)) → RanOver f named b a FileTooLong → IfSome (file_shown b.shelf.files named) (λ file. IfSome a.shelf.left (λ rest. length file ≡ max_file + 1 + length rest))
+    over None d = absurd (not_before f [] b.input a.input b.out a.out FileTooLong d.does tt)
+    over (Some name) (inl idle) = by_some (file_shown b.shelf.files (Some name)) _ (λ file shown. by_some a.shelf.left _ (λ rest left. left_of file a.shelf.left rest left (past_limit b.shelf.files name file a.shelf.left shown idle.why.0)))
+    over (Some name) (inr d) = absurd (not_before f d.statements b.input a.input b.out a.out FileTooLong d.does tt)
 
 pub ran_finds_too_long : (f : Option Form) (b a : Moment) (status : Status) → Ran f b a status → (Rose b.shelf.faults a.shelf.faults → ⊥)
     → IfNames f b.shelf.files (λ file. max_file < length file → IsOrMemory status FileTooLong)
 ran_finds_too_long None b a status r shelf = by_some (file_shown b.shelf.files None) _ (λ file shown. absurd (no_name b.shelf.files file shown))
-ran_finds_too_long (Some f) b a status (inl idle) shelf =
-    by_some (file_shown b.shelf.files (Some (name_in f))) _ (λ file shown long. too_long_alone (name_in f) b.shelf a.shelf status file shown long shelf idle.why)
-ran_finds_too_long (Some f) b a status (inr d) shelf =
-    by_some (file_shown b.shelf.files (Some (name_in f))) _ (λ file shown long. absurd (omega (arith, long, accepted_short (name_in f) b.shelf a.shelf d.statements file shown d.accepted)))
+ran_finds_too_long (Some f) b a status r shelf = over (named_in f) r
+  where
+    over : (named : Option (List ℕ)) → RanOver f named b a status → IfSome (file_shown b.shelf.files named) (λ file. max_file < length file → IsOrMemory status FileTooLong)
+    over None d = by_some (file_shown b.shelf.files None) _ (λ file shown. absurd (no_name b.shelf.files file shown))
+    over (Some name) (inl idle) = by_some (file_shown b.shelf.files (Some name)) _ (λ file shown long. too_long_alone name b.shelf a.shelf status file shown long shelf idle.why)
+    over (Some name) (inr d) =
+        by_some (file_shown b.shelf.files (Some name)) _ (λ file shown long. absurd (omega (arith, long, accepted_short name b.shelf a.shelf d.statements file shown d.accepted)))
 
 pub ran_absent : (f : Option Form) (b a : Moment) (status : Status) → Ran f b a status
     → IfSome b.shelf.files (λ files. IfSome (file_named f) (λ name. files name ≡ None → IsOrMemory status ShelfFault))
 ran_absent None b a status r = by_some b.shelf.files _ (λ files is. tt)
-ran_absent (Some f) b a status (inl idle) = by_some b.shelf.files _ (λ files is none. absent_alone (name_in f) b.shelf a.shelf status files is none idle.why)
-ran_absent (Some f) b a status (inr d) = by_some b.shelf.files _ (λ files is none. absurd (no_file b.shelf.files files (name_in f) d.accepted.file is none d.accepted.holds.is))
+ran_absent (Some f) b a status r = over (named_in f) r
+  where
+    over : (named : Option (List ℕ)) → RanOver f named b a status → IfSome b.shelf.files (λ files. IfSome named (λ name. files name ≡ None → IsOrMemory status ShelfFault))
+    over None d = by_some b.shelf.files _ (λ files is. tt)
+    over (Some name) (inl idle) = by_some b.shelf.files _ (λ files is none. absent_alone name b.shelf a.shelf status files is none idle.why)
+    over (Some name) (inr d) = by_some b.shelf.files _ (λ files is none. absurd (no_file b.shelf.files files name d.accepted.file is none d.accepted.holds.is))
 
 -- ---- causes
 
 pub not_usage : (f : Form) (b a : Moment) (status : Status) → Ran (Some f) b a status → status ≡ Usage → ⊥
-not_usage f b a status r is = by_usage (subst (Ran (Some f) b a) is r)
+not_usage f b a status r is = over (named_in f) (subst (Ran (Some f) b a) is r)
   where
-    by_usage : Ran (Some f) b a Usage → ⊥
-    by_usage (inl idle) = idle.why
-    by_usage (inr d) = not_before f d.statements b.input a.input b.out a.out Usage d.does tt
+    over : (named : Option (List ℕ)) → RanOver f named b a Usage → ⊥
+    over None d = not_before f [] b.input a.input b.out a.out Usage d.does tt
+    over (Some name) (inl idle) = idle.why
+    over (Some name) (inr d) = not_before f d.statements b.input a.input b.out a.out Usage d.does tt
 
 pub ran_usage : (f : Option Form) (b a : Moment) (status : Status) → Ran f b a status → (status ≡ Usage) ↔ (f ≡ None)
 ran_usage None b a status r = (λ _. refl, λ _. r.0)
@@ -395,19 +410,24 @@ ran_usage (Some f) b a status r = (λ is. absurd (not_usage f b a status r is), 
 
 pub ran_shelf_fault : (f : Option Form) (b a : Moment) (status : Status) → Ran f b a status → status ≡ ShelfFault → Rose b.shelf.faults a.shelf.faults
 ran_shelf_fault None b a status r is = absurd (cc (r.0, is))
-ran_shelf_fault (Some f) b a status r is = by_fault (subst (Ran (Some f) b a) is r)
+ran_shelf_fault (Some f) b a status r is = over (named_in f) (subst (Ran (Some f) b a) is r)
   where
-    by_fault : Ran (Some f) b a ShelfFault → Rose b.shelf.faults a.shelf.faults
-    by_fault (inl idle) = idle.why.0
-    by_fault (inr d) = absurd (not_before f d.statements b.input a.input b.out a.out ShelfFault d.does tt)
+    over : (named : Option (List ℕ)) → RanOver f named b a ShelfFault → Rose b.shelf.faults a.shelf.faults
+    over None d = absurd (not_before f [] b.input a.input b.out a.out ShelfFault d.does tt)
+    over (Some name) (inl idle) = idle.why.0
+    over (Some name) (inr d) = absurd (not_before f d.statements b.input a.input b.out a.out ShelfFault d.does tt)
 
 pub ran_quiet : (f : Option Form) (b a : Moment) (status : Status) → Ran f b a status → IsTrue b.shelf.quiet → IfSome (file_named f) (λ name. HasFile b.shelf.files name → status ≡ ShelfFault → ⊥)
 ran_quiet None b a status r quiet = tt
-ran_quiet (Some f) b a status r quiet = λ has is. by_fault has (subst (Ran (Some f) b a) is r)
+ran_quiet (Some f) b a status r quiet = over (named_in f) r
   where
-    by_fault : HasFile b.shelf.files (name_in f) → Ran (Some f) b a ShelfFault → ⊥
-    by_fault has (inl idle) = idle.why.1 quiet has
-    by_fault has (inr d) = not_before f d.statements b.input a.input b.out a.out ShelfFault d.does tt
+    over : (named : Option (List ℕ)) → RanOver f named b a status → IfSome named (λ name. HasFile b.shelf.files name → status ≡ ShelfFault → ⊥)
+    over None d = tt
+    over (Some name) d = λ has is. by_fault has (subst (RanOver f (Some name) b a) is d)
+      where
+        by_fault : HasFile b.shelf.files name → RanOver f (Some name) b a ShelfFault → ⊥
+        by_fault has (inl idle) = idle.why.1 quiet has
+        by_fault has (inr d) = not_before f d.statements b.input a.input b.out a.out ShelfFault d.does tt
 
 read_rose : (f : Form) (K : List Bound) (i i' : InputSide) (o o' : OutputSide) → Does f K i i' o o' ReadFault → Rose i.faults i'.faults × (o'.faults ≡ o.faults)
 read_rose (running keys name) K i i' o o' d = (d.1.why.1, d.1.why.2)
@@ -416,11 +436,12 @@ read_rose (generating number name) K i i' o o' d = absurd d.1
 
 pub ran_read_rose : (f : Option Form) (b a : Moment) (status : Status) → Ran f b a status → status ≡ ReadFault → Rose b.input.faults a.input.faults × (a.out.faults ≡ b.out.faults)
 ran_read_rose None b a status r is = absurd (cc (r.0, is))
-ran_read_rose (Some f) b a status r is = by_fault (subst (Ran (Some f) b a) is r)
+ran_read_rose (Some f) b a status r is = over (named_in f) (subst (Ran (Some f) b a) is r)
   where
-    by_fault : Ran (Some f) b a ReadFault → Rose b.input.faults a.input.faults × (a.out.faults ≡ b.out.faults)
-    by_fault (inl idle) = absurd idle.why
-    by_fault (inr d) = read_rose f d.statements b.input a.input b.out a.out d.does
+    over : (named : Option (List ℕ)) → RanOver f named b a ReadFault → Rose b.input.faults a.input.faults × (a.out.faults ≡ b.out.faults)
+    over None d = read_rose f [] b.input a.input b.out a.out d.does
+    over (Some name) (inl idle) = absurd idle.why
+    over (Some name) (inr d) = read_rose f d.statements b.input a.input b.out a.out d.does
 
 write_rose : (f : Form) (K : List Bound) (i i' : InputSide) (o o' : OutputSide) → Does f K i i' o o' WriteFault → Rose o.faults o'.faults × (i'.faults ≡ i.faults)
 write_rose (running keys name) K i i' o o' d = (d.1.why.1, d.1.why.2)
@@ -429,11 +450,12 @@ write_rose (generating number name) K i i' o o' d = (d.1.1, d.0.faults)
 
 pub ran_write_rose : (f : Option Form) (b a : Moment) (status : Status) → Ran f b a status → status ≡ WriteFault → Rose b.out.faults a.out.faults × (a.input.faults ≡ b.input.faults)
 ran_write_rose None b a status r is = absurd (cc (r.0, is))
-ran_write_rose (Some f) b a status r is = by_fault (subst (Ran (Some f) b a) is r)
+ran_write_rose (Some f) b a status r is = over (named_in f) (subst (Ran (Some f) b a) is r)
   where
-    by_fault : Ran (Some f) b a WriteFault → Rose b.out.faults a.out.faults × (a.input.faults ≡ b.input.faults)
-    by_fault (inl idle) = absurd idle.why
-    by_fault (inr d) = write_rose f d.statements b.input a.input b.out a.out d.does
+    over : (named : Option (List ℕ)) → RanOver f named b a WriteFault → Rose b.out.faults a.out.faults × (a.input.faults ≡ b.input.faults)
+    over None d = write_rose f [] b.input a.input b.out a.out d.does
+    over (Some name) (inl idle) = absurd idle.why
+    over (Some name) (inr d) = write_rose f d.statements b.input a.input b.out a.out d.does
 
 no_fault : (f : Form) (K : List Bound) (i i' : InputSide) (o o' : OutputSide) → Does f K i i' o o' Done → (i'.faults ≡ i.faults) × (o'.faults ≡ o.faults)
 no_fault (running keys name) K i i' o o' d = (d.1.why.3, d.1.why.4)
@@ -442,11 +464,12 @@ no_fault (generating number name) K i i' o o' d = (d.0.faults, d.1.1)
 
 pub ran_done : (f : Option Form) (b a : Moment) (status : Status) → Ran f b a status → status ≡ Done → (a.shelf.faults ≡ b.shelf.faults) × (a.input.faults ≡ b.input.faults) × (a.out.faults ≡ b.out.faults)
 ran_done None b a status r is = absurd (cc (r.0, is))
-ran_done (Some f) b a status r is = by_end (subst (Ran (Some f) b a) is r)
+ran_done (Some f) b a status r is = over (named_in f) (subst (Ran (Some f) b a) is r)
   where
-    by_end : Ran (Some f) b a Done → (a.shelf.faults ≡ b.shelf.faults) × (a.input.faults ≡ b.input.faults) × (a.out.faults ≡ b.out.faults)
-    by_end (inl idle) = absurd idle.why
-    by_end (inr d) = let same = no_fault f d.statements b.input a.input b.out a.out d.does in (d.accepted.holds.no_fault, same.0, same.1)
+    over : (named : Option (List ℕ)) → RanOver f named b a Done → (a.shelf.faults ≡ b.shelf.faults) × (a.input.faults ≡ b.input.faults) × (a.out.faults ≡ b.out.faults)
+    over None d = let same = no_fault f [] b.input a.input b.out a.out d.does in (ap (λ (s : ShelfSide). s.faults) d.shelf, same.0, same.1)
+    over (Some name) (inl idle) = absurd idle.why
+    over (Some name) (inr d) = let same = no_fault f d.statements b.input a.input b.out a.out d.does in (d.accepted.holds.no_fault, same.0, same.1)
 
 no_fault_before : (f : Form) (K : List Bound) (i i' : InputSide) (o o' : OutputSide) → Does f K i i' o o' Memory → (i'.faults ≡ i.faults) × (o'.faults ≡ o.faults)
 no_fault_before (running keys name) K i i' o o' d = (d.1.why.1, d.1.why.2)
@@ -456,11 +479,12 @@ no_fault_before (generating number name) K i i' o o' d = (d.0.faults, ap (λ (p 
 -- where memory ran out, no call had failed
 pub ran_memory : (f : Option Form) (b a : Moment) (status : Status) → Ran f b a status → status ≡ Memory → (a.shelf.faults ≡ b.shelf.faults) × (a.input.faults ≡ b.input.faults) × (a.out.faults ≡ b.out.faults)
 ran_memory None b a status r is = absurd (cc (r.0, is))
-ran_memory (Some f) b a status r is = by_end (subst (Ran (Some f) b a) is r)
+ran_memory (Some f) b a status r is = over (named_in f) (subst (Ran (Some f) b a) is r)
   where
-    by_end : Ran (Some f) b a Memory → (a.shelf.faults ≡ b.shelf.faults) × (a.input.faults ≡ b.input.faults) × (a.out.faults ≡ b.out.faults)
-    by_end (inl idle) = (idle.why, ap (λ (p : InputSide). p.faults) idle.input, ap (λ (p : OutputSide). p.faults) idle.out)
-    by_end (inr d) = let same = no_fault_before f d.statements b.input a.input b.out a.out d.does in (d.accepted.holds.no_fault, same.0, same.1)
+    over : (named : Option (List ℕ)) → RanOver f named b a Memory → (a.shelf.faults ≡ b.shelf.faults) × (a.input.faults ≡ b.input.faults) × (a.out.faults ≡ b.out.faults)
+    over None d = let same = no_fault_before f [] b.input a.input b.out a.out d.does in (ap (λ (s : ShelfSide). s.faults) d.shelf, same.0, same.1)
+    over (Some name) (inl idle) = (idle.why, ap (λ (p : InputSide). p.faults) idle.input, ap (λ (p : OutputSide). p.faults) idle.out)
+    over (Some name) (inr d) = let same = no_fault_before f d.statements b.input a.input b.out a.out d.does in (d.accepted.holds.no_fault, same.0, same.1)
 
 -- ---- the limit of an input
 
@@ -471,11 +495,12 @@ took_most (generating number name) K b a d = absurd d.1
 
 pub ran_input_limit : (f : Option Form) (b a : Moment) (status : Status) → Ran f b a status → status ≡ InputLimit → (a.input.faults ≡ b.input.faults) × (a.out.faults ≡ b.out.faults) × TookMost b.input.left a.input.left
 ran_input_limit None b a status r is = absurd (cc (r.0, is))
-ran_input_limit (Some f) b a status r is = by_limit (subst (Ran (Some f) b a) is r)
+ran_input_limit (Some f) b a status r is = over (named_in f) (subst (Ran (Some f) b a) is r)
   where
-    by_limit : Ran (Some f) b a InputLimit → (a.input.faults ≡ b.input.faults) × (a.out.faults ≡ b.out.faults) × TookMost b.input.left a.input.left
-    by_limit (inl idle) = absurd idle.why
-    by_limit (inr d) = took_most f d.statements b a d.does
+    over : (named : Option (List ℕ)) → RanOver f named b a InputLimit → (a.input.faults ≡ b.input.faults) × (a.out.faults ≡ b.out.faults) × TookMost b.input.left a.input.left
+    over None d = took_most f [] b a d.does
+    over (Some name) (inl idle) = absurd idle.why
+    over (Some name) (inr d) = took_most f d.statements b a d.does
 
 -- where nothing is taken, the limit is not reached
 same_below : (i i' : InputSide) (all rest : List ℕ) → i'.left ≡ i.left → i.left ≡ Some all → i'.left ≡ Some rest → length all ≡ length rest + max_input → ⊥
@@ -511,8 +536,12 @@ does_limit (generating number name) K i i' o o' status all rest d is is' len rea
 ends_limit : (f : Option Form) (b a : Moment) (status : Status) (all rest : List ℕ) → Ran f b a status → b.input.left ≡ Some all → a.input.left ≡ Some rest
     → length all ≡ length rest + max_input → (Rose b.input.faults a.input.faults → ⊥) → (Rose b.out.faults a.out.faults → ⊥) → IsOrMemory status InputLimit
 ends_limit None b a status all rest r is is' len read write = absurd (same_below b.input a.input all rest (ap (λ (m : Moment). m.input.left) r.1) is is' len)
-ends_limit (Some f) b a status all rest (inl idle) is is' len read write = absurd (same_below b.input a.input all rest (ap (λ (p : InputSide). p.left) idle.input) is is' len)
-ends_limit (Some f) b a status all rest (inr d) is is' len read write = does_limit f d.statements b.input a.input b.out a.out status all rest d.does is is' len read write
+ends_limit (Some f) b a status all rest r is is' len read write = over (named_in f) r
+  where
+    over : (named : Option (List ℕ)) → RanOver f named b a status → IsOrMemory status InputLimit
+    over None d = does_limit f [] b.input a.input b.out a.out status all rest d.does is is' len read write
+    over (Some name) (inl idle) = absurd (same_below b.input a.input all rest (ap (λ (p : InputSide). p.left) idle.input) is is' len)
+    over (Some name) (inr d) = does_limit f d.statements b.input a.input b.out a.out status all rest d.does is is' len read write
 
 -- where as many bytes were taken as an input may have, and no call failed, the run stops at the limit
 pub ran_finds_limit : (f : Option Form) (b a : Moment) (status : Status) → Ran f b a status → (Rose b.input.faults a.input.faults → ⊥) → (Rose b.out.faults a.out.faults → ⊥)

@@ -11,7 +11,7 @@ use Rattle.sj_page.specs.declared.page.Page.{Page}
 use Rattle.sj_file.specs.declared.job.Keys.TheVariants.{Any}
 use Rattle.sj_file.specs.declared.status.Status.{Status}
 use Rattle.sj_file.specs.declared.status.Status.TheVariants.{Done, Usage, Refused, ShelfFault, ReadFault, WriteFault, Memory, InputLimit, FileTooLong}
-use Rattle.sj_file.specs.File.{ShelfSide, shelf_at, Form, running, checking, generating, name_in}
+use Rattle.sj_file.specs.File.{ShelfSide, shelf_at, Form, running, checking, generating, named_in}
 use Rattle.sj_file.specs.Accepted.{Accepted, IsUnaccepted}
 use Rattle.sj_stream.specs.Input.{InputSide, input_at}
 use Rattle.sj_stream.specs.LineJob.{allowed}
@@ -75,15 +75,25 @@ pub record Idle (name : List ℕ) (before after : Moment) (status : Status) : Ty
   pub out : after.out ≡ before.out
 
 -- a file was accepted, and this was done
-pub record Did (form : Form) (before after : Moment) (status : Status) : Type 0 where
+pub record Did (form : Form) (name : List ℕ) (before after : Moment) (status : Status) : Type 0 where
   pub statements : List Bound
-  pub accepted : Accepted (name_in form) before.shelf after.shelf statements
+  pub accepted : Accepted name before.shelf after.shelf statements
   pub does : Does form statements before.input after.input before.out after.out status
 
--- A COMMAND: with words of one of the forms it is the one or the other, and otherwise it is Usage and does nothing.
+-- no file was asked for, so there were no statements, and this was done
+pub record DidWithout (form : Form) (before after : Moment) (status : Status) : Type 0 where
+  pub shelf : after.shelf ≡ before.shelf
+  pub does : Does form [] before.input after.input before.out after.out status
+
+-- by the file that a form names, if it names one
+abbrev pub RanOver : Form → Option (List ℕ) → Moment → Moment → Status → Type 0
+RanOver form None before after status = DidWithout form before after status
+RanOver form (Some name) before after status = Idle name before after status ⊎ Did form name before after status
+
+-- A COMMAND: with words of one of the forms it does what the form says, and otherwise it is Usage and does nothing.
 abbrev pub Ran : Option Form → Moment → Moment → Status → Type 0
 Ran None before after status = (status ≡ Usage) × (after ≡ before)
-Ran (Some form) before after status = Idle (name_in form) before after status ⊎ Did form before after status
+Ran (Some form) before after status = RanOver form (named_in form) before after status
 
 -- a command that ended before a file was accepted
 abbrev pub IsBefore : Status → Type 0
