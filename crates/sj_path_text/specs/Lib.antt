@@ -1,0 +1,3 @@
+pub mod Parentheses
+pub mod Text
+pub mod Tokens
