@@ -112,11 +112,7 @@ fn bind_listed(alloc: Global, items: Seq<Item>, table: Table) -> Result<Bound, B
     })
 }
 
-fn bind_beside(
-    alloc: Global,
-    items: Seq<Item>,
-    table: &FlatTable,
-) -> Result<Seq<BoundItem>, Memory>
+fn bind_beside(alloc: Global, items: Seq<Item>, table: &FlatTable) -> Result<Seq<BoundItem>, Memory>
     requires once { has_column_twice (flat_of table.now) ≡ false }
     requires few_columns { length (column_names (flat_of table.now)) ≤ most_columns }
     requires fit { AreItemsFit (column_names (flat_of table.now)) (items_of items) }

@@ -153,11 +153,7 @@ fn broken_beside(alloc: Global, items: &[Item], table: &FlatTable) -> Result<Bro
 }
 
 /// The first rule on the list that it breaks beside a table.
-fn items_fault(
-    alloc: Global,
-    items: &[Item],
-    table: &FlatTable,
-) -> Result<Option<BindKind>, Memory>
+fn items_fault(alloc: Global, items: &[Item], table: &FlatTable) -> Result<Option<BindKind>, Memory>
     requires { tables.has_column_twice (flat_of table.now) ≡ false }
     ensures { IfOk result (λ f. f ≡ group.items_fault (items_of items.now) (flat_of table.now)) }
 {
