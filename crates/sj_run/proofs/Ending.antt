@@ -396,8 +396,8 @@ ran_absent (Some f) b a status r = over (named_in f) r
 
 -- ---- causes
 
-pub not_usage : (f : Form) (b a : Moment) (status : Status) → Ran (Some f) b a status → status ≡ Usage → ⊥
-not_usage f b a status r is = over (named_in f) (subst (Ran (Some f) b a) is r)
+pub not_usage : (f : Form) (named : Option (List ℕ)) (b a : Moment) (status : Status) → RanOver f named b a status → status ≡ Usage → ⊥
+not_usage f named b a status r is = over named (subst (RanOver f named b a) is r)
   where
     over : (named : Option (List ℕ)) → RanOver f named b a Usage → ⊥
     over None d = not_before f [] b.input a.input b.out a.out Usage d.does tt
@@ -406,7 +406,7 @@ not_usage f b a status r is = over (named_in f) (subst (Ran (Some f) b a) is r)
 
 pub ran_usage : (f : Option Form) (b a : Moment) (status : Status) → Ran f b a status → (status ≡ Usage) ↔ (f ≡ None)
 ran_usage None b a status r = (λ _. refl, λ _. r.0)
-ran_usage (Some f) b a status r = (λ is. absurd (not_usage f b a status r is), λ is. absurd (cc is))
+ran_usage (Some f) b a status r = (λ is. absurd (not_usage f (named_in f) b a status r is), λ is. absurd (cc is))
 
 pub ran_shelf_fault : (f : Option Form) (b a : Moment) (status : Status) → Ran f b a status → status ≡ ShelfFault → Rose b.shelf.faults a.shelf.faults
 ran_shelf_fault None b a status r is = absurd (cc (r.0, is))

@@ -1,11 +1,11 @@
-use Rattle.std.proofs.Common.{None}
+use Rattle.std.proofs.Common.{None, Some}
 use Rattle.sj_stream.specs.Input.{input_at}
 use Rattle.sj_run.proofs.Ending.{not_usage}
 use Rattle.sj_run.proofs.command.answer.Goals as goal
 
 pub returns-in-Some-Check-clause-usage_untouched : goal.returns-in-Some-Check-clause-usage_untouched
 returns-in-Some-Check-clause-usage_untouched g c = λ is.
-    absurd (not_usage _ _ _ _ (c.check_file.ensures.ran (input_at g.I.Source c.args.input.now c.args.steps.now)) is)
+    absurd (not_usage _ (Some _) _ _ _ (c.check_file.ensures.ran (input_at g.I.Source c.args.input.now c.args.steps.now)) is)
 
 pub returns-in-Some-Generated-clause-usage_untouched : goal.returns-in-Some-Generated-clause-usage_untouched
-returns-in-Some-Generated-clause-usage_untouched g c = λ is. absurd (not_usage _ _ _ _ (c.run_generated.ensures.ran None 0) is)
+returns-in-Some-Generated-clause-usage_untouched g c = λ is. absurd (not_usage _ (Some _) _ _ _ (c.run_generated.ensures.ran None 0) is)
