@@ -221,9 +221,9 @@ mutual
   column_bindable (g.regular {name = n} {ty = ty} {path = p} {empty = e} {error = f} name type column_path empty error) parent next ms d =
       let r = type_bindable ty (type_given _ _ ty type) ms (no_path (note_type listing ty ms) p d) in
       (r.0, one_column parent (Regular (regular_with finishing (record { name = n; ty = ty; path = p; on_empty = e; on_error = f }))) r.1)
-  column_bindable (g.formatted {name = n} {x = x} {path = p} {wrap = v} {quote = q} {empty = e} {error = f} name format encoding column_path wrap quote empty error) parent next ms d =
+  column_bindable (g.formatted {name = n} {x = x} {path = p} {clauses = c} name format encoding column_path clauses) parent next ms d =
       let r = encoding_read x ms (no_path (note_encoding listing x ms) p d) in
-      (r.0, one_column parent (Formatted (formatted_with finishing (record { name = n; encoding = x; path = p; wrapper = v; quotes = q; on_empty = e; on_error = f }))) r.1)
+      (r.0, one_column parent (Formatted (formatted_with finishing (record { name = n; encoding = x; path = p; clauses = c }))) r.1)
   column_bindable (g.existence {name = n} {path = p} {error = e} name existence column_path error) parent next ms d =
       (no_path ms p d, one_column parent (column_with finishing (Existence n p e)) tt)
   column_bindable (g.nested {path = p} nested nested_path name i) parent next ms d = let r = columns_bindable i next (next + 1) (ms ++ path p ∷ []) d in (no_path ms p r.0, r.1)

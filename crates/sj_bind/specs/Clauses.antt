@@ -7,6 +7,7 @@ use Rattle.sj_path_tree.specs.Tree.{Path}
 use Rattle.sj_path_tree.specs.Vars.{Variables}
 use Rattle.sj_step.specs.Literals.{literal_item}
 use Rattle.sj_sql_grammar.specs.declared.clauses.Passed.{Passed}
+use Rattle.sj_sql_grammar.specs.declared.clauses.QueryClauses.{QueryClauses}
 use Rattle.sj_sql_grammar.specs.declared.clauses.Quotes.{Quotes}
 use Rattle.sj_sql_grammar.specs.declared.clauses.Quotes.TheVariants as quotes
 use Rattle.sj_sql_grammar.specs.declared.clauses.TypeName.{TypeName}
@@ -105,9 +106,9 @@ is_with wrapper.Without = false
 is_with wrapper.Conditional = true
 is_with wrapper.Unconditional = true
 
-abbrev pub quotes_clash : Wrapper → Quotes → Bool
-quotes_clash w q = is_with w && stands q
+abbrev pub quotes_clash : QueryClauses → Bool
+quotes_clash c = is_with c.wrapper && stands c.quotes
 
 -- the clauses of a JSON_QUERY or of a column FORMAT JSON
-abbrev pub query_clauses : Wrapper → Quotes → QueryAction → QueryAction → QuerySpec
-query_clauses w q on_empty on_error = record { wrapper = w; omit_quotes = is_omit q; on_empty = on_empty; on_error = on_error }
+abbrev pub query_clauses : QueryClauses → QuerySpec
+query_clauses c = record { wrapper = c.wrapper; omit_quotes = is_omit c.quotes; on_empty = c.on_empty; on_error = c.on_error }

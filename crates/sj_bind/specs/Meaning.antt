@@ -25,7 +25,7 @@ module _ (names : List (List ℕ)) where
     bound_value (Column name) = b.Column (column_number names name)
     bound_value (Exists c) = b.Exists (path_with c.common) c.on_error
     bound_value (ValueOf c) = b.ValueOf (path_with c.common) (value_clauses c.ty c.on_empty c.on_error)
-    bound_value (Query c) = b.Query (path_with c.common) (query_clauses c.wrapper c.quotes c.on_empty c.on_error)
+    bound_value (Query c) = b.Query (path_with c.common) (query_clauses c.clauses)
     bound_value (IsJson c) = b.IsJson c
     bound_value (Object members on_null unique) = b.Object (bound_members members) on_null unique
     bound_value (Array values on_null) = b.Array (bound_values values) on_null
@@ -63,7 +63,7 @@ columns_below (suc n) = columns_below n ++ b.Single (b.Column n) ∷ []
 abbrev pub column_under : ℕ → ColumnOf Path → b.ColumnOf
 column_under n (Ordinality name) = b.Ordinality n
 column_under n (Regular c) = b.Regular n c.path (value_clauses c.ty c.on_empty c.on_error)
-column_under n (Formatted c) = b.Formatted n c.path (query_clauses c.wrapper c.quotes c.on_empty c.on_error)
+column_under n (Formatted c) = b.Formatted n c.path (query_clauses c.clauses)
 column_under n (Existence name path on_error) = b.Existence n path on_error
 column_under n (Nested path name columns) = b.Ordinality n
 

@@ -92,12 +92,12 @@ unknown_variable s = list_any call_lacks_variable (calls s) || on_table table_la
 abbrev pub call_quotes_clash : Call Path → Bool
 call_quotes_clash (exists_call c) = false
 call_quotes_clash (value_call c) = false
-call_quotes_clash (query_call c) = quotes_clash c.wrapper c.quotes
+call_quotes_clash (query_call c) = quotes_clash c.clauses
 
 abbrev pub column_quotes_clash : ColumnOf Path → Bool
 column_quotes_clash (Ordinality name) = false
 column_quotes_clash (Regular c) = false
-column_quotes_clash (Formatted c) = quotes_clash c.wrapper c.quotes
+column_quotes_clash (Formatted c) = quotes_clash c.clauses
 column_quotes_clash (Existence name path _) = false
 column_quotes_clash (Nested path name columns) = false
 

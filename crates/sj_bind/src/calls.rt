@@ -56,7 +56,7 @@ fn call_quotes_clash(call: Call<'_>) -> bool
 {
     match call {
         Call::Exists(_) | Call::Value(_) => false,
-        Call::Query(call) => quotes_clash(call.wrapper, call.quotes),
+        Call::Query(call) => quotes_clash(call.clauses),
     }
 }
 

@@ -9,9 +9,9 @@ ghost use Rattle.sj_bind.specs.Clauses as spec;
 use sj_base::{Memory, boxed};
 use sj_item::{Exact, Item};
 use sj_path_tree::Literal;
-use sj_sql_grammar::{Quotes, TypeName, ValueDo};
+use sj_sql_grammar::{QueryClauses, Quotes, TypeName, ValueDo};
 use sj_value::{
-    CastRefusal, QueryAction, QuerySpec, SqlType, SqlValue, ValueAction, ValueSpec, Wrapper, cast,
+    CastRefusal, QuerySpec, SqlType, SqlValue, ValueAction, ValueSpec, Wrapper, cast,
 };
 use std::alloc::Global;
 
@@ -132,29 +132,24 @@ pub fn value_clauses(
 }
 
 /// Whether a QUOTES clause stands beside WITH WRAPPER.
-pub fn quotes_clash(wrapper: Wrapper, quotes: Quotes) -> bool
-    ensures { result ≡ spec.quotes_clash wrapper quotes }
+pub fn quotes_clash(clauses: QueryClauses) -> bool
+    ensures { result ≡ spec.quotes_clash clauses }
 {
-    match (wrapper, quotes) {
+    match (clauses.wrapper, clauses.quotes) {
         (Wrapper::Without, _) | (_, Quotes::Absent) => false,
         (Wrapper::Conditional | Wrapper::Unconditional, Quotes::Keep | Quotes::Omit) => true,
     }
 }
 
 /// The clauses of a JSON_QUERY or of a column FORMAT JSON.
-pub fn query_clauses(
-    wrapper: Wrapper,
-    quotes: Quotes,
-    on_empty: QueryAction,
-    on_error: QueryAction,
-) -> QuerySpec
-    ensures { result ≡ spec.query_clauses wrapper quotes on_empty on_error }
+pub fn query_clauses(clauses: QueryClauses) -> QuerySpec
+    ensures { result ≡ spec.query_clauses clauses }
 {
     QuerySpec {
-        wrapper,
-        omit_quotes: is_omit(quotes),
-        on_empty,
-        on_error,
+        wrapper: clauses.wrapper,
+        omit_quotes: is_omit(clauses.quotes),
+        on_empty: clauses.on_empty,
+        on_error: clauses.on_error,
     }
 }
 

@@ -71,7 +71,7 @@ fn column_quotes_clash(column: &Column) -> bool
         | Column::Regular(_)
         | Column::Exists(_, _, _)
         | Column::Nested(_, _, _) => false,
-        Column::Formatted(column) => quotes_clash(column.wrapper, column.quotes),
+        Column::Formatted(column) => quotes_clash(column.clauses),
     }
 }
 

@@ -57,14 +57,8 @@ fn bind_query(alloc: Global, call: Box<QueryCall>) -> Result<BoundValue, Memory>
     requires { PassesOnce (query_of call.value).common }
     ensures { IfOk result (λ b. view.value_of b ≡ bound_value [] (t.Query (query_of call.value))) }
 {
-    let QueryCall {
-        common,
-        wrapper,
-        quotes,
-        on_empty,
-        on_error,
-    } = Box::into_inner(call);
-    let clauses = query_clauses(wrapper, quotes, on_empty, on_error);
+    let QueryCall { common, clauses } = Box::into_inner(call);
+    let clauses = query_clauses(clauses);
     let path = bound_path(alloc, common)?;
     Ok(BoundValue::Query(path, clauses))
 }

@@ -10,13 +10,13 @@ ghost use Rattle.sj_sql_tree.specs.View.{value_of};
 use crate::common::common;
 use crate::faults::Faults;
 use sj_base::{ParseRefusal, boxed};
-use sj_sql_grammar::{Quotes, TypeName};
+use sj_sql_grammar::TypeName;
 use sj_sql_phrase::optional::value_action;
-use sj_sql_phrase::phrase::{exists_clause, query_clause, quotes_clause, returning, wrapper};
+use sj_sql_phrase::phrase::{exists_clause, query_clauses, returning};
 use sj_sql_phrase::single::{Tokens, close, open};
 use sj_sql_token::Keyword;
 use sj_sql_tree::{ExistsCall, QueryCall, Value, ValueCall};
-use sj_value::{ExistsAction, QueryAction, SqlType, Wrapper};
+use sj_value::{ExistsAction, SqlType};
 use std::alloc::Global;
 
 /// JSON_EXISTS.
@@ -82,20 +82,10 @@ pub fn query(
         return Err(ParseRefusal::Syntax);
     };
     let (common, faults, rest) = common(alloc, faults, rest)?;
-    let (wrapper, rest) = wrapper(rest).unwrap_or((Wrapper::Without, rest));
-    let (quotes, rest) = quotes_clause(rest).unwrap_or((Quotes::Absent, rest));
-    let (on_empty, rest) = query_clause(Keyword::Empty, rest).unwrap_or((QueryAction::Null, rest));
-    let (on_error, rest) = query_clause(Keyword::Error, rest).unwrap_or((QueryAction::Null, rest));
+    let (clauses, rest) = query_clauses(rest);
     let Some(rest) = close(rest) else {
         return Err(ParseRefusal::Syntax);
     };
-    let call = QueryCall {
-        common,
-        wrapper,
-        quotes,
-        on_empty,
-        on_error,
-    };
-    let call = boxed(alloc, call)?;
+    let call = boxed(alloc, QueryCall { common, clauses })?;
     Ok((Value::Query(call), faults, rest))
 }

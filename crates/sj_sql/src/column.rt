@@ -14,17 +14,16 @@ ghost use Rattle.sj_sql_tree.specs.View.{column_of, columns_of};
 use crate::faults::Faults;
 use crate::path::{column_path, nested_path, path};
 use sj_base::{Memory, ParseRefusal, Text, boxed};
-use sj_sql_grammar::{Encoding, Quotes};
+use sj_sql_grammar::Encoding;
 use sj_sql_phrase::optional::{name_of_path, value_action};
 use sj_sql_phrase::passing::put;
 use sj_sql_phrase::phrase::{
-    encoding_clause, existence_type, exists_clause, formatted_type, query_clause, quotes_clause,
-    type_name, wrapper,
+    encoding_clause, existence_type, exists_clause, formatted_type, query_clauses, type_name,
 };
 use sj_sql_phrase::single::{Rest, Tokens, close, comma, name, open, word};
 use sj_sql_token::Keyword;
 use sj_sql_tree::{Column, Columns, FormattedColumn, RegularColumn, Seq};
-use sj_value::{ExistsAction, QueryAction, Wrapper};
+use sj_value::ExistsAction;
 use std::alloc::Global;
 
 /// A column that is JSON_VALUE, behind its name.
@@ -65,18 +64,12 @@ fn formatted(
 {
     let (encoding, rest) = encoding_clause(tokens).unwrap_or((Encoding::Read, tokens));
     let (path, faults, rest) = column_path(alloc, &name, faults.with_encoding(encoding), rest)?;
-    let (wrapper, rest) = wrapper(rest).unwrap_or((Wrapper::Without, rest));
-    let (quotes, rest) = quotes_clause(rest).unwrap_or((Quotes::Absent, rest));
-    let (on_empty, rest) = query_clause(Keyword::Empty, rest).unwrap_or((QueryAction::Null, rest));
-    let (on_error, rest) = query_clause(Keyword::Error, rest).unwrap_or((QueryAction::Null, rest));
+    let (clauses, rest) = query_clauses(rest);
     let column = FormattedColumn {
         name,
         encoding,
         path,
-        wrapper,
-        quotes,
-        on_empty,
-        on_error,
+        clauses,
     };
     Ok((Column::Formatted(column), faults, rest))
 }

@@ -23,6 +23,6 @@ pub use file::{NextStatement, next_statement};
 pub use script::{FileFault, Script, Statements, parse_file};
 pub use sj_sql_tree::{
     BindKind, Column, Columns, Common, Encoding, ExistsCall, FileKind, FormattedColumn, InOut,
-    IsJsonCall, Item, Member, NamedPlan, Passed, PlanTree, QueryCall, Quotes, RegularColumn, Seq,
-    Siblings, Statement, Table, TypeName, Value, ValueCall, ValueDo,
+    IsJsonCall, Item, Member, NamedPlan, Passed, PlanTree, QueryCall, QueryClauses, RegularColumn,
+    Seq, Siblings, Statement, Table, TypeName, Value, ValueCall, ValueDo,
 };

@@ -28,6 +28,7 @@ use Rattle.sj_sql_grammar.specs.declared.clauses.Passed.{Passed}
 use Rattle.sj_sql_grammar.specs.declared.clauses.ValueDo.{ValueDo}
 use Rattle.sj_sql_grammar.specs.declared.clauses.ValueDo.TheVariants as on_value
 use Rattle.sj_sql_grammar.specs.declared.clauses.Quotes.{Quotes}
+use Rattle.sj_sql_grammar.specs.declared.clauses.QueryClauses.{QueryClauses}
 use Rattle.sj_sql_grammar.specs.declared.clauses.Quotes.TheVariants as quotes
 use Rattle.sj_sql_grammar.specs.declared.clauses.IsJsonCall.{IsJsonCall}
 use Rattle.sj_sql_grammar.specs.declared.clauses.InOut.TheVariants as in_out
@@ -85,13 +86,18 @@ pub data IsValueCall : Tokens → ValueCall PathText → Tokens → Type 0 where
       → IsOptional (value_clause_at w.Empty) on_value.Null d empty e → IsOptional (value_clause_at w.Error) on_value.Null e error f → close_at f ≡ Some rest
       → IsValueCall ts (record { common = x; ty = ty; on_empty = empty; on_error = error }) rest
 
--- query = "JSON_QUERY" "(" common [ wrapper ] [ quotes ] [ qaction "ON" "EMPTY" ] [ qaction "ON" "ERROR" ] ")"
+-- qclauses = [ wrapper ] [ quotes ] [ qaction "ON" "EMPTY" ] [ qaction "ON" "ERROR" ]
+pub data AreQueryClauses : Tokens → QueryClauses → Tokens → Type 0 where
+  query_clauses : {ts a b c rest : Tokens} {wrap : Wrapper} {quote : Quotes} {empty error : QueryAction}
+      → IsOptional wrapper_at wrapper.Without ts wrap a → IsOptional quotes_at quotes.Absent a quote b
+      → IsOptional (query_clause_at w.Empty) on_query.Null b empty c → IsOptional (query_clause_at w.Error) on_query.Null c error rest
+      → AreQueryClauses ts (record { wrapper = wrap; quotes = quote; on_empty = empty; on_error = error }) rest
+
+-- query = "JSON_QUERY" "(" common qclauses ")"
 pub data IsQueryCall : Tokens → QueryCall PathText → Tokens → Type 0 where
-  query_call : {ts a b c d e f g rest : Tokens} {x : Common PathText} {wrap : Wrapper} {quote : Quotes} {empty error : QueryAction}
-      → word w.JsonQuery ts ≡ Some a → open_at a ≡ Some b → IsCommon b x c → IsOptional wrapper_at wrapper.Without c wrap d
-      → IsOptional quotes_at quotes.Absent d quote e → IsOptional (query_clause_at w.Empty) on_query.Null e empty f
-      → IsOptional (query_clause_at w.Error) on_query.Null f error g → close_at g ≡ Some rest
-      → IsQueryCall ts (record { common = x; wrapper = wrap; quotes = quote; on_empty = empty; on_error = error }) rest
+  query_call : {ts a b c d rest : Tokens} {x : Common PathText} {clauses : QueryClauses}
+      → word w.JsonQuery ts ≡ Some a → open_at a ≡ Some b → IsCommon b x c → AreQueryClauses c clauses d → close_at d ≡ Some rest
+      → IsQueryCall ts (record { common = x; clauses = clauses }) rest
 
 -- [ "VALUE" | "ARRAY" | "OBJECT" | "SCALAR" ]; VALUE is meant where no word stands
 pub data IsKind : Tokens → JsonKind → Tokens → Type 0 where
@@ -175,13 +181,10 @@ mutual
         → name_at ts ≡ Some (name, a) → type_at a ≡ Some (ty, b) → IsColumnPath name b path c
         → IsOptional (value_clause_at w.Empty) on_value.Null c empty d → IsOptional (value_clause_at w.Error) on_value.Null d error rest
         → IsColumn ts (Regular (record { name = name; ty = ty; path = path; on_empty = empty; on_error = error })) rest
-    -- name "VARCHAR" "FORMAT" "JSON" [ "ENCODING" encoding ] [ "PATH" string ] [ wrapper ] [ quotes ]
-    --     [ qaction "ON" "EMPTY" ] [ qaction "ON" "ERROR" ]
-    formatted : {ts a b c d e f g rest : Tokens} {name : List ℕ} {x : Encoding} {path : PathText} {wrap : Wrapper} {quote : Quotes} {empty error : QueryAction}
-        → name_at ts ≡ Some (name, a) → formatted_at a ≡ Some b → IsOptional encoding_at Read b x c → IsColumnPath name c path d
-        → IsOptional wrapper_at wrapper.Without d wrap e → IsOptional quotes_at quotes.Absent e quote f
-        → IsOptional (query_clause_at w.Empty) on_query.Null f empty g → IsOptional (query_clause_at w.Error) on_query.Null g error rest
-        → IsColumn ts (Formatted (record { name = name; encoding = x; path = path; wrapper = wrap; quotes = quote; on_empty = empty; on_error = error })) rest
+    -- name "VARCHAR" "FORMAT" "JSON" [ "ENCODING" encoding ] [ "PATH" string ] qclauses
+    formatted : {ts a b c d rest : Tokens} {name : List ℕ} {x : Encoding} {path : PathText} {clauses : QueryClauses}
+        → name_at ts ≡ Some (name, a) → formatted_at a ≡ Some b → IsOptional encoding_at Read b x c → IsColumnPath name c path d → AreQueryClauses d clauses rest
+        → IsColumn ts (Formatted (record { name = name; encoding = x; path = path; clauses = clauses })) rest
     -- name "BOOLEAN" "EXISTS" [ "PATH" string ] [ ( "TRUE" | "FALSE" | "UNKNOWN" | "ERROR" ) "ON" "ERROR" ]
     existence : {ts a b c rest : Tokens} {name : List ℕ} {path : PathText} {error : ExistsAction}
         → name_at ts ≡ Some (name, a) → existence_at a ≡ Some b → IsColumnPath name b path c → IsOptional exists_clause_at on_exists.False c error rest

@@ -32,7 +32,7 @@ module _ {P F : Type 0} (n : Notes P F) where
   value_call_with c = record { common = common_with c.common; ty = c.ty; on_empty = c.on_empty; on_error = c.on_error }
 
   abbrev pub query_with : QueryCall PathText → QueryCall P
-  query_with c = record { common = common_with c.common; wrapper = c.wrapper; quotes = c.quotes; on_empty = c.on_empty; on_error = c.on_error }
+  query_with c = record { common = common_with c.common; clauses = c.clauses }
 
   abbrev mutual
     pub value_with : Value PathText → Value P
@@ -62,7 +62,7 @@ module _ {P F : Type 0} (n : Notes P F) where
   regular_with c = record { name = c.name; ty = c.ty; path = n.path_of c.path; on_empty = c.on_empty; on_error = c.on_error }
 
   abbrev pub formatted_with : FormattedColumn PathText → FormattedColumn P
-  formatted_with c = record { name = c.name; encoding = c.encoding; path = n.path_of c.path; wrapper = c.wrapper; quotes = c.quotes; on_empty = c.on_empty; on_error = c.on_error }
+  formatted_with c = record { name = c.name; encoding = c.encoding; path = n.path_of c.path; clauses = c.clauses }
 
   abbrev mutual
     pub column_with : ColumnOf PathText → ColumnOf P

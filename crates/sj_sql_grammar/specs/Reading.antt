@@ -19,6 +19,7 @@ use Rattle.sj_sql_grammar.specs.declared.clauses.Encoding.TheVariants.{Read}
 use Rattle.sj_sql_grammar.specs.declared.clauses.TypeName.TheVariants.{Known}
 use Rattle.sj_sql_grammar.specs.declared.clauses.Passed.{Passed}
 use Rattle.sj_sql_grammar.specs.declared.clauses.ValueDo.TheVariants as on_value
+use Rattle.sj_sql_grammar.specs.declared.clauses.QueryClauses.{QueryClauses}
 use Rattle.sj_sql_grammar.specs.declared.clauses.Quotes.TheVariants as quotes
 use Rattle.sj_sql_grammar.specs.declared.clauses.IsJsonCall.{IsJsonCall}
 use Rattle.sj_sql_grammar.specs.declared.clauses.InOut.TheVariants as in_out
@@ -48,6 +49,11 @@ document_at ts = doc_at ts >>= λ a. optional format_at Read a
 
 unfoldable pub passing_at : Phrase (List Passed)
 passing_at ts = if_some (word w.Passing ts) (λ a. list_from passed_at (length a) a) (Some ([], ts))
+
+unfoldable pub query_clauses_at : Phrase QueryClauses
+query_clauses_at ts = optional wrapper_at wrapper.Without ts >>= λ wrap. optional quotes_at quotes.Absent wrap.1 >>= λ quote.
+    optional (query_clause_at w.Empty) on_query.Null quote.1 >>= λ empty. optional (query_clause_at w.Error) on_query.Null empty.1 >>= λ error.
+    Some (record { wrapper = wrap.0; quotes = quote.0; on_empty = empty.0; on_error = error.0 }, error.1)
 
 -- a word behind VALUE with which a value begins. NULL does, unless it begins NULL ON NULL.
 abbrev pub begins_word : Keyword → Tokens → Bool
@@ -156,9 +162,8 @@ module _ {P F : Type 0} (n : Notes P F) where
       Some (ValueOf (record { common = x.0; ty = ty.0; on_empty = empty.0; on_error = error.0 }), note_type n ty.0 x.1, rest)
 
   unfoldable pub query_from : Noting (Value P)
-  query_from f a = open_at a >>= λ b. common_at f b >>= λ x. optional wrapper_at wrapper.Without x.2 >>= λ wrap. optional quotes_at quotes.Absent wrap.1 >>= λ quote.
-      optional (query_clause_at w.Empty) on_query.Null quote.1 >>= λ empty. optional (query_clause_at w.Error) on_query.Null empty.1 >>= λ error. close_at error.1 >>= λ rest.
-      Some (Query (record { common = x.0; wrapper = wrap.0; quotes = quote.0; on_empty = empty.0; on_error = error.0 }), x.1, rest)
+  query_from f a = open_at a >>= λ b. common_at f b >>= λ x. query_clauses_at x.2 >>= λ clauses. close_at clauses.1 >>= λ rest.
+      Some (Query (record { common = x.0; clauses = clauses.0 }), x.1, rest)
 
   module _ (inner : Noting (Value P)) where
     unfoldable pub values_from : ℕ → Noting (Values P)
@@ -223,14 +228,8 @@ module _ {P F : Type 0} (n : Notes P F) where
       Some (Regular (record { name = name; ty = ty.0; path = n.path_of path.0; on_empty = empty.0; on_error = error.0 }), n.see_path path.0 (note_type n ty.0 f), error.1)
 
   unfoldable pub formatted_from : List ℕ → Noting (ColumnOf P)
-  formatted_from name f ts = optional encoding_at Read ts >>= λ x. column_path_at name x.1 >>= λ path. optional wrapper_at wrapper.Without path.1 >>= λ wrap.
-      optional quotes_at quotes.Absent wrap.1 >>= λ quote.
-      optional (query_clause_at w.Empty) on_query.Null quote.1 >>= λ empty. optional (query_clause_at w.Error) on_query.Null empty.1 >>= λ error.
-      Some (
-        Formatted (record { name = name; encoding = x.0; path = n.path_of path.0; wrapper = wrap.0; quotes = quote.0; on_empty = empty.0; on_error = error.0 }),
-        n.see_path path.0 (note_encoding n x.0 f),
-        error.1,
-      )
+  formatted_from name f ts = optional encoding_at Read ts >>= λ x. column_path_at name x.1 >>= λ path. query_clauses_at path.1 >>= λ clauses.
+      Some (Formatted (record { name = name; encoding = x.0; path = n.path_of path.0; clauses = clauses.0 }), n.see_path path.0 (note_encoding n x.0 f), clauses.1)
 
   unfoldable pub existence_from : List ℕ → Noting (ColumnOf P)
   existence_from name f ts = column_path_at name ts >>= λ path. optional exists_clause_at on_exists.False path.1 >>= λ error.

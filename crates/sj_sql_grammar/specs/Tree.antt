@@ -2,8 +2,6 @@
 -- path itself.
 use Rattle.std.specs.Prelude.{ℕ, Bool, List, Option}
 use Rattle.sj_path_tree.specs.declared.parts.Literal.{Literal}
-use Rattle.sj_value.specs.declared.clauses.Wrapper.{Wrapper}
-use Rattle.sj_value.specs.declared.clauses.QueryAction.{QueryAction}
 use Rattle.sj_value.specs.declared.clauses.ExistsAction.{ExistsAction}
 use Rattle.sj_value.specs.declared.clauses.TableAction.{TableAction}
 use Rattle.sj_value.specs.declared.clauses.Nulls.{Nulls}
@@ -11,7 +9,7 @@ use Rattle.sj_sql_grammar.specs.declared.clauses.Encoding.{Encoding}
 use Rattle.sj_sql_grammar.specs.declared.clauses.TypeName.{TypeName}
 use Rattle.sj_sql_grammar.specs.declared.clauses.Passed.{Passed}
 use Rattle.sj_sql_grammar.specs.declared.clauses.ValueDo.{ValueDo}
-use Rattle.sj_sql_grammar.specs.declared.clauses.Quotes.{Quotes}
+use Rattle.sj_sql_grammar.specs.declared.clauses.QueryClauses.{QueryClauses}
 use Rattle.sj_sql_grammar.specs.declared.clauses.IsJsonCall.{IsJsonCall}
 use Rattle.sj_sql_grammar.specs.declared.clauses.InOut.{InOut}
 use Rattle.sj_sql_grammar.specs.declared.clauses.Siblings.{Siblings}
@@ -38,10 +36,7 @@ pub record ValueCall (P : Type 0) : Type 0 where
 
 pub record QueryCall (P : Type 0) : Type 0 where
   pub common : Common P
-  pub wrapper : Wrapper
-  pub quotes : Quotes
-  pub on_empty : QueryAction
-  pub on_error : QueryAction
+  pub clauses : QueryClauses
 
 -- A value of a SELECT list. `Column` stands only where there is a table, and `Exists` to `IsJson` only where there is none.
 -- A member has its key first. The truth value beside the nulls is true for WITH UNIQUE KEYS.
@@ -81,10 +76,7 @@ pub record FormattedColumn (P : Type 0) : Type 0 where
   pub name : List ℕ
   pub encoding : Encoding
   pub path : P
-  pub wrapper : Wrapper
-  pub quotes : Quotes
-  pub on_empty : QueryAction
-  pub on_error : QueryAction
+  pub clauses : QueryClauses
 
 mutual
   pub data ColumnOf (P : Type 0) : Type 0 where

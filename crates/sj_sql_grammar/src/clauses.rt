@@ -2,7 +2,7 @@
 
 use sj_base::Text;
 use sj_path_tree::Literal;
-use sj_value::{JsonKind, SqlType};
+use sj_value::{JsonKind, QueryAction, SqlType, Wrapper};
 
 /// The encoding of a document, as FORMAT JSON names it. A line is UTF-8.
 #[derive(Clone, Copy, Debug, PartialEq, Eq)]
@@ -51,6 +51,15 @@ pub enum Quotes {
     Keep,
     /// OMIT QUOTES.
     Omit,
+}
+
+/// The clauses of JSON_QUERY, and of a column that is JSON_QUERY, in the order of the grammar.
+#[derive(Clone, Copy, Debug, PartialEq, Eq)]
+pub struct QueryClauses {
+    pub wrapper: Wrapper,
+    pub quotes: Quotes,
+    pub on_empty: QueryAction,
+    pub on_error: QueryAction,
 }
 
 /// An IS JSON predicate on the document.

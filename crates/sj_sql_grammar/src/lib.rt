@@ -10,7 +10,9 @@ mod clauses;
 mod law;
 mod refusal;
 
-pub use clauses::{Encoding, InOut, IsJsonCall, Passed, Quotes, Siblings, TypeName, ValueDo};
+pub use clauses::{
+    Encoding, InOut, IsJsonCall, Passed, QueryClauses, Quotes, Siblings, TypeName, ValueDo,
+};
 pub use law::{
     noted_answer, noted_faults, noted_reading, one_answer, one_file, one_reading, one_tree,
     path_answers, some_answer, some_file,

@@ -3,11 +3,12 @@
 ghost use Rattle.std.specs.Prelude.{◌≡◌, option_map};
 ghost use Rattle.std.specs.Option.{option_copied};
 ghost use Rattle.sj_sql_grammar.specs.Phrases as phrase;
+ghost use Rattle.sj_sql_grammar.specs.Reading as reading;
 
 use crate::meaning::{emptied, meant};
 use crate::single::{Tokens, close, comma, count, open, skip_word, word};
 use sj_decimal::MAX_DIGITS;
-use sj_sql_grammar::{Encoding, Quotes, TypeName};
+use sj_sql_grammar::{Encoding, QueryClauses, Quotes, TypeName};
 use sj_sql_token::{Keyword, Token};
 use sj_value::{ExistsAction, Nulls, QueryAction, SqlType, TableAction, Wrapper};
 
@@ -72,7 +73,7 @@ fn query_action_phrase(tokens: Tokens<'_>) -> Option<(QueryAction, Tokens<'_>)>
 
 /// The action of JSON_QUERY for a cause.
 #[tactic(auto, unfolding(sj_sql_grammar::specs::Phrases::query_clause_at))]
-pub fn query_clause(on: Keyword, tokens: Tokens<'_>) -> Option<(QueryAction, Tokens<'_>)>
+fn query_clause(on: Keyword, tokens: Tokens<'_>) -> Option<(QueryAction, Tokens<'_>)>
     ensures { option_map (λ x. (x.0, x.1.now)) result ≡ phrase.query_clause_at on tokens.now }
 {
     let (action, rest) = query_action_phrase(tokens)?;
@@ -89,7 +90,7 @@ fn wrapped(wrapper: Wrapper, tokens: Tokens<'_>) -> Option<(Wrapper, Tokens<'_>)
 
 /// Whether JSON_QUERY wraps.
 #[tactic(auto, unfolding(sj_sql_grammar::specs::Phrases::wrapper_at))]
-pub fn wrapper(tokens: Tokens<'_>) -> Option<(Wrapper, Tokens<'_>)>
+fn wrapper(tokens: Tokens<'_>) -> Option<(Wrapper, Tokens<'_>)>
     ensures { option_map (λ x. (x.0, x.1.now)) result ≡ phrase.wrapper_at tokens.now }
 {
     if let Some(rest) = word(Keyword::Without, tokens) {
@@ -104,12 +105,30 @@ pub fn wrapper(tokens: Tokens<'_>) -> Option<(Wrapper, Tokens<'_>)>
 
 /// Whether JSON_QUERY keeps the quotation marks of a string.
 #[tactic(auto, unfolding(sj_sql_grammar::specs::Phrases::quotes_at))]
-pub fn quotes_clause(tokens: Tokens<'_>) -> Option<(Quotes, Tokens<'_>)>
+fn quotes_clause(tokens: Tokens<'_>) -> Option<(Quotes, Tokens<'_>)>
     ensures { option_map (λ x. (x.0, x.1.now)) result ≡ phrase.quotes_at tokens.now }
 {
     let (quotes, rest) = meant::<Quotes>(tokens)?;
     let rest = word(Keyword::Quotes, rest)?;
     Some((quotes, on_scalar_string(rest).unwrap_or(rest)))
+}
+
+/// The clauses of JSON_QUERY behind its path. Each has a default.
+#[tactic(auto, unfolding(sj_sql_grammar::specs::Reading::query_clauses_at))]
+pub fn query_clauses(tokens: Tokens<'_>) -> (QueryClauses, Tokens<'_>)
+    ensures { Some (result.0, result.1.now) ≡ reading.query_clauses_at tokens.now }
+{
+    let (wrapper, rest) = wrapper(tokens).unwrap_or((Wrapper::Without, tokens));
+    let (quotes, rest) = quotes_clause(rest).unwrap_or((Quotes::Absent, rest));
+    let (on_empty, rest) = query_clause(Keyword::Empty, rest).unwrap_or((QueryAction::Null, rest));
+    let (on_error, rest) = query_clause(Keyword::Error, rest).unwrap_or((QueryAction::Null, rest));
+    let clauses = QueryClauses {
+        wrapper,
+        quotes,
+        on_empty,
+        on_error,
+    };
+    (clauses, rest)
 }
 
 fn on_scalar_string(tokens: Tokens<'_>) -> Option<Tokens<'_>>

@@ -35,7 +35,7 @@ abbrev pub value_call_of : ValueCall → t.ValueCall Path
 value_call_of x = record { common = common_of x.common; ty = x.ty; on_empty = x.on_empty; on_error = x.on_error }
 
 abbrev pub query_of : QueryCall → t.QueryCall Path
-query_of x = record { common = common_of x.common; wrapper = x.wrapper; quotes = x.quotes; on_empty = x.on_empty; on_error = x.on_error }
+query_of x = record { common = common_of x.common; clauses = x.clauses }
 
 abbrev mutual
   pub value_of : Value → t.Value Path
@@ -79,7 +79,7 @@ abbrev pub regular_of : RegularColumn → t.RegularColumn Path
 regular_of x = record { name = x.name; ty = x.ty; path = path_of x.path; on_empty = x.on_empty; on_error = x.on_error }
 
 abbrev pub formatted_of : FormattedColumn → t.FormattedColumn Path
-formatted_of x = record { name = x.name; encoding = x.encoding; path = path_of x.path; wrapper = x.wrapper; quotes = x.quotes; on_empty = x.on_empty; on_error = x.on_error }
+formatted_of x = record { name = x.name; encoding = x.encoding; path = path_of x.path; clauses = x.clauses }
 
 abbrev mutual
   pub column_of : Column → t.ColumnOf Path

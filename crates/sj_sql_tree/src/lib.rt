@@ -10,7 +10,8 @@ mod tree;
 
 pub use seq::Seq;
 pub use sj_sql_grammar::{
-    BindKind, Encoding, FileKind, InOut, IsJsonCall, Passed, Quotes, Siblings, TypeName, ValueDo,
+    BindKind, Encoding, FileKind, InOut, IsJsonCall, Passed, QueryClauses, Siblings, TypeName,
+    ValueDo,
 };
 pub use tree::{
     Column, Columns, Common, ExistsCall, FormattedColumn, Item, Member, NamedPlan, PlanTree,

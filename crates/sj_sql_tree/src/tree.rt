@@ -6,8 +6,8 @@ ghost use Rattle.sj_sql_tree.specs.Split.{SplitsColumns};
 use crate::seq::Seq;
 use sj_base::Text;
 use sj_path_tree::{Literal, Path};
-use sj_sql_grammar::{Encoding, InOut, IsJsonCall, Passed, Quotes, Siblings, TypeName, ValueDo};
-use sj_value::{ExistsAction, Nulls, QueryAction, TableAction, Wrapper};
+use sj_sql_grammar::{Encoding, InOut, IsJsonCall, Passed, QueryClauses, Siblings, TypeName, ValueDo};
+use sj_value::{ExistsAction, Nulls, TableAction};
 
 /// A statement.
 #[derive(Drop)]
@@ -48,10 +48,7 @@ pub struct ValueCall {
 #[derive(Drop)]
 pub struct QueryCall {
     pub common: Common,
-    pub wrapper: Wrapper,
-    pub quotes: Quotes,
-    pub on_empty: QueryAction,
-    pub on_error: QueryAction,
+    pub clauses: QueryClauses,
 }
 
 /// An item of a SELECT list with a table.
@@ -151,10 +148,7 @@ pub struct FormattedColumn {
     pub name: Text,
     pub encoding: Encoding,
     pub path: Path,
-    pub wrapper: Wrapper,
-    pub quotes: Quotes,
-    pub on_empty: QueryAction,
-    pub on_error: QueryAction,
+    pub clauses: QueryClauses,
 }
 
 /// The plan of a table.

@@ -103,11 +103,5 @@ fn bound_regular(alloc: Global, column: RegularColumn, path: u32) -> Result<Boun
 fn bound_formatted(column: FormattedColumn, path: u32) -> BoundColumn
     ensures { bound.column_of result ≡ spec.column_under path (t.Formatted (formatted_of column)) }
 {
-    let clauses = query_clauses(
-        column.wrapper,
-        column.quotes,
-        column.on_empty,
-        column.on_error,
-    );
-    BoundColumn::Formatted(path, column.path, clauses)
+    BoundColumn::Formatted(path, column.path, query_clauses(column.clauses))
 }

@@ -141,10 +141,7 @@ fn same_value_call(a: &ValueCall, b: &ValueCall) -> bool {
 
 fn same_query(a: &QueryCall, b: &QueryCall) -> bool {
     same_common(&a.common, &b.common)
-        && a.wrapper == b.wrapper
-        && a.quotes == b.quotes
-        && a.on_empty == b.on_empty
-        && a.on_error == b.on_error
+        && a.clauses == b.clauses
 }
 
 #[cycle(same_values)]
@@ -210,10 +207,7 @@ fn same_formatted(a: &FormattedColumn, b: &FormattedColumn) -> bool {
     same_text(&a.name, &b.name)
         && a.encoding == b.encoding
         && same_path(&a.path, &b.path)
-        && a.wrapper == b.wrapper
-        && a.quotes == b.quotes
-        && a.on_empty == b.on_empty
-        && a.on_error == b.on_error
+        && a.clauses == b.clauses
 }
 
 #[cycle(same_columns)]
