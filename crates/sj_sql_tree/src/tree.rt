@@ -4,7 +4,9 @@
 use crate::seq::Seq;
 use sj_base::Text;
 use sj_path_tree::{Literal, Path};
-use sj_sql_grammar::{Encoding, InOut, IsJsonCall, Passed, QueryClauses, Siblings, TypeName, ValueDo};
+use sj_sql_grammar::{
+    Encoding, InOut, IsJsonCall, Passed, QueryClauses, Siblings, TypeName, ValueDo,
+};
 use sj_value::{ExistsAction, Nulls, TableAction};
 
 /// A statement.
