@@ -17,7 +17,6 @@ use Rattle.sj_sql_grammar.specs.declared.clauses.ValueDo.TheVariants as do_
 use Rattle.sj_sql_grammar.specs.Tree.{Common}
 use Rattle.sj_value.specs.Casts.{Cast, cast_of}
 use Rattle.sj_value.specs.Types.{IsCastType}
-use Rattle.sj_value.specs.declared.clauses.QueryAction.{QueryAction}
 use Rattle.sj_value.specs.declared.clauses.QuerySpec.{QuerySpec}
 use Rattle.sj_value.specs.declared.clauses.ValueAction.{ValueAction}
 use Rattle.sj_value.specs.declared.clauses.ValueAction.TheVariants as action

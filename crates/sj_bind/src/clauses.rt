@@ -10,9 +10,7 @@ use sj_base::{Memory, boxed};
 use sj_item::{Exact, Item};
 use sj_path_tree::Literal;
 use sj_sql_grammar::{QueryClauses, Quotes, TypeName, ValueDo};
-use sj_value::{
-    CastRefusal, QuerySpec, SqlType, SqlValue, ValueAction, ValueSpec, Wrapper, cast,
-};
+use sj_value::{CastRefusal, QuerySpec, SqlType, SqlValue, ValueAction, ValueSpec, Wrapper, cast};
 use std::alloc::Global;
 
 /// The type that a name names.
