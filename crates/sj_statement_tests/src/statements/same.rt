@@ -140,8 +140,7 @@ fn same_value_call(a: &ValueCall, b: &ValueCall) -> bool {
 }
 
 fn same_query(a: &QueryCall, b: &QueryCall) -> bool {
-    same_common(&a.common, &b.common)
-        && a.clauses == b.clauses
+    same_common(&a.common, &b.common) && a.clauses == b.clauses
 }
 
 #[cycle(same_values)]
