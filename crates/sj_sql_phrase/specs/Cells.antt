@@ -1,9 +1,9 @@
--- Lists of values before the linked cells that follow them.
+-- Lists of values in the form of the definitions: a value, and then the others.
 use Rattle.std.specs.Prelude.{List, [], ◌∷◌, Option, Some, None}
 use Rattle.sj_path_tree.specs.Tree.{Path}
 use Rattle.sj_sql_grammar.specs.Tree as t
 
--- the cells of a list, and what follows them
+-- the values of a list, and what follows them
 abbrev pub onto : {A L : Type 0} → (A → L → L) → List A → L → L
 onto more [] l = l
 onto more (x ∷ xs) l = more x (onto more xs l)
@@ -17,6 +17,6 @@ abbrev pub listed : {A R : Type 0} → List A → Option (List A × R) → Optio
 listed xs None = None
 listed xs (Some x) = Some (onto ◌∷◌ xs x.0, x.1)
 
--- a cell of a member
+-- a member, and then the others
 abbrev pub more_members : t.Value Path × t.Value Path → t.Members Path → t.Members Path
 more_members x xs = t.MoreMembers x.0 x.1 xs
