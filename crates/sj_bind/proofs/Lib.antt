@@ -6,7 +6,7 @@ pub mod Accepting
 pub mod SourceParts
 -- for `bind_members` and `bind_values`
 pub mod BoundLists
--- for `bind_value`, `find_parts` and `with_value`
+-- for `add_column`, `bind_value`, `find_parts` and `with_value`
 pub mod Constructed
 -- for `bind_all`, `bind_listed` and `bind_plain`, and for other lemmas
 pub mod UnbrokenRules

@@ -91,19 +91,15 @@ fn add_columns(columns: Columns, parent: usize, parts: &mut Parts) -> Result<(),
     ensures columns { OnOk result (columns_at parts.new.columns.items ≡ columns_at parts.old.columns.items ++ spec.columns_below parent (length parts.old.paths.items) (columns_of columns)) }
     ensures count { OnOk result (length parts.new.paths.items ≡ length parts.old.paths.items + length (spec.paths_below parent (length parts.old.paths.items) (columns_of columns))) }
 {
-    let mut rest = columns;
-    loop {
-        let (column, others) = rest.split_first();
+    for column in columns.before {
         add_column(column, parent, parts)?;
-        match others {
-            None => return Ok(()),
-            Some(others) => rest = others,
-        }
     }
+    add_column(columns.last, parent, parts)
 }
 
 /// Adds one column, or a nested path with its columns.
 #[cycle(add_columns)]
+#[tactic(auto, using(crate::proofs::Constructed::nests))]
 fn add_column(column: Column, parent: usize, parts: &mut Parts) -> Result<(), Memory>
     ensures paths { OnOk result (paths_at parts.new.paths.items ≡ paths_at parts.old.paths.items ++ spec.paths_in parent (length parts.old.paths.items) (column_of column)) }
     ensures columns { OnOk result (columns_at parts.new.columns.items ≡ columns_at parts.old.columns.items ++ spec.columns_in parent (length parts.old.paths.items) (column_of column)) }

@@ -11,20 +11,21 @@ use Rattle.sj_sql_token.specs.declared.keyword.Keyword.{Keyword}
 use Rattle.sj_sql_token.specs.declared.keyword.Keyword.TheVariants as w
 use Rattle.sj_sql_grammar.specs.declared.clauses.Encoding.{Encoding}
 use Rattle.sj_sql_grammar.specs.declared.clauses.Passed.{Passed}
+use Rattle.sj_sql_grammar.specs.declared.clauses.QueryClauses.{QueryClauses}
 use Rattle.sj_sql_grammar.specs.declared.clauses.Quotes.TheVariants as quotes
 use Rattle.sj_sql_grammar.specs.declared.clauses.IsJsonCall.{IsJsonCall}
 use Rattle.sj_sql_grammar.specs.Tree as t
 use Rattle.sj_sql_grammar.specs.Tree.{PathText, Common, ExistsCall, ValueCall, QueryCall, Value, Values, Members, Item, ColumnOf, Columns, NamedPlan, PlanTree, Table, Statement}
-use Rattle.sj_sql_grammar.specs.Phrases.{Tokens, Phrase, if_some, word, close_at, comma_at, constant_of, literal_at, type_at, format_at, passed_at, exists_clause_at, returning_at, value_clause_at, query_clause_at, wrapper_at, quotes_at, not_at, meant, kind_of, unique_at, unique_of, nulls_of, quotes_of, nulls_at}
+use Rattle.sj_sql_grammar.specs.Phrases.{Tokens, Phrase, if_some, word, close_at, comma_at, constant_of, literal_at, type_at, format_at, passed_at, exists_clause_at, returning_at, value_clause_at, query_clause_at, wrapper_at, quotes_at, not_at, meant, kind_of, unique_at, unique_of, nulls_of, nulls_at}
 use Rattle.sj_sql_grammar.specs.Grammar as g
-use Rattle.sj_sql_grammar.specs.Grammar.{IsOptional, IsPassedOver, IsList, IsDocument, IsPassed, IsPassing, IsCommon, IsExistsCall, IsValueCall, IsQueryCall, IsKind, IsOwnUnique, IsIsJson, Source, document, row, IsValue, IsValues, IsMember, IsMembers, IsColumnPath, IsColumn, IsColumns, IsColumnList, IsPlanExpr, IsUnion, IsCross, IsPlanPrim, operators, IsPlan, IsTable, IsPlainItem, IsRowItem, IsListedItem, IsSelect}
+use Rattle.sj_sql_grammar.specs.Grammar.{IsOptional, IsPassedOver, IsList, IsDocument, IsPassed, IsPassing, IsCommon, IsExistsCall, IsValueCall, AreQueryClauses, IsQueryCall, IsKind, IsOwnUnique, IsIsJson, Source, document, row, IsValue, IsValues, IsMember, IsMembers, IsColumnPath, IsColumn, IsColumns, IsColumnList, IsPlanExpr, IsUnion, IsCross, IsPlanPrim, operators, IsPlan, IsTable, IsPlainItem, IsRowItem, IsListedItem, IsSelect}
 use Rattle.sj_sql_grammar.specs.Notes.{Notes, common_with, value_with, values_with, members_with, note_type, note_common, note_value, note_values, note_members, exists_with, value_call_with, query_with}
-use Rattle.sj_sql_grammar.specs.Reading.{optional, passed_over, list_from, document_at, passing_at, begins_value, kind_at, is_json_at, common_at, exists_from, value_from, query_from, values_from, member_value_at, keyed_at, valued_at, member_at, members_from, members_to_end, object_from, values_to_end, array_from, asking_at, value_over, value_at}
+use Rattle.sj_sql_grammar.specs.Reading.{optional, passed_over, list_from, document_at, passing_at, query_clauses_at, begins_value, kind_at, is_json_at, common_at, exists_from, value_from, query_from, values_from, member_value_at, keyed_at, valued_at, member_at, members_from, members_to_end, object_from, values_to_end, array_from, asking_at, value_over, value_at}
 use Rattle.sj_sql_grammar.proofs.ReadTokens.{bind_is, bind_none, some_on, none_on, said}
 use Rattle.sj_sql_token.specs.Same.{same}
 use Rattle.sj_sql_grammar.proofs.SpellingsTakeTokens.{word_eats, open_eats, comma_eats, colon_eats}
 use Rattle.sj_sql_grammar.proofs.PartsTakeTokens.{value_eats, member_eats, passed_is}
-use Rattle.sj_sql_grammar.proofs.FirstTokens.{through, close_leads, comma_leads, colon_leads, returning_leads, quotes_leads, unique_leads, wrapper_leads, exists_leads, nulls_leads, value_clause_leads, query_clause_leads, value_error_alone, query_error_alone, meant_leads, name_not_word, name_not_literal, IsDoc, doc_is, other_word, word_not_literal, value_not_close, value_not_key, ends_value, EndsDocument, Ends, ends, ends_close, ends_comma, ends_colon, ends_with, ends_without, ends_nulls}
+use Rattle.sj_sql_grammar.proofs.FirstTokens.{through, close_leads, comma_leads, colon_leads, returning_leads, quotes_leads, unique_leads, exists_leads, nulls_leads, value_clause_leads, query_clause_leads, query_clauses_lead, value_error_alone, query_error_alone, meant_leads, name_not_word, name_not_literal, IsDoc, doc_is, other_word, word_not_literal, value_not_close, value_not_key, ends_value, EndsDocument, Ends, ends, ends_close, ends_comma, ends_colon, ends_with, ends_without, ends_nulls}
 
 -- ---- what may stand, and what is repeated
 
@@ -80,23 +81,6 @@ pub close_no_value : (cause : Keyword) (ts rest : Tokens) → close_at ts ≡ So
 unfolding value_clause_at
 close_no_value cause ts rest h = close_leads (λ x. value_clause_at cause x ≡ None) ts rest h refl
 
-pub close_no_query : (cause : Keyword) (ts rest : Tokens) → close_at ts ≡ Some rest → query_clause_at cause ts ≡ None
-unfolding query_clause_at
-close_no_query cause ts rest h = close_leads (λ x. query_clause_at cause x ≡ None) ts rest h refl
-
--- neither of the words stands there
-pub record NoWords (a b : Keyword) (ts : Tokens) : Type 0 where
-  pub first : word a ts ≡ None
-  pub second : word b ts ≡ None
-
-pub no_wrapper : (ts : Tokens) → NoWords w.With w.Without ts → wrapper_at ts ≡ None
-unfolding wrapper_at
-no_wrapper ts h = none_on _ _ _ h.second (bind_none _ _ h.first)
-
-pub no_quotes : (ts : Tokens) → meant quotes_of ts ≡ None → quotes_at ts ≡ None
-unfolding quotes_at
-no_quotes ts h = bind_none _ _ h
-
 pub no_unique : (ts : Tokens) → meant unique_of ts ≡ None → unique_at ts ≡ None
 unfolding unique_at
 no_unique ts h = bind_none _ _ h
@@ -105,18 +89,49 @@ pub no_nulls : (ts : Tokens) → meant nulls_of ts ≡ None → nulls_at ts ≡ 
 unfolding nulls_at
 no_nulls ts h = bind_none _ _ h
 
--- no wrapper stands at a QUOTES clause, at an action or behind them
-pub wrapper_stops : {d e i l : Tokens} {x : _} {y z : _} → IsOptional quotes_at quotes.Absent d x e → IsOptional (query_clause_at w.Empty) on_query.Null e y i → IsOptional (query_clause_at w.Error) on_query.Null i z l
-    → NoWords w.With w.Without l → NoWords w.With w.Without d
-wrapper_stops {d} {e} {i} quote empty error last =
-    through (NoWords w.With w.Without) quote (λ h. quotes_leads (NoWords w.With w.Without) d _ h (λ _ _. record { first = refl; second = refl }) (λ _ _. record { first = refl; second = refl }))
-    (through (NoWords w.With w.Without) empty (λ h. query_clause_leads (NoWords w.With w.Without) w.Empty e _ h (λ _ _. record { first = refl; second = refl }) (λ _ _. record { first = refl; second = refl }) (λ _ _. record { first = refl; second = refl }))
-    (through (NoWords w.With w.Without) error (λ h. query_clause_leads (NoWords w.With w.Without) w.Error i _ h (λ _ _. record { first = refl; second = refl }) (λ _ _. record { first = refl; second = refl }) (λ _ _. record { first = refl; second = refl })) last))
+-- ---- the clauses of JSON_QUERY
 
-pub quotes_stop : {e i l : Tokens} {y z : _} → IsOptional (query_clause_at w.Empty) on_query.Null e y i → IsOptional (query_clause_at w.Error) on_query.Null i z l → meant quotes_of l ≡ None → meant quotes_of e ≡ None
-quotes_stop {e} {i} empty error last =
-    through (λ ts. meant quotes_of ts ≡ None) empty (λ h. query_clause_leads (λ ts. meant quotes_of ts ≡ None) w.Empty e _ h (λ _ _. refl) (λ _ _. refl) (λ _ _. refl))
-    (through (λ ts. meant quotes_of ts ≡ None) error (λ h. query_clause_leads (λ ts. meant quotes_of ts ≡ None) w.Error i _ h (λ _ _. refl) (λ _ _. refl) (λ _ _. refl)) last)
+-- none of them stands there
+pub record NoQueryClause (ts : Tokens) : Type 0 where
+  pub no_wrapper : wrapper_at ts ≡ None
+  pub no_quotes : quotes_at ts ≡ None
+  pub no_action : (cause : Keyword) → query_clause_at cause ts ≡ None
+
+pub close_no_query : (ts : Tokens) → NoQueryClause (k.Close ∷ ts)
+unfolding wrapper_at quotes_at query_clause_at
+close_no_query ts = record { no_wrapper = refl; no_quotes = refl; no_action = λ cause. refl }
+
+pub comma_no_query : (ts : Tokens) → NoQueryClause (k.Comma ∷ ts)
+unfolding wrapper_at quotes_at query_clause_at
+comma_no_query ts = record { no_wrapper = refl; no_quotes = refl; no_action = λ cause. refl }
+
+abbrev NotWrapped : Tokens → Type 0
+NotWrapped ts = wrapper_at ts ≡ None
+
+-- no wrapper stands at a QUOTES clause, at an action or behind them
+wrapper_stops : {a b c rest : Tokens} {x : _} {y z : _} → IsOptional quotes_at quotes.Absent a x b → IsOptional (query_clause_at w.Empty) on_query.Null b y c → IsOptional (query_clause_at w.Error) on_query.Null c z rest
+    → NotWrapped rest → NotWrapped a
+unfolding wrapper_at
+wrapper_stops {a} {b} {c} quote empty error none =
+    through NotWrapped quote (λ h. quotes_leads NotWrapped a _ h (λ _ _. refl) (λ _ _. refl))
+    (through NotWrapped empty (λ h. query_clause_leads NotWrapped w.Empty b _ h (λ _ _. refl) (λ _ _. refl) (λ _ _. refl))
+    (through NotWrapped error (λ h. query_clause_leads NotWrapped w.Error c _ h (λ _ _. refl) (λ _ _. refl) (λ _ _. refl)) none))
+
+abbrev NotQuoted : Tokens → Type 0
+NotQuoted ts = quotes_at ts ≡ None
+
+quotes_stop : {b c rest : Tokens} {y z : _} → IsOptional (query_clause_at w.Empty) on_query.Null b y c → IsOptional (query_clause_at w.Error) on_query.Null c z rest → NotQuoted rest → NotQuoted b
+unfolding quotes_at
+quotes_stop {b} {c} empty error none =
+    through NotQuoted empty (λ h. query_clause_leads NotQuoted w.Empty b _ h (λ _ _. refl) (λ _ _. refl) (λ _ _. refl))
+    (through NotQuoted error (λ h. query_clause_leads NotQuoted w.Error c _ h (λ _ _. refl) (λ _ _. refl) (λ _ _. refl)) none)
+
+pub query_clauses_full : {ts rest : Tokens} {x : QueryClauses} → AreQueryClauses ts x rest → NoQueryClause rest → query_clauses_at ts ≡ Some (x, rest)
+unfolding query_clauses_at
+query_clauses_full (g.query_clauses {c = c} wrap quote empty error) none =
+    bind_is _ _ (optional_full wrap (wrapper_stops quote empty error none.no_wrapper)) (bind_is _ _ (optional_full quote (quotes_stop empty error none.no_quotes))
+    (bind_is _ _ (optional_full empty (through (λ y. query_clause_at w.Empty y ≡ None) error (λ h. query_error_alone c _ h) (none.no_action w.Empty)))
+    (bind_is _ _ (optional_full error (none.no_action w.Error)) refl)))
 
 -- ---- IS JSON
 
@@ -175,7 +190,7 @@ value_word : {ts rest : Tokens} {x : ValueCall PathText} → IsValueCall ts x re
 value_word (g.value_call {a = a} h o x ty e r z) = record { after = a; is = h }
 
 query_word : {ts rest : Tokens} {x : QueryCall PathText} → IsQueryCall ts x rest → Word w.JsonQuery ts
-query_word (g.query_call {a = a} h o x wr q e r z) = record { after = a; is = h }
+query_word (g.query_call {a = a} h o x q z) = record { after = a; is = h }
 
 value_not_exists : {ts rest : Tokens} {x : ValueCall PathText} → IsValueCall ts x rest → word w.JsonExists ts ≡ None
 value_not_exists {ts} d = let i = value_word d in other_word w.JsonValue w.JsonExists refl ts i.after i.is
@@ -282,24 +297,12 @@ module _ {P F : Type 0} (n : Notes P F) where
   query_full : {ts rest : Tokens} {x : QueryCall PathText} (y : _) → IsQueryCall ts x rest → (f : F)
       → if_some (word w.JsonQuery ts) (λ a. query_from n f a) y ≡ Some (t.Query (query_with n x), note_common n x.common f, rest)
   unfolding query_from
-  query_full y (g.query_call {c = c} {d = d} {e = e} {f = i} {g = l} {rest = rest} h o x wrap quote empty error z) f =
-      some_on _ _ _ h (bind_is _ _ o (bind_is _ _ (common_full x stop f) (bind_is _ _ (optional_full wrap (no_wrapper d no_wrap)) (bind_is _ _ (optional_full quote (no_quotes e no_quote))
-      (bind_is _ _ (optional_full empty no_empty) (bind_is _ _ (optional_full error (close_no_query w.Error l rest z)) (bind_is _ _ z refl)))))))
+  query_full y (g.query_call {c = c} {d = d} {rest = rest} h o x clauses z) f =
+      some_on _ _ _ h (bind_is _ _ o (bind_is _ _ (common_full x stop f) (bind_is _ _ (query_clauses_full clauses (close_leads NoQueryClause d rest z (close_no_query rest))) (bind_is _ _ z refl))))
     where
       stop : NoPassing c
-      stop = through NoPassing wrap (λ h. wrapper_leads NoPassing c _ h (λ _ _. no refl refl) (λ _ _. no refl refl))
-          (through NoPassing quote (λ h. quotes_leads NoPassing d _ h (λ _ _. no refl refl) (λ _ _. no refl refl))
-          (through NoPassing empty (λ h. query_clause_leads NoPassing w.Empty e _ h (λ _ _. no refl refl) (λ _ _. no refl refl) (λ _ _. no refl refl))
-          (through NoPassing error (λ h. query_clause_leads NoPassing w.Error i _ h (λ _ _. no refl refl) (λ _ _. no refl refl) (λ _ _. no refl refl)) (close_leads NoPassing l rest z (no refl refl)))))
-
-      no_wrap : NoWords w.With w.Without d
-      no_wrap = wrapper_stops quote empty error (close_leads (NoWords w.With w.Without) l rest z (record { first = refl; second = refl }))
-
-      no_quote : meant quotes_of e ≡ None
-      no_quote = quotes_stop empty error (close_leads (λ ts. meant quotes_of ts ≡ None) l rest z refl)
-
-      no_empty : query_clause_at w.Empty i ≡ None
-      no_empty = through (λ ts. query_clause_at w.Empty ts ≡ None) error (λ h. query_error_alone i _ h) (close_no_query w.Empty l rest z)
+      stop = query_clauses_lead NoPassing clauses (λ _ _. no refl refl) (λ _ _. no refl refl) (λ _ _. no refl refl) (λ _ _. no refl refl) (λ _ _. no refl refl) (λ _ _. no refl refl) (λ _ _. no refl refl)
+          (close_leads NoPassing d rest z (no refl refl))
 
   -- ---- values
 

@@ -8,10 +8,11 @@ use Rattle.sj_sql_token.specs.declared.keyword.Keyword.TheVariants as w
 use Rattle.sj_sql_token.specs.Keywords.{is_reserved}
 use Rattle.sj_sql_token.specs.Same.{same}
 use Rattle.sj_sql_grammar.specs.declared.clauses.TypeName.{TypeName}
+use Rattle.sj_sql_grammar.specs.declared.clauses.QueryClauses.{QueryClauses}
 use Rattle.sj_sql_grammar.specs.Tree.{PathText, Value}
 use Rattle.sj_sql_grammar.specs.Phrases.{Tokens, Phrase, if_some, word, open_at, close_at, comma_at, colon_at, star_at, string_at, name_at, doc_at, meant, constant_of, literal_at, varchar_at, type_from, type_at, encoding_at, on_at, exists_action_of, exists_clause_at, returning_at, value_action_of, value_action_at, value_clause_at, query_action_of, query_action_at, query_clause_at, wrapper_at, quotes_of, quotes_at, kind_of, unique_of, unique_at, nulls_of, nulls_at, alias_at, path_name_at, path_at, formatted_at, existence_at, table_action_of, table_clause_at}
 use Rattle.sj_sql_grammar.specs.Grammar as g
-use Rattle.sj_sql_grammar.specs.Grammar.{IsOptional, IsPassedOver, Source, document, row, IsValue, IsIsJson, IsExistsCall, IsValueCall, IsQueryCall}
+use Rattle.sj_sql_grammar.specs.Grammar.{IsOptional, IsPassedOver, Source, document, row, IsValue, IsIsJson, IsExistsCall, IsValueCall, AreQueryClauses, IsQueryCall}
 use Rattle.sj_sql_grammar.specs.Reading.{begins_value}
 use Rattle.sj_sql_grammar.proofs.ReadTokens.{some_is, said}
 
@@ -173,6 +174,16 @@ query_clause_leads Q cause ts x e p q r =
     by w.Error text rest y h = q text rest
     by w.Null text rest y h = r text rest
     by _ text rest y h = absurd cc
+
+-- the clauses of JSON_QUERY begin as the first of them, and where none stands, what follows does
+pub query_clauses_lead : {ts rest : Tokens} {x : QueryClauses} (Q : Tokens → Type 0) → AreQueryClauses ts x rest
+    → ((text : List ℕ) (r : Tokens) → Q (k.Word w.With text ∷ r)) → ((text : List ℕ) (r : Tokens) → Q (k.Word w.Without text ∷ r)) → ((text : List ℕ) (r : Tokens) → Q (k.Word w.Keep text ∷ r)) → ((text : List ℕ) (r : Tokens) → Q (k.Word w.Omit text ∷ r))
+    → ((text : List ℕ) (r : Tokens) → Q (k.Word w.Empty text ∷ r)) → ((text : List ℕ) (r : Tokens) → Q (k.Word w.Error text ∷ r)) → ((text : List ℕ) (r : Tokens) → Q (k.Word w.Null text ∷ r)) → Q rest → Q ts
+query_clauses_lead Q (g.query_clauses {ts = ts} {a = a} {b = b} {c = c} wrap quote empty error) p q r s l m o last =
+    through Q wrap (λ h. wrapper_leads Q ts _ h p q)
+    (through Q quote (λ h. quotes_leads Q a _ h r s)
+    (through Q empty (λ h. query_clause_leads Q w.Empty b _ h l m o)
+    (through Q error (λ h. query_clause_leads Q w.Error c _ h l m o) last)))
 
 -- ---- one action, two causes
 
@@ -406,7 +417,7 @@ value_heads Q l m e v q o a (g.literal {ts = ts} {rest = rest} {x = x} h) = l ts
 value_heads Q l m e v q o a (g.column {ts = ts} {rest = rest} {name = x} h) = m ts (x, rest) h
 value_heads Q l m e v q o a (g.exists (g.exists_call {ts = ts} {a = r} h _ _ _ _)) = said Q w.JsonExists ts r h (λ text. e text r)
 value_heads Q l m e v q o a (g.value (g.value_call {ts = ts} {a = r} h _ _ _ _ _ _)) = said Q w.JsonValue ts r h (λ text. v text r)
-value_heads Q l m e v q o a (g.query (g.query_call {ts = ts} {a = r} h _ _ _ _ _ _ _)) = said Q w.JsonQuery ts r h (λ text. q text r)
+value_heads Q l m e v q o a (g.query (g.query_call {ts = ts} {a = r} h _ _ _ _)) = said Q w.JsonQuery ts r h (λ text. q text r)
 value_heads Q l m e v q o a (g.is_json (g.is_json_call {ts = ts} {a = r} h _ _ _ _ _)) = let d = doc_is ts r h in m ts d.name d.is
 value_heads Q l m e v q o a (g.no_object {ts = ts} {a = r} h _ _) = said Q w.JsonObject ts r h (λ text. o text r)
 value_heads Q l m e v q o a (g.object {ts = ts} {a = r} h _ _ _ _ _) = said Q w.JsonObject ts r h (λ text. o text r)
@@ -427,7 +438,7 @@ pub value_begins : {ts rest : Tokens} {x : Value PathText} → IsValue document 
 value_begins (g.literal {ts = ts} {rest = rest} {x = x} h) none = literal_begins ts rest x h none
 value_begins (g.exists (g.exists_call {ts = ts} {a = r} h _ _ _ _)) none = said (λ y. begins_value y ≡ true) w.JsonExists ts r h (λ _. refl)
 value_begins (g.value (g.value_call {ts = ts} {a = r} h _ _ _ _ _ _)) none = said (λ y. begins_value y ≡ true) w.JsonValue ts r h (λ _. refl)
-value_begins (g.query (g.query_call {ts = ts} {a = r} h _ _ _ _ _ _ _)) none = said (λ y. begins_value y ≡ true) w.JsonQuery ts r h (λ _. refl)
+value_begins (g.query (g.query_call {ts = ts} {a = r} h _ _ _ _)) none = said (λ y. begins_value y ≡ true) w.JsonQuery ts r h (λ _. refl)
 value_begins (g.is_json (g.is_json_call {ts = ts} {a = r} h _ _ _ _ _)) none = (doc_is ts r h).begins
 value_begins (g.no_object {ts = ts} {a = r} h _ _) none = said (λ y. begins_value y ≡ true) w.JsonObject ts r h (λ _. refl)
 value_begins (g.object {ts = ts} {a = r} h _ _ _ _ _) none = said (λ y. begins_value y ≡ true) w.JsonObject ts r h (λ _. refl)

@@ -3,12 +3,13 @@ use Rattle.std.proofs.Common.{List, refl}
 use Rattle.sj_sql_token.specs.declared.keyword.Keyword.TheVariants as w
 use Rattle.sj_sql_grammar.specs.declared.clauses.Encoding.{Encoding}
 use Rattle.sj_sql_grammar.specs.declared.clauses.Passed.{Passed}
+use Rattle.sj_sql_grammar.specs.declared.clauses.QueryClauses.{QueryClauses}
 use Rattle.sj_sql_grammar.specs.declared.clauses.IsJsonCall.{IsJsonCall}
 use Rattle.sj_value.specs.declared.clauses.JsonKind.{JsonKind}
 use Rattle.sj_sql_grammar.specs.Tree.{PathText, Common, ExistsCall, ValueCall, QueryCall, Value, Values, Members, Item, ColumnOf, Columns, NamedPlan}
 use Rattle.sj_sql_grammar.specs.Phrases.{Tokens, Phrase, kind_of}
 use Rattle.sj_sql_grammar.specs.Grammar as g
-use Rattle.sj_sql_grammar.specs.Grammar.{IsOptional, IsPassedOver, IsList, IsDocument, IsPassed, IsPassing, IsCommon, IsExistsCall, IsValueCall, IsQueryCall, IsKind, IsOwnUnique, IsIsJson, Source, IsValue, IsValues, IsMember, IsMembers, IsColumnPath, IsColumn, IsColumns, IsColumnList, IsPlanExpr, IsUnion, IsCross, IsPlanPrim, IsPlan, IsTable, IsPlainItem, IsRowItem, IsListedItem}
+use Rattle.sj_sql_grammar.specs.Grammar.{IsOptional, IsPassedOver, IsList, IsDocument, IsPassed, IsPassing, IsCommon, IsExistsCall, IsValueCall, AreQueryClauses, IsQueryCall, IsKind, IsOwnUnique, IsIsJson, Source, IsValue, IsValues, IsMember, IsMembers, IsColumnPath, IsColumn, IsColumns, IsColumnList, IsPlanExpr, IsUnion, IsCross, IsPlanPrim, IsPlan, IsTable, IsPlainItem, IsRowItem, IsListedItem}
 use Rattle.sj_sql_grammar.proofs.ReadTokens.{If}
 use Rattle.sj_sql_grammar.proofs.SpellingsTakeTokens.{Eats, Passes, Takes, stays, passes, eats, and_eats, both, joined, word_eats, open_eats, close_eats, comma_eats, colon_eats, string_eats, name_eats, doc_eats, meant_eats, literal_eats, type_eats, encoding_eats, format_eats, passed_eats, exists_clause_eats, returning_eats, value_clause_eats, query_clause_eats, wrapper_eats, quotes_eats, not_eats, unique_eats, nulls_eats, alias_eats, path_name_eats, path_eats, nested_path_eats, formatted_eats, existence_eats}
 
@@ -50,10 +51,13 @@ value_call_eats (g.value_call {ts = ts} {a = a} {b = b} {f = f} {rest = rest} h 
     joined ((word_eats w.JsonValue ts refl).holds a h) (joined ((open_eats a).holds b o) (joined (common_eats c)
     (and_eats (both (optional_passes returning_eats ty) (both (optional_passes (value_clause_eats w.Empty refl) e) (optional_passes (value_clause_eats w.Error refl) r))) ((close_eats f).holds rest z))))
 
+pub query_clauses_pass : {ts rest : Tokens} {x : QueryClauses} → AreQueryClauses ts x rest → Passes ts rest
+query_clauses_pass (g.query_clauses wr q e r) =
+    both (optional_passes wrapper_eats wr) (both (optional_passes quotes_eats q) (both (optional_passes (query_clause_eats w.Empty refl) e) (optional_passes (query_clause_eats w.Error refl) r)))
+
 pub query_eats : {ts rest : Tokens} {x : QueryCall PathText} → IsQueryCall ts x rest → Eats ts rest
-query_eats (g.query_call {ts = ts} {a = a} {b = b} {g = f} {rest = rest} h o c wr q e r z) =
-    joined ((word_eats w.JsonQuery ts refl).holds a h) (joined ((open_eats a).holds b o) (joined (common_eats c)
-    (and_eats (both (optional_passes wrapper_eats wr) (both (optional_passes quotes_eats q) (both (optional_passes (query_clause_eats w.Empty refl) e) (optional_passes (query_clause_eats w.Error refl) r)))) ((close_eats f).holds rest z))))
+query_eats (g.query_call {ts = ts} {a = a} {b = b} {d = d} {rest = rest} h o c q z) =
+    joined ((word_eats w.JsonQuery ts refl).holds a h) (joined ((open_eats a).holds b o) (joined (common_eats c) (and_eats (query_clauses_pass q) ((close_eats d).holds rest z))))
 
 kind_passes : {ts rest : Tokens} {x : JsonKind} → IsKind ts x rest → Passes ts rest
 kind_passes (g.value_kind {ts = ts} {rest = rest} h) = passes ((word_eats w.Value ts refl).holds rest h)
@@ -105,9 +109,8 @@ mutual
   column_eats (g.ordinality {ts = ts} {a = a} {b = b} {rest = rest} {name = n} h f o) = joined ((name_eats ts).holds (n, a) h) (joined ((word_eats w.For a refl).holds b f) ((word_eats w.Ordinality b refl).holds rest o))
   column_eats (g.regular {ts = ts} {a = a} {b = b} {name = n} {ty = ty} h t p e r) =
       joined ((name_eats ts).holds (n, a) h) (eats ((type_eats a).holds (ty, b) t) (both (optional_passes path_eats p) (both (optional_passes (value_clause_eats w.Empty refl) e) (optional_passes (value_clause_eats w.Error refl) r))))
-  column_eats (g.formatted {ts = ts} {a = a} {b = b} {name = n} h f x p wr q e r) =
-      joined ((name_eats ts).holds (n, a) h) (eats ((formatted_eats a).holds b f) (both (optional_passes encoding_eats x) (both (optional_passes path_eats p) (both (optional_passes wrapper_eats wr)
-      (both (optional_passes quotes_eats q) (both (optional_passes (query_clause_eats w.Empty refl) e) (optional_passes (query_clause_eats w.Error refl) r)))))))
+  column_eats (g.formatted {ts = ts} {a = a} {b = b} {name = n} h f x p q) =
+      joined ((name_eats ts).holds (n, a) h) (eats ((formatted_eats a).holds b f) (both (optional_passes encoding_eats x) (both (optional_passes path_eats p) (query_clauses_pass q))))
   column_eats (g.existence {ts = ts} {a = a} {b = b} {name = n} h x p e) =
       joined ((name_eats ts).holds (n, a) h) (eats ((existence_eats a).holds b x) (both (optional_passes path_eats p) (optional_passes exists_clause_eats e)))
   column_eats (g.nested {ts = ts} {a = a} {b = b} {path = path} h p n d) =

@@ -8,9 +8,9 @@ use Rattle.sj_sql_grammar.specs.Tree as t
 use Rattle.sj_sql_grammar.specs.Tree.{PathText, Common, Value, Values, Members, Item, ColumnOf, Columns, NamedPlan, Table, Statement}
 use Rattle.sj_sql_grammar.specs.Phrases.{Tokens, Phrase, if_some, word, open_at, comma_at, string_at, name_at, format_at, passed_at, unique_at, alias_at, table_alias_at, path_name_at}
 use Rattle.sj_sql_grammar.specs.Grammar as g
-use Rattle.sj_sql_grammar.specs.Grammar.{IsOptional, IsPassedOver, IsList, IsDocument, IsPassed, IsPassing, IsCommon, IsKind, IsOwnUnique, IsIsJson, Source, document, row, IsValue, IsValues, IsMember, IsMembers, IsColumn, IsColumns, IsColumnList, IsPlanExpr, IsUnion, IsCross, IsPlanPrim, operators, max_operators, IsPlan, IsTable, IsPlainItem, IsRowItem, IsListedItem, IsSelect}
+use Rattle.sj_sql_grammar.specs.Grammar.{IsOptional, IsPassedOver, IsList, IsDocument, IsPassed, IsPassing, IsCommon, AreQueryClauses, IsKind, IsOwnUnique, IsIsJson, Source, document, row, IsValue, IsValues, IsMember, IsMembers, IsColumn, IsColumns, IsColumnList, IsPlanExpr, IsUnion, IsCross, IsPlanPrim, operators, max_operators, IsPlan, IsTable, IsPlainItem, IsRowItem, IsListedItem, IsSelect}
 use Rattle.sj_sql_grammar.specs.Notes.{Notes}
-use Rattle.sj_sql_grammar.specs.Reading.{optional, passed_over, list_from, document_at, passing_at, begins_value, kind_at, is_json_at, plan_parens_at, plan_prim_at, union_from, cross_from, joined_at, named_plan_at, plan_over, plan_expr_at, plan_at, has_from, Noting, common_at, exists_from, value_from, query_from, values_from, member_value_at, keyed_at, valued_at, member_at, members_from, members_to_end, object_from, values_to_end, array_from, asking_at, value_over, value_at, regular_at, formatted_from, existence_from, named_column_at, nested_from, column_at, columns_from, columns_over, columns_at, row_path_at, table_at, plain_item_at, array_agg_from, object_agg_from, row_item_at, listed_item_at, items_from, ended, all_at, listed_at, plain_at, select_at}
+use Rattle.sj_sql_grammar.specs.Reading.{optional, passed_over, list_from, document_at, passing_at, query_clauses_at, begins_value, kind_at, is_json_at, plan_parens_at, plan_prim_at, union_from, cross_from, joined_at, named_plan_at, plan_over, plan_expr_at, plan_at, has_from, Noting, common_at, exists_from, value_from, query_from, values_from, member_value_at, keyed_at, valued_at, member_at, members_from, members_to_end, object_from, values_to_end, array_from, asking_at, value_over, value_at, regular_at, formatted_from, existence_from, named_column_at, nested_from, column_at, columns_from, columns_over, columns_at, row_path_at, table_at, plain_item_at, array_agg_from, object_agg_from, row_item_at, listed_item_at, items_from, ended, all_at, listed_at, plain_at, select_at}
 use Rattle.sj_sql_grammar.proofs.ReadTokens.{If, nothing, here, then, given, either, chosen, weaken}
 
 -- ---- what may stand, and what is repeated
@@ -39,6 +39,10 @@ document_reads ts = given _ _ (λ a h. weaken (λ x o. g.doc h o) (optional_read
 passing_reads : (ts : Tokens) → If (λ x. IsPassing ts x.0 x.1) (passing_at ts)
 unfolding passing_at
 passing_reads ts = either _ _ _ (λ a h. weaken (λ x d. g.variables h d) (variables_read (length a) a)) (λ _. here g.nothing)
+
+query_clauses_read : (ts : Tokens) → If (λ x. AreQueryClauses ts x.0 x.1) (query_clauses_at ts)
+unfolding query_clauses_at
+query_clauses_read ts = then _ _ (optional_reads _ _ ts) (λ wr q. then _ _ (optional_reads _ _ wr.1) (λ qu i. then _ _ (optional_reads _ _ qu.1) (λ e r. then _ _ (optional_reads _ _ e.1) (λ u s. here (g.query_clauses q i r s)))))
 
 kind_reads : (ts : Tokens) → If (λ x. IsKind ts x.0 x.1) (kind_at ts)
 unfolding kind_at
@@ -142,8 +146,7 @@ module _ {P F : Type 0} (n : Notes P F) where
 
   query_reads : (f : F) (ts a : Tokens) → word w.JsonQuery ts ≡ Some a → If (ReadsValue document ts) (query_from n f a)
   unfolding query_from
-  query_reads f ts a h = given _ _ (λ b o. then _ _ (common_reads f b) (λ x c. then _ _ (optional_reads _ _ x.2) (λ wr q. then _ _ (optional_reads _ _ wr.1) (λ qu i. then _ _ (optional_reads _ _ qu.1) (λ e r. then _ _ (optional_reads _ _ e.1) (λ u s.
-      given _ _ (λ rest z. here (_, g.query (g.query_call h o c.1 q i r s z)))))))))
+  query_reads f ts a h = given _ _ (λ b o. then _ _ (common_reads f b) (λ x c. then _ _ (query_clauses_read x.2) (λ u q. given _ _ (λ rest z. here (_, g.query (g.query_call h o c.1 q z))))))
 
   module _ (s : Source) (inner : Noting n (Value P)) (reads : (f : F) (ts : Tokens) → If (ReadsValue s ts) (inner f ts)) where
     values_read : (m : ℕ) (f : F) (ts : Tokens) → If (λ x. (v : Values PathText) × IsValues s ts v x.2) (values_from n inner m f ts)
@@ -197,8 +200,7 @@ module _ {P F : Type 0} (n : Notes P F) where
   unfolding named_column_at regular_at formatted_from existence_from
   named_column_reads name f ts a h = either _ _ _ (λ b i. given _ _ (λ rest o. here (_, g.ordinality h i o)))
       (λ _. either _ _ _
-      (λ b i. then _ _ (optional_reads _ _ b) (λ e en. then _ _ (optional_reads _ _ e.1) (λ p pa. then _ _ (optional_reads _ _ p.1) (λ wr wa. then _ _ (optional_reads _ _ wr.1) (λ q qu.
-      then _ _ (optional_reads _ _ q.1) (λ x em. then _ _ (optional_reads _ _ x.1) (λ y er. here (_, g.formatted h i en pa wa qu em er))))))))
+      (λ b i. then _ _ (optional_reads _ _ b) (λ e en. then _ _ (optional_reads _ _ e.1) (λ p pa. then _ _ (query_clauses_read p.1) (λ u q. here (_, g.formatted h i en pa q)))))
       (λ _. either _ _ _ (λ b i. then _ _ (optional_reads _ _ b) (λ p pa. then _ _ (optional_reads _ _ p.1) (λ y er. here (_, g.existence h i pa er))))
       (λ _. given _ _ (λ ty i. then _ _ (optional_reads _ _ ty.1) (λ p pa. then _ _ (optional_reads _ _ p.1) (λ x em. then _ _ (optional_reads _ _ x.1) (λ y er. here (_, g.regular h i pa em er))))))))
 

@@ -2,17 +2,14 @@
 use Rattle.std.proofs.Common.{◌≡◌, ℕ, zero, suc, ◌≤◌, Bool, true, false, cond, le-leb, List, [], ◌∷◌, length, Option, Some, None, refl, sym, ap, ◌∙◌, arith}
 use Rattle.sj_base.specs.Options.{◌>>=◌}
 use Rattle.sj_path_tree.specs.declared.parts.Literal.{Literal}
-use Rattle.sj_value.specs.declared.clauses.Wrapper.TheVariants as wrapper
-use Rattle.sj_value.specs.declared.clauses.QueryAction.TheVariants as on_query
 use Rattle.sj_value.specs.declared.clauses.ExistsAction.TheVariants as on_exists
 use Rattle.sj_sql_token.specs.declared.token.Token.TheVariants as k
 use Rattle.sj_sql_token.specs.declared.keyword.Keyword.{Keyword}
 use Rattle.sj_sql_token.specs.declared.keyword.Keyword.TheVariants as w
 use Rattle.sj_sql_grammar.specs.declared.clauses.Passed.{Passed}
 use Rattle.sj_sql_grammar.specs.declared.clauses.ValueDo.TheVariants as on_value
-use Rattle.sj_sql_grammar.specs.declared.clauses.Quotes.TheVariants as quotes
 use Rattle.sj_sql_grammar.specs.Tree.{PathText, Written, Value, Item, ColumnOf, Columns, NamedPlan, PathOf, PlanTree, Table, Statement}
-use Rattle.sj_sql_grammar.specs.Phrases.{Tokens, Phrase, word, close_at, comma_at, star_at, constant_of, literal_at, encoding_at, exists_clause_at, value_clause_at, query_clause_at, wrapper_at, quotes_at, meant, quotes_of, alias_at, table_alias_at, path_name_at, path_at, formatted_at, existence_at, table_action_of, table_clause_at}
+use Rattle.sj_sql_grammar.specs.Phrases.{Tokens, Phrase, word, close_at, comma_at, star_at, constant_of, literal_at, encoding_at, exists_clause_at, value_clause_at, meant, alias_at, table_alias_at, path_name_at, path_at, formatted_at, existence_at, table_action_of, table_clause_at}
 use Rattle.sj_sql_grammar.specs.Grammar as g
 use Rattle.sj_sql_grammar.specs.Grammar.{IsOptional, IsPassedOver, IsList, IsDocument, IsPassing, Source, document, row, IsValue, IsColumnPath, IsColumn, IsColumns, IsColumnList, IsPlanExpr, IsUnion, IsCross, IsPlanPrim, operators, max_operators, IsPlan, IsTable, IsPlainItem, IsRowItem, IsListedItem, IsSelect}
 use Rattle.sj_sql_grammar.specs.Notes.{Notes, value_with, item_with, column_with, columns_with, table_with, plain_with, items_with, statement_with, note_encoding, note_value, note_item, note_column, note_columns, note_table, note_plain, note_items, note_statement}
@@ -22,8 +19,8 @@ use Rattle.sj_sql_token.specs.Keywords.{is_reserved}
 use Rattle.sj_sql_token.specs.Same.{same}
 use Rattle.sj_sql_grammar.proofs.SpellingsTakeTokens.{path_name_eats, word_eats, open_eats, close_eats, comma_eats, name_eats, nested_path_eats}
 use Rattle.sj_sql_grammar.proofs.PartsTakeTokens.{optional_passes, list_eats, column_eats, plan_expr_eats, plan_prim_eats, plain_item_eats, listed_item_eats}
-use Rattle.sj_sql_grammar.proofs.FirstTokens.{bound, through, close_leads, open_leads, comma_leads, path_leads, alias_leads, quotes_leads, wrapper_leads, exists_leads, table_clause_leads, value_clause_leads, query_clause_leads, value_error_alone, query_error_alone, name_not_open, name_not_word, type_not_for, type_not_formatted, type_not_existence, other_word, word_not_literal, value_heads, value_not_star, EndsDocument, ends_comma, ends_here, ends_as}
-use Rattle.sj_sql_grammar.proofs.Completeness.{optional_full, over_full, document_full, NoPassing, passing_full, comma_no_format, NoWords, no_wrapper, wrapper_stops, no_quotes, quotes_stop, close_no_unique, close_no_nulls, object_nulls, value_full, member_full}
+use Rattle.sj_sql_grammar.proofs.FirstTokens.{bound, through, close_leads, open_leads, comma_leads, path_leads, alias_leads, exists_leads, table_clause_leads, value_clause_leads, query_clauses_lead, value_error_alone, name_not_open, name_not_word, type_not_for, type_not_formatted, type_not_existence, other_word, word_not_literal, value_heads, value_not_star, EndsDocument, ends_comma, ends_here, ends_as}
+use Rattle.sj_sql_grammar.proofs.Completeness.{optional_full, over_full, document_full, NoPassing, passing_full, comma_no_format, NoQueryClause, close_no_query, comma_no_query, query_clauses_full, close_no_unique, close_no_nulls, object_nulls, value_full, member_full}
 
 -- ---- plans
 
@@ -108,10 +105,6 @@ no_value_clause : (cause : Keyword) (ts : Tokens) → Separates ts → value_cla
 unfolding value_clause_at
 no_value_clause cause ts s = separated (λ x. value_clause_at cause x ≡ None) s (λ _. refl) (λ _. refl)
 
-no_query_clause : (cause : Keyword) (ts : Tokens) → Separates ts → query_clause_at cause ts ≡ None
-unfolding query_clause_at
-no_query_clause cause ts s = separated (λ x. query_clause_at cause x ≡ None) s (λ _. refl) (λ _. refl)
-
 no_exists_clause : (ts : Tokens) → Separates ts → exists_clause_at ts ≡ None
 unfolding exists_clause_at
 no_exists_clause ts s = separated (λ x. exists_clause_at x ≡ None) s (λ _. refl) (λ _. refl)
@@ -165,18 +158,6 @@ regular_stops : {b c d rest : Tokens} {name : List ℕ} {path : PathText} {x y :
     → IsColumnPath name b path c → IsOptional (value_clause_at w.Empty) on_value.Null c x d → IsOptional (value_clause_at w.Error) on_value.Null d y rest → Separates rest → word v b ≡ None
 regular_stops {b} v o a e z p q path empty error s =
     through (λ y. word v y ≡ None) path (λ h. path_leads (λ y. word v y ≡ None) b _ h (λ _ r. ap (λ b. cond b (Some r) None) o)) (value_stops v a e z p q empty error s)
-
-query_stops : {d e i j rest : Tokens} {x y z u : _} (v : Keyword) → IsOptional wrapper_at wrapper.Without d x e → IsOptional quotes_at quotes.Absent e y i → IsOptional (query_clause_at w.Empty) on_query.Null i z j
-    → IsOptional (query_clause_at w.Error) on_query.Null j u rest → Separates rest
-    → ((text : List ℕ) (r : Tokens) → word v (k.Word w.With text ∷ r) ≡ None) → ((text : List ℕ) (r : Tokens) → word v (k.Word w.Without text ∷ r) ≡ None)
-    → ((text : List ℕ) (r : Tokens) → word v (k.Word w.Keep text ∷ r) ≡ None) → ((text : List ℕ) (r : Tokens) → word v (k.Word w.Omit text ∷ r) ≡ None)
-    → ((text : List ℕ) (r : Tokens) → word v (k.Word w.Empty text ∷ r) ≡ None) → ((text : List ℕ) (r : Tokens) → word v (k.Word w.Error text ∷ r) ≡ None) → ((text : List ℕ) (r : Tokens) → word v (k.Word w.Null text ∷ r) ≡ None)
-    → ((r : Tokens) → word v (k.Comma ∷ r) ≡ None) → ((r : Tokens) → word v (k.Close ∷ r) ≡ None) → word v d ≡ None
-query_stops {d} {e} {i} {j} v wrap quote empty error s a b c f h l o p q =
-    through (λ y. word v y ≡ None) wrap (λ m. wrapper_leads (λ y. word v y ≡ None) d _ m a b)
-    (through (λ y. word v y ≡ None) quote (λ m. quotes_leads (λ y. word v y ≡ None) e _ m c f)
-    (through (λ y. word v y ≡ None) empty (λ m. query_clause_leads (λ y. word v y ≡ None) w.Empty i _ m h l o)
-    (through (λ y. word v y ≡ None) error (λ m. query_clause_leads (λ y. word v y ≡ None) w.Error j _ m h l o) (separated (λ y. word v y ≡ None) s p q))))
 
 columns_lead : {ts rest : Tokens} {xs : Columns PathText} (Q : Tokens → Type 0) → IsColumns ts xs rest → ((text : List ℕ) (r : Tokens) → Q (k.Word w.Columns text ∷ r)) → Q ts
 columns_lead Q (g.columns {ts = ts} {a = a} h o d z) q = said Q w.Columns ts a h (λ text. q text a)
@@ -256,14 +237,12 @@ module _ {P F : Type 0} (n : Notes P F) where
         (bind_is _ _ i (bind_is _ _ (optional_full p (no_path c (value_stops w.Path refl refl refl (λ _. refl) (λ _. refl) empty error s)))
         (bind_is _ _ (optional_full empty (through (λ y. value_clause_at w.Empty y ≡ None) error (λ h. value_error_alone d _ h) (no_value_clause w.Empty rest s)))
         (bind_is _ _ (optional_full error (no_value_clause w.Error rest s)) refl))))))))
-    column_full (g.formatted {ts = ts} {a = a} {b = b} {c = c} {d = d} {e = e} {f = i} {g = j} {rest = rest} {name = x} h fo en p wrap quote empty error) s m le f =
+    column_full (g.formatted {ts = ts} {a = a} {b = b} {c = c} {d = d} {name = x} h fo en p clauses) s m le f =
         none_on _ _ _ (name_not_word w.Nested refl ts (x, a) h) (bind_is _ _ h (none_on _ _ _ (formatted_not_for a b fo) (some_on _ _ _ fo
-        (bind_is _ _ (optional_full en (no_encoding c (through (λ y. word w.Encoding y ≡ None) p (λ h. path_leads (λ y. word w.Encoding y ≡ None) c _ h (λ _ _. refl)) (query_stops w.Encoding wrap quote empty error s (λ _ _. refl) (λ _ _. refl) (λ _ _. refl) (λ _ _. refl) (λ _ _. refl) (λ _ _. refl) (λ _ _. refl) (λ _. refl) (λ _. refl)))))
-        (bind_is _ _ (optional_full p (no_path d (query_stops w.Path wrap quote empty error s (λ _ _. refl) (λ _ _. refl) (λ _ _. refl) (λ _ _. refl) (λ _ _. refl) (λ _ _. refl) (λ _ _. refl) (λ _. refl) (λ _. refl))))
-        (bind_is _ _ (optional_full wrap (no_wrapper e (wrapper_stops quote empty error (separated (NoWords w.With w.Without) s (λ _. record { first = refl; second = refl }) (λ _. record { first = refl; second = refl })))))
-        (bind_is _ _ (optional_full quote (no_quotes i (quotes_stop empty error (separated (λ y. meant quotes_of y ≡ None) s (λ _. refl) (λ _. refl)))))
-        (bind_is _ _ (optional_full empty (through (λ y. query_clause_at w.Empty y ≡ None) error (λ h. query_error_alone j _ h) (no_query_clause w.Empty rest s)))
-        (bind_is _ _ (optional_full error (no_query_clause w.Error rest s)) refl)))))))))
+        (bind_is _ _ (optional_full en (no_encoding c (through (λ y. word w.Encoding y ≡ None) p (λ h. path_leads (λ y. word w.Encoding y ≡ None) c _ h (λ _ _. refl))
+        (query_clauses_lead (λ y. word w.Encoding y ≡ None) clauses (λ _ _. refl) (λ _ _. refl) (λ _ _. refl) (λ _ _. refl) (λ _ _. refl) (λ _ _. refl) (λ _ _. refl) (separated (λ y. word w.Encoding y ≡ None) s (λ _. refl) (λ _. refl))))))
+        (bind_is _ _ (optional_full p (no_path d (query_clauses_lead (λ y. word w.Path y ≡ None) clauses (λ _ _. refl) (λ _ _. refl) (λ _ _. refl) (λ _ _. refl) (λ _ _. refl) (λ _ _. refl) (λ _ _. refl) (separated (λ y. word w.Path y ≡ None) s (λ _. refl) (λ _. refl)))))
+        (bind_is _ _ (query_clauses_full clauses (separated NoQueryClause s comma_no_query close_no_query)) refl))))))
     column_full (g.existence {ts = ts} {a = a} {b = b} {c = c} {rest = rest} {name = x} h ex p error) s m le f =
         none_on _ _ _ (name_not_word w.Nested refl ts (x, a) h) (bind_is _ _ h (none_on _ _ _ (existence_not w.For refl a b ex) (none_on _ _ _ (no_format a (existence_not w.Varchar refl a b ex)) (some_on _ _ _ ex
         (bind_is _ _ (optional_full p (no_path c (exists_stops error s))) (bind_is _ _ (optional_full error (no_exists_clause rest s)) refl))))))

@@ -14,8 +14,7 @@ use Rattle.sj_sql_tree.specs.declared.tree.Item.TheVariants as i
 use Rattle.sj_sql_tree.specs.declared.tree.RegularColumn.{RegularColumn}
 use Rattle.sj_sql_tree.specs.declared.tree.FormattedColumn.{FormattedColumn}
 use Rattle.sj_sql_tree.specs.declared.tree.Column as c
-use Rattle.sj_sql_tree.specs.declared.tree.Column.{Column}
-use Rattle.sj_sql_tree.specs.declared.tree.Columns as cs
+use Rattle.sj_sql_tree.specs.declared.tree.Column.{Row_of-Column, end_of-Column, more_of-Column, Column}
 use Rattle.sj_sql_tree.specs.declared.tree.Columns.{Columns}
 use Rattle.sj_sql_tree.specs.declared.tree.NamedPlan as p
 use Rattle.sj_sql_tree.specs.declared.tree.NamedPlan.{NamedPlan}
@@ -87,11 +86,20 @@ abbrev mutual
   column_of (c.Regular x) = t.Regular (regular_of x)
   column_of (c.Formatted x) = t.Formatted (formatted_of x)
   column_of (c.Exists name path action) = t.Existence name (path_of path) action
-  column_of (c.Nested' path name a columns) = t.Nested (path_of path) name (columns_of columns)
+  column_of (c.Nested' path name a shape before last) = t.Nested (path_of path) name (column_row_onto before (t.Last (column_of last)))
 
-  pub columns_of : Columns → t.Columns Path
-  columns_of (cs.Last' a x) = t.Last (column_of x)
-  columns_of (cs.More' a x b others) = t.More (column_of x) (columns_of others)
+  -- the columns of a `Vec`, before others
+  pub column_row_onto : {n : _} → Row_of-Column n → t.Columns Path → t.Columns Path
+  column_row_onto end_of-Column others = others
+  column_row_onto (more_of-Column x rest) others = t.More (column_of x) (column_row_onto rest others)
+
+-- the same of the columns as a list
+abbrev pub columns_onto : List Column → t.Columns Path → t.Columns Path
+columns_onto [] others = others
+columns_onto (x ∷ rest) others = t.More (column_of x) (columns_onto rest others)
+
+abbrev pub columns_of : Columns → t.Columns Path
+columns_of x = columns_onto x.before.items (t.Last (column_of x.last))
 
 abbrev pub plan_of : NamedPlan → t.NamedPlan
 plan_of (p.Path name) = t.PathOf name

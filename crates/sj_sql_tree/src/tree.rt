@@ -1,12 +1,12 @@
-//! The trees of statements. A repeated part of a value is a vector, since a recursive type holds no sequence. The columns
-//! of a table are linked cells, which are given up by a loop. Any other repeated part is a sequence.
-
-ghost use Rattle.sj_sql_tree.specs.Split.{SplitsColumns};
+//! The trees of statements. A repeated part of a value and the columns of a table are vectors, since a recursive type holds
+//! no sequence. Any other repeated part is a sequence.
 
 use crate::seq::Seq;
 use sj_base::Text;
 use sj_path_tree::{Literal, Path};
-use sj_sql_grammar::{Encoding, InOut, IsJsonCall, Passed, QueryClauses, Siblings, TypeName, ValueDo};
+use sj_sql_grammar::{
+    Encoding, InOut, IsJsonCall, Passed, QueryClauses, Siblings, TypeName, ValueDo,
+};
 use sj_value::{ExistsAction, Nulls, TableAction};
 
 /// A statement.
@@ -100,9 +100,11 @@ pub struct Table {
 
 /// The columns of a table or of a nested path, which are never none.
 #[cycle(columns)]
-pub enum Columns {
-    Last(Box<Column>),
-    More(Box<Column>, Box<Columns>),
+#[derive(Drop)]
+pub struct Columns {
+    /// The columns but the last, in the order of the text.
+    pub before: Vec<Column>,
+    pub last: Column,
 }
 
 /// A column, or a nested path with its columns.
@@ -118,18 +120,6 @@ pub enum Column {
     Exists(Text, Path, ExistsAction),
     /// NESTED: the path, its name and its columns.
     Nested(Path, Option<Text>, Box<Columns>),
-}
-
-impl Drop for Columns {
-    #[cycle(give_up_columns)]
-    fn drop(mut self) {
-        loop {
-            match self {
-                Columns::Last(_) => return,
-                Columns::More(_, others) => self = Box::into_inner(others),
-            }
-        }
-    }
 }
 
 /// A column that is JSON_VALUE on the row's item.
@@ -187,20 +177,6 @@ impl Drop for NamedPlan {
                 NamedPlan::Inner(_, below) => self = Box::into_inner(below),
                 NamedPlan::Union(first, _) => self = Box::into_inner(first),
                 NamedPlan::Cross(first, _) => self = Box::into_inner(first),
-            }
-        }
-    }
-}
-
-impl Columns {
-    /// The first column, and the others if there are any.
-    pub fn split_first(self) -> (Column, Option<Columns>)
-        ensures { SplitsColumns self result }
-    {
-        match self {
-            Columns::Last(column) => (Box::into_inner(column), None),
-            Columns::More(column, others) => {
-                (Box::into_inner(column), Some(Box::into_inner(others)))
             }
         }
     }

@@ -6,24 +6,17 @@ mod trees;
 
 use sj_base::Text;
 use sj_sql::{
-    Column, Columns, FileFault, FileKind, NextStatement, Refused, Seq, Statement, Statements,
+    FileFault, FileKind, NamedPlan, NextStatement, Refused, Seq, Statement, Statements,
     next_statement, parse_file,
 };
 use std::test::Fail;
 
 #[test]
-fn long_chains_are_given_up_by_a_loop(rt: HostRuntime) -> Result<(), Fail> {
-    let last = Box::new(
-        rt.alloc(),
-        Column::Ordinality(Text::from_str(rt.alloc(), "c")?),
-    )?;
-    let mut columns = Columns::Last(last);
+fn long_plans_are_given_up_by_a_loop(rt: HostRuntime) -> Result<(), Fail> {
+    let mut plan = NamedPlan::Path(Text::from_str(rt.alloc(), "p")?);
     for _turn in 0..1_000_000u32 {
-        let column = Box::new(
-            rt.alloc(),
-            Column::Ordinality(Text::from_str(rt.alloc(), "c")?),
-        )?;
-        columns = Columns::More(column, Box::new(rt.alloc(), columns)?);
+        let name = Text::from_str(rt.alloc(), "p")?;
+        plan = NamedPlan::Outer(name, Box::new(rt.alloc(), plan)?);
     }
     Ok(())
 }

@@ -229,12 +229,12 @@ fn same_column(a: &Column, b: &Column) -> bool {
 
 #[cycle(same_columns)]
 fn same_columns(a: &Columns, b: &Columns) -> bool {
-    match a {
-        Columns::Last(a) => matches!(b, Columns::Last(b) if same_column(a, b)),
-        Columns::More(a, c) => {
-            matches!(b, Columns::More(b, d) if same_column(a, b) && same_columns(c, d))
+    for (a, b) in a.before.iter().zip(b.before.iter()) {
+        if !same_column(a, b) {
+            return false;
         }
     }
+    a.before.len() == b.before.len() && same_column(&a.last, &b.last)
 }
 
 fn same_named(a: &NamedPlan, b: &NamedPlan) -> bool {
