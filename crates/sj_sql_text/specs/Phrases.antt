@@ -31,15 +31,20 @@ use Rattle.sj_sql_grammar.specs.declared.clauses.Quotes.TheVariants.{Absent, Kee
 use Rattle.sj_sql_grammar.specs.declared.clauses.QueryClauses.{QueryClauses}
 use Rattle.sj_sql_grammar.specs.declared.clauses.IsJsonCall.{IsJsonCall}
 use Rattle.sj_sql_grammar.specs.Tree.{Common}
-use Rattle.sj_sql_text.specs.Pieces.{Piece, Word, Call, Name, String, Number, Count, Close, Comma, Pieces}
+use Rattle.sj_sql_text.specs.Pieces.{Word, Call, Name, String, Number, Count, Close, Comma, Pieces}
 
 abbrev pub word : List ℕ → Pieces → Pieces
 word text ps = Word text ∷ ps
 
--- each behind a lead, which is `first` for the first of them and a comma for the others
-abbrev pub each_on : {A : Type 0} → (A → Pieces → Pieces) → Piece → List A → Pieces → Pieces
-each_on one first [] ps = ps
-each_on one first (x ∷ xs) ps = first ∷ one x (each_on one Comma xs ps)
+-- those behind the first, each behind a comma
+abbrev pub each_behind : {A : Type 0} → (A → Pieces → Pieces) → List A → Pieces → Pieces
+each_behind one [] ps = ps
+each_behind one (x ∷ xs) ps = Comma ∷ one x (each_behind one xs ps)
+
+-- one, or several with commas between them
+abbrev pub listed : {A : Type 0} → (A → Pieces → Pieces) → List A → Pieces → Pieces
+listed one [] ps = ps
+listed one (x ∷ xs) ps = one x (each_behind one xs ps)
 
 -- ---- literals, types and the document
 
@@ -90,7 +95,8 @@ abbrev pub passed_on : Passed → Pieces → Pieces
 passed_on x ps = literal_on x.value (word (codes "AS") (name_on x.name ps))
 
 abbrev pub passing_on : List Passed → Pieces → Pieces
-passing_on xs ps = each_on passed_on (Word (codes "PASSING")) xs ps
+passing_on [] ps = ps
+passing_on (x ∷ xs) ps = word (codes "PASSING") (listed passed_on (x ∷ xs) ps)
 
 abbrev pub common_on : Common Path → Pieces → Pieces
 common_on c ps = document_on c.encoding (Comma ∷ path_on c.path (passing_on c.passing ps))

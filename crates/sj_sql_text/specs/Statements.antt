@@ -3,8 +3,8 @@ use Rattle.std.specs.Prelude.{ℕ, List, [], ◌∷◌, ◌++◌, codes}
 use Rattle.sj_path_tree.specs.Tree.{Path}
 use Rattle.sj_sql_grammar.specs.Tree.{Value, Lit, Column, Exists, ValueOf, Query, IsJson, Object, Array, Values, NoValues, MoreValues, Members, NoMembers, MoreMembers, Item, Single, ArrayAgg, ObjectAgg, ExistsCall, ValueCall, QueryCall, RegularColumn, FormattedColumn, ColumnOf, Ordinality, Regular, Formatted, Existence, Nested, Columns, Last, More, Table, Statement, Plain, All, Listed}
 use Rattle.sj_value.specs.declared.clauses.ExistsAction.{ExistsAction}
-use Rattle.sj_sql_text.specs.Pieces.{Piece, Word, Call, Open, Close, Comma, Star, Semicolon, Pieces, text_of}
-use Rattle.sj_sql_text.specs.Phrases.{word, each_on, literal_on, type_on, encoding_on, document_on, path_on, name_on, path_name_on, passing_on, common_on, exists_clause_on, value_clauses_on, query_clauses_on, unique_on, nulls_on, is_json_on, table_clause_on}
+use Rattle.sj_sql_text.specs.Pieces.{Call, Open, Close, Comma, Star, Semicolon, Pieces, text_of}
+use Rattle.sj_sql_text.specs.Phrases.{word, listed, literal_on, type_on, encoding_on, document_on, path_on, name_on, path_name_on, passing_on, common_on, exists_clause_on, value_clauses_on, query_clauses_on, unique_on, nulls_on, is_json_on, table_clause_on}
 use Rattle.sj_sql_text.specs.Plans.{plan_on}
 
 -- ---- functions on the document
@@ -31,12 +31,9 @@ abbrev mutual
   value_on (IsJson c) ps = is_json_on c ps
   value_on (Object NoMembers nulls unique) ps = Call (codes "JSON_OBJECT") ∷ Close ∷ ps
   value_on (Object (MoreMembers key x others) nulls unique) ps =
-      Call (codes "JSON_OBJECT") ∷ member_on key x (members_on others (nulls_on nulls (unique_on unique (Close ∷ ps))))
+      Call (codes "JSON_OBJECT") ∷ value_on key (word (codes "VALUE") (value_on x (members_on others (nulls_on nulls (unique_on unique (Close ∷ ps))))))
   value_on (Array NoValues nulls) ps = Call (codes "JSON_ARRAY") ∷ Close ∷ ps
   value_on (Array (MoreValues x others) nulls) ps = Call (codes "JSON_ARRAY") ∷ value_on x (values_on others (nulls_on nulls (Close ∷ ps)))
-
-  pub member_on : (key x : Value Path) → Pieces → Pieces
-  member_on key x ps = value_on key (word (codes "VALUE") (value_on x ps))
 
   -- values and members behind the first
   pub values_on : Values Path → Pieces → Pieces
@@ -45,7 +42,10 @@ abbrev mutual
 
   pub members_on : Members Path → Pieces → Pieces
   members_on NoMembers ps = ps
-  members_on (MoreMembers key x others) ps = Comma ∷ member_on key x (members_on others ps)
+  members_on (MoreMembers key x others) ps = Comma ∷ value_on key (word (codes "VALUE") (value_on x (members_on others ps)))
+
+abbrev pub member_on : (key x : Value Path) → Pieces → Pieces
+member_on key x ps = value_on key (word (codes "VALUE") (value_on x ps))
 
 abbrev pub item_on : Item Path → Pieces → Pieces
 item_on (Single x) ps = value_on x ps
@@ -73,15 +73,15 @@ abbrev mutual
   column_on (Regular c) ps = regular_on c ps
   column_on (Formatted c) ps = formatted_on c ps
   column_on (Existence name path on_error) ps = existence_on name path on_error ps
-  column_on (Nested path name columns) ps = word (codes "NESTED") (column_path_on path (path_name_on name (columns_on columns ps)))
+  column_on (Nested path name columns) ps = word (codes "NESTED") (column_path_on path (path_name_on name (word (codes "COLUMNS") (Open ∷ listed_columns_on columns (Close ∷ ps)))))
 
-  pub columns_on : Columns Path → Pieces → Pieces
-  columns_on columns ps = word (codes "COLUMNS") (led_columns_on Open columns (Close ∷ ps))
+  -- with commas between them
+  pub listed_columns_on : Columns Path → Pieces → Pieces
+  listed_columns_on (Last column) ps = column_on column ps
+  listed_columns_on (More column others) ps = column_on column (Comma ∷ listed_columns_on others ps)
 
-  -- each behind a lead, which is an opening parenthesis for the first and a comma for the others
-  pub led_columns_on : Piece → Columns Path → Pieces → Pieces
-  led_columns_on lead (Last column) ps = lead ∷ column_on column ps
-  led_columns_on lead (More column others) ps = lead ∷ column_on column (led_columns_on Comma others ps)
+abbrev pub columns_on : Columns Path → Pieces → Pieces
+columns_on columns ps = word (codes "COLUMNS") (Open ∷ listed_columns_on columns (Close ∷ ps))
 
 abbrev pub table_on : Table Path → Pieces → Pieces
 table_on t ps = Call (codes "JSON_TABLE") ∷ document_on t.common.encoding (Comma ∷ path_on t.common.path (path_name_on t.name
@@ -90,9 +90,9 @@ table_on t ps = Call (codes "JSON_TABLE") ∷ document_on t.common.encoding (Com
 -- ---- statements
 
 abbrev pub statement_on : Statement Path → Pieces → Pieces
-statement_on (Plain values) ps = each_on value_on (Word (codes "SELECT")) values (Semicolon ∷ ps)
+statement_on (Plain values) ps = word (codes "SELECT") (listed value_on values (Semicolon ∷ ps))
 statement_on (All table) ps = word (codes "SELECT") (Star ∷ word (codes "FROM") (table_on table (Semicolon ∷ ps)))
-statement_on (Listed items table) ps = each_on item_on (Word (codes "SELECT")) items (word (codes "FROM") (table_on table (Semicolon ∷ ps)))
+statement_on (Listed items table) ps = word (codes "SELECT") (listed item_on items (word (codes "FROM") (table_on table (Semicolon ∷ ps))))
 
 abbrev pub statement_text : Statement Path → List ℕ
 statement_text s = text_of (statement_on s [])

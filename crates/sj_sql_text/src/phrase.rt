@@ -1,13 +1,11 @@
 //! The pieces of what a statement has but values, columns and plans.
 
-ghost use Rattle.std.specs.Prelude.{OnOk, option_map};
+ghost use Rattle.std.specs.Prelude.{OnOk};
 ghost use Rattle.sj_path_tree.specs.View.{path_of};
 ghost use Rattle.sj_sql_tree.specs.View.{common_of};
 ghost use Rattle.sj_sql_text.specs.Adds.{Adds};
-ghost use Rattle.sj_sql_text.specs.Pieces as piece;
 ghost use Rattle.sj_sql_text.specs.Phrases as spec;
 
-use crate::piece::Piece;
 use crate::pieces::Pieces;
 use sj_base::{Memory, Text};
 use sj_path_tree::{Literal, Path};
@@ -21,8 +19,8 @@ pub(crate) fn literal<'a>(literal: &'a Literal, out: &mut Pieces<'a>) -> Result<
     ensures { OnOk result (Adds out.old out.new (spec.literal_on literal.now)) }
 {
     match literal {
-        Literal::Text(text) => out.put(Piece::Text(text.as_str())),
-        Literal::Num(number) => out.put(Piece::Number(*number)),
+        Literal::Text(text) => out.text(text.as_str()),
+        Literal::Num(number) => out.number(*number),
         Literal::Bool(true) => out.word("TRUE"),
         Literal::Bool(false) => out.word("FALSE"),
         Literal::Null => out.word("NULL"),
@@ -36,15 +34,15 @@ fn sql_type(ty: SqlType, out: &mut Pieces<'_>) -> Result<(), Memory>
         SqlType::Varchar => out.word("VARCHAR"),
         SqlType::VarcharMax(characters) => {
             out.call("VARCHAR")?;
-            out.put(Piece::Count(characters))?;
+            out.count(characters)?;
             out.close()
         }
         SqlType::Numeric => out.word("NUMERIC"),
         SqlType::NumericFixed(digits, decimals) => {
             out.call("NUMERIC")?;
-            out.put(Piece::Count(digits))?;
+            out.count(digits)?;
             out.comma()?;
-            out.put(Piece::Count(decimals))?;
+            out.count(decimals)?;
             out.close()
         }
         SqlType::Integer => out.word("INTEGER"),
@@ -93,7 +91,7 @@ pub(crate) fn document(format: Encoding, out: &mut Pieces<'_>) -> Result<(), Mem
 pub(crate) fn path<'a>(path: &'a Path, out: &mut Pieces<'a>) -> Result<(), Memory>
     ensures { OnOk result (Adds out.old out.new (spec.path_on (path_of path.now))) }
 {
-    out.put(Piece::Path(path))
+    out.path(path)
 }
 
 pub(crate) fn path_name<'a>(name: &'a Option<Text>, out: &mut Pieces<'a>) -> Result<(), Memory>
@@ -116,16 +114,26 @@ fn passed<'a>(variable: &'a Passed, out: &mut Pieces<'a>) -> Result<(), Memory>
     out.name(variable.name.as_str())
 }
 
+/// The variables behind the first.
+fn passed_behind<'a>(variables: &'a [Passed], out: &mut Pieces<'a>) -> Result<(), Memory>
+    ensures { OnOk result (Adds out.old out.new (spec.each_behind spec.passed_on variables.now)) }
+{
+    for variable in variables {
+        out.comma()?;
+        passed(variable, out)?;
+    }
+    Ok(())
+}
+
 pub(crate) fn passing<'a>(variables: &'a [Passed], out: &mut Pieces<'a>) -> Result<(), Memory>
     ensures { OnOk result (Adds out.old out.new (spec.passing_on variables.now)) }
 {
-    let mut lead = Piece::Word("PASSING");
-    for variable in variables {
-        out.put(lead)?;
-        passed(variable, out)?;
-        lead = Piece::Comma;
-    }
-    Ok(())
+    let Some((first, others)) = variables.split_first() else {
+        return Ok(());
+    };
+    out.word("PASSING")?;
+    passed(first, out)?;
+    passed_behind(others, out)
 }
 
 /// The document, the path and the variables of a function.

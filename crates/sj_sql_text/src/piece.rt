@@ -10,9 +10,9 @@ use sj_path_tree::Path;
 /// A piece of a canonical text, whose texts are lent by the tree.
 #[derive(Drop)]
 pub(crate) enum Piece<'a> {
-    Word(&'static str),
+    Word(&'a str),
     /// The name of a function or of a type, and the parenthesis that it opens.
-    Call(&'static str),
+    Call(&'a str),
     /// A name, which stands between double quotation marks.
     Name(&'a str),
     /// A string, which stands between single quotation marks.

@@ -1,14 +1,12 @@
 //! The canonical text of a statement.
 
-ghost use Rattle.std.specs.Prelude.{◌≡◌, ◌++◌, OnOk, OnErr, codes};
+ghost use Rattle.std.specs.Prelude.{◌≡◌, ◌++◌, OnOk, OnErr};
 ghost use Rattle.sj_sql_tree.specs.View.{items_of, plain_of, statement_of};
 ghost use Rattle.sj_text.specs.Prefixes.{AppendsPrefix};
 ghost use Rattle.sj_sql_text.specs.Adds.{Adds};
-ghost use Rattle.sj_sql_text.specs.Pieces as piece;
 ghost use Rattle.sj_sql_text.specs.Phrases as phrase;
 ghost use Rattle.sj_sql_text.specs.Statements as spec;
 
-use crate::piece::Piece;
 use crate::pieces::Pieces;
 use crate::print::print;
 use crate::table::table;
@@ -18,25 +16,43 @@ use sj_sql_tree::{Item, Statement, Value};
 use std::alloc::Global;
 
 fn values<'a>(values: &'a [Value], out: &mut Pieces<'a>) -> Result<(), Memory>
-    ensures { OnOk result (Adds out.old out.new (phrase.each_on spec.value_on (piece.Word (codes "SELECT")) (plain_of values.now))) }
+    ensures { OnOk result (Adds out.old out.new (phrase.listed spec.value_on (plain_of values.now))) }
 {
-    let mut lead = Piece::Word("SELECT");
+    let Some((first, others)) = values.split_first() else {
+        return Ok(());
+    };
+    value(first, out)?;
+    values_behind(others, out)
+}
+
+/// Those behind the first.
+fn values_behind<'a>(values: &'a [Value], out: &mut Pieces<'a>) -> Result<(), Memory>
+    ensures { OnOk result (Adds out.old out.new (phrase.each_behind spec.value_on (plain_of values.now))) }
+{
     for one in values {
-        out.put(lead)?;
+        out.comma()?;
         value(one, out)?;
-        lead = Piece::Comma;
     }
     Ok(())
 }
 
 fn items<'a>(items: &'a [Item], out: &mut Pieces<'a>) -> Result<(), Memory>
-    ensures { OnOk result (Adds out.old out.new (phrase.each_on spec.item_on (piece.Word (codes "SELECT")) (items_of items.now))) }
+    ensures { OnOk result (Adds out.old out.new (phrase.listed spec.item_on (items_of items.now))) }
 {
-    let mut lead = Piece::Word("SELECT");
+    let Some((first, others)) = items.split_first() else {
+        return Ok(());
+    };
+    item(first, out)?;
+    items_behind(others, out)
+}
+
+/// Those behind the first.
+fn items_behind<'a>(items: &'a [Item], out: &mut Pieces<'a>) -> Result<(), Memory>
+    ensures { OnOk result (Adds out.old out.new (phrase.each_behind spec.item_on (items_of items.now))) }
+{
     for one in items {
-        out.put(lead)?;
+        out.comma()?;
         item(one, out)?;
-        lead = Piece::Comma;
     }
     Ok(())
 }
@@ -45,20 +61,26 @@ fn statement<'a>(statement: &'a Statement, out: &mut Pieces<'a>) -> Result<(), M
     ensures { OnOk result (Adds out.old out.new (spec.statement_on (statement_of statement.now))) }
 {
     match statement {
-        Statement::Plain(list) => values(list.as_slice(), out)?,
+        Statement::Plain(list) => {
+            out.word("SELECT")?;
+            values(list.as_slice(), out)?;
+            out.semicolon()
+        }
         Statement::All(from) => {
             out.word("SELECT")?;
-            out.put(Piece::Star)?;
+            out.star()?;
             out.word("FROM")?;
             table(from, out)?;
+            out.semicolon()
         }
         Statement::Listed(list, from) => {
+            out.word("SELECT")?;
             items(list.as_slice(), out)?;
             out.word("FROM")?;
             table(from, out)?;
+            out.semicolon()
         }
     }
-    out.semicolon()
 }
 
 /// Appends the canonical text of a statement, with its semicolon. Where memory runs out, `out` has grown by a first part

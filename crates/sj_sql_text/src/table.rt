@@ -14,7 +14,6 @@ use crate::phrase::{
     document, encoding, exists_clause, passing, path, path_name, query_clauses, table_clause,
     type_name, value_clauses,
 };
-use crate::piece::Piece;
 use crate::pieces::Pieces;
 use crate::plan::plan;
 use sj_base::{Memory, Text};
@@ -93,13 +92,11 @@ fn columns<'a>(columns: &'a Columns, out: &mut Pieces<'a>) -> Result<(), Memory>
     ensures { OnOk result (Adds out.old out.new (spec.columns_on (columns_of columns.now))) }
 {
     out.word("COLUMNS")?;
-    let mut lead = Piece::Open;
+    out.open()?;
     for one in &columns.before {
-        out.put(lead)?;
         column(one, out)?;
-        lead = Piece::Comma;
+        out.comma()?;
     }
-    out.put(lead)?;
     column(&columns.last, out)?;
     out.close()
 }
