@@ -1,5 +1,4 @@
 pub mod Noted
-pub mod Boxes
 pub mod File
 pub mod Script
 pub mod Nests

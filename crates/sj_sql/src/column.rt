@@ -1,19 +1,19 @@
 //! The columns of a table, with a function that reads the columns inside them.
 
-ghost use Rattle.std.specs.Prelude.{◌≡◌, IfOk, length, map};
+ghost use Rattle.std.specs.Prelude.{◌≡◌, length};
 ghost use Rattle.sj_base.specs.Gives.{Gives};
+ghost use Rattle.sj_path_tree.specs.View.{path_of};
 ghost use Rattle.sj_sql_grammar.specs.Faults.{parsing};
 ghost use Rattle.sj_sql_grammar.specs.Reading as reading;
 ghost use Rattle.sj_sql_grammar.specs.Tree as t;
-ghost use Rattle.sj_sql.specs.Boxes.{boxed_column_of};
-ghost use Rattle.sj_sql_phrase.specs.Cells.{onto};
 ghost use Rattle.sj_sql.specs.Nests.{ColumnNests};
 ghost use Rattle.sj_sql.specs.Noted.{faults_of};
 ghost use Rattle.sj_sql_tree.specs.View.{column_of, columns_of};
 
 use crate::faults::Faults;
 use crate::path::{column_path, nested_path, path};
-use sj_base::{Memory, ParseRefusal, Text, boxed};
+use sj_base::{ParseRefusal, Text, boxed};
+use sj_path::Path;
 use sj_sql_grammar::Encoding;
 use sj_sql_phrase::optional::{name_of_path, value_action};
 use sj_sql_phrase::passing::put;
@@ -114,27 +114,11 @@ fn named_column(
     }
 }
 
-fn column_cell(alloc: Global, column: Box<Column>, others: Columns) -> Result<Columns, Memory>
-    ensures { IfOk result (λ x. columns_of x ≡ t.More (boxed_column_of column) (columns_of others)) }
+/// A nested path with its columns, as the definitions have it.
+fn nested_of(path: Path, name: Option<Text>, columns: Box<Columns>) -> Column
+    ensures { column_of result ≡ t.Nested (path_of path) name (columns_of columns.value) }
 {
-    let others = boxed(alloc, others)?;
-    Ok(Columns::More(column, others))
-}
-
-/// The cells of columns, and of one more. The columns come in boxes: each is given up by one call, and the cells take them as they are.
-fn column_cells(
-    alloc: Global,
-    before: Seq<Box<Column>>,
-    last: Box<Column>,
-) -> Result<Columns, Memory>
-    ensures { IfOk result (λ x. columns_of x ≡ onto t.More (map boxed_column_of before) (t.Last (boxed_column_of last))) }
-{
-    let mut before = before.into_vec();
-    let mut cells = Columns::Last(last);
-    while let Some(column) = before.pop() {
-        cells = column_cell(alloc, column, cells)?;
-    }
-    Ok(cells)
+    Column::Nested(path, name, columns)
 }
 
 /// What may stand at one level of columns.
@@ -178,7 +162,7 @@ impl<
         let (name, rest) = name_of_path(self.alloc, rest)?;
         let (columns, faults, rest) = self.inner(faults, rest)?;
         let columns = boxed(self.alloc, columns)?;
-        Ok((Column::Nested(path, name, columns), faults, rest))
+        Ok((nested_of(path, name, columns), faults, rest))
     }
 
     #[tactic(auto, unfolding(sj_sql_grammar::specs::Reading::column_at))]
@@ -198,19 +182,6 @@ impl<
         named_column(self.alloc, name, faults, rest)
     }
 
-    fn boxed<'a>(
-        &self,
-        faults: Faults,
-        tokens: Tokens<'a>,
-    ) -> Result<(Box<Column>, Faults, Tokens<'a>), ParseRefusal>
-        requires { ColumnNests self.now.depth (F.pre self.now.inner) (F.post self.now.inner) }
-        ensures { Gives (λ x. (boxed_column_of x.0, faults_of x.1, x.2.now)) result
-            (reading.column_at parsing (reading.columns_at parsing self.now.depth) (faults_of faults) tokens.now) }
-    {
-        let (column, faults, rest) = self.column(faults, tokens)?;
-        Ok((boxed(self.alloc, column)?, faults, rest))
-    }
-
     /// Columns with commas between them.
     #[tactic(auto, unfolding(sj_sql_grammar::specs::Reading::columns_from))]
     fn columns<'a>(
@@ -222,16 +193,19 @@ impl<
         ensures { Gives (λ x. (columns_of x.0, faults_of x.1, x.2.now)) result
             (reading.columns_from parsing (reading.columns_at parsing self.now.depth) (length tokens.now) (faults_of faults) tokens.now) }
     {
-        let mut columns = Seq::new(self.alloc);
+        let mut before = Seq::new(self.alloc);
         let mut so_far = faults;
         let mut left = Rest { tokens };
         for _turn in 0..tokens.len() {
-            let (column, noted, after) = self.boxed(so_far, left.tokens)?;
+            let (column, noted, after) = self.column(so_far, left.tokens)?;
             let Some(next) = comma(after) else {
-                let cells = column_cells(self.alloc, columns, column)?;
-                return Ok((cells, noted, after));
+                let columns = Columns {
+                    before: before.into_vec(),
+                    last: column,
+                };
+                return Ok((columns, noted, after));
             };
-            put(&mut columns, column)?;
+            put(&mut before, column)?;
             so_far = noted;
             left = Rest { tokens: next };
         }

@@ -13,8 +13,9 @@ use Rattle.sj_sql_grammar.specs.Reading.{list_from, values_from, member_at, memb
 use Rattle.sj_sql_grammar.proofs.ReadTokens.{bind_is, bind_none, some_on, none_on}
 use Rattle.sj_sql_tree.specs.declared.tree.Value.{Value as ParsedValue}
 use Rattle.sj_sql_tree.specs.declared.tree.Member.{Member}
+use Rattle.sj_sql_tree.specs.declared.tree.Column.{Column}
 use Rattle.sj_sql_tree.specs.declared.tree.Item.{Item}
-use Rattle.sj_sql_tree.specs.View.{value_of, values_of, member_of, members_of, plain_of, item_of, items_of}
+use Rattle.sj_sql_tree.specs.View.{value_of, values_of, member_of, members_of, plain_of, item_of, items_of, column_of, columns_onto}
 use Rattle.sj_sql_phrase.specs.Cells.{onto, fronted, listed, more_members}
 
 -- ---- one more at the end of a list
@@ -43,6 +44,10 @@ values_end (y ∷ ys) x = ap (MoreValues (value_of y)) (values_end ys x)
 pub members_end : (xs : List Member) (x : Member) → onto more_members (map member_of xs) (more_members (member_of x) NoMembers) ≡ members_of (xs ++ x ∷ [])
 members_end [] x = refl
 members_end (y ∷ ys) x = ap (more_members (member_of y)) (members_end ys x)
+
+pub columns_before : (xs : List Column) (others : Columns Path) → onto More (map column_of xs) others ≡ columns_onto xs others
+columns_before [] others = refl
+columns_before (y ∷ ys) others = ap (More (column_of y)) (columns_before ys others)
 
 pub items_end : (xs : List Item) (x : Item) → items_of (xs ++ x ∷ []) ≡ items_of xs ++ item_of x ∷ []
 items_end [] x = refl
@@ -171,11 +176,3 @@ unfolding list_from
 passed_runs_out n at before rest over e =
     let count : n - at ≡ zero = omega arith in
     e ∙ ap (λ m. listed before (list_from passed_at m rest)) count
-
--- ---- cells, made from the back
-
--- one more in front
-pub cell_made : {A B L : Type 0} (more : B → L → L) (view : List A → List B) (one : A → B) → ((xs : List A) (x : A) → view (xs ++ x ∷ []) ≡ view xs ++ one x ∷ [])
-    → {start : L} (xs ys : List A) (x : A) (l m : L) → start ≡ onto more (view xs) l → xs ≡ ys ++ x ∷ [] → m ≡ more (one x) l → start ≡ onto more (view ys) m
-cell_made more view one at_end xs ys x l m e popped made =
-    e ∙ ap (λ zs. onto more (view zs) l) popped ∙ ap (λ zs. onto more zs l) (at_end ys x) ∙ onto_end more (view ys) (one x) l ∙ ap (onto more (view ys)) (sym made)
