@@ -1,0 +1,22 @@
+//! The canonical text of a statement (ISO/IEC 9075-2, SQL/JSON): one text for each tree.
+//!
+//! [`statement_text`] prints a statement: keywords in upper case, names between double quotation marks, every clause that
+//! has a default written out, and each path as its own canonical text. A tree becomes a list of pieces, words and strings
+//! and signs, and one rule says which blanks stand between them. `specs/Statements.antt` says which pieces a statement has,
+//! and `specs/Pieces.antt` how they are printed.
+//!
+//! It stands on the trees of sj_sql_tree and on the texts of paths of sj_path_text.
+#![tactic(auto)]
+
+mod call;
+mod phrase;
+mod piece;
+mod pieces;
+mod plan;
+mod print;
+mod quoted;
+mod statement;
+mod table;
+mod value;
+
+pub use statement::statement_text;
