@@ -8,3 +8,5 @@ mod Digits
 pub mod ShownFiles
 -- for sj_run
 pub mod Unaccepted
+-- for `next_with_text` and `text_of`, and for sj_run
+pub mod Texts

@@ -1,15 +1,18 @@
 -- The file that the words name, where the shelf shows it.
-use Rattle.std.proofs.Common.{◌≡◌, ℕ, ◌+◌, ◌<◌, ◌≤◌, List, length, Option, None, Some, IfSome, refl, ap, subst, arith, length-append}
+use Rattle.std.proofs.Common.{◌≡◌, ℕ, ◌+◌, ◌<◌, ◌≤◌, List, length, Option, None, Some, IfSome, refl, sym, ap, subst, arith, length-append}
 use Rattle.std.specs.Io.KnownBytes.{Consumes}
 use Rattle.sj_outside.specs.Outside.{Files}
 use Rattle.sj_sql_grammar.specs.declared.refusal.FileKind.{FileKind}
 use Rattle.sj_sql_grammar.specs.Answers.{max_file}
+use Rattle.sj_path_tree.specs.Tree.{Path}
+use Rattle.sj_sql_grammar.specs.Tree.{Statement}
 use Rattle.sj_bound.specs.Bound.{Bound}
 use Rattle.sj_file.specs.declared.job.Keys.{Keys}
-use Rattle.sj_file.specs.File.{ShelfSide, Form, running, checking, generating, file_shown, IsFile, IsTooLong}
-use Rattle.sj_file.specs.Verdict.{Accepts, Refuses}
+use Rattle.sj_file.specs.File.{ShelfSide, Form, running, checking, generating, showing, file_shown, IsFile, IsTooLong}
+use Rattle.sj_file.specs.Verdict.{Accepts, IsReadAs, Refuses}
 use Rattle.sj_file.specs.Accepted.{Accepted, RefusedFile}
-use Rattle.sj_file.specs.Conditions.{IfRuns, IfChecks, IfGenerates}
+use Rattle.sj_file.proofs.Texts.{read_as}
+use Rattle.sj_file.specs.Conditions.{IfRuns, IfChecks, IfGenerates, IfShows}
 
 pub by_some : {A : Type 0} (x : Option A) (P : A → Type 0) → ((y : A) → x ≡ Some y → P y) → IfSome x P
 by_some None P h = tt
@@ -68,6 +71,11 @@ no_long_file (Some gs) fs name left is none long = no_file (Some gs) fs name lon
 pub accepted_as : (name : List ℕ) (s s' : ShelfSide) (K : List Bound) (file : List ℕ) → file_shown s.files (Some name) ≡ Some file → Accepted name s s' K → Accepts file K
 accepted_as name s s' K file shown a = subst (λ (f : List ℕ). Accepts f K) (same_file s.files name file a.file shown a.holds.is) a.accepted
 
+pub accepted_read : (name : List ℕ) (s s' : ShelfSide) (K : List Bound) (file : List ℕ) (T : List (Statement Path)) → file_shown s.files (Some name) ≡ Some file → (a : Accepted name s s' K) → IsReadAs file T
+    → a.accepted.statements ≡ T
+accepted_read name s s' K file T shown a read =
+    sym (read_as a.file K a.accepted T (subst (λ (f : List ℕ). IsReadAs f T) (sym (same_file s.files name file a.file shown a.holds.is)) read))
+
 pub accepted_short : (name : List ℕ) (s s' : ShelfSide) (K : List Bound) (file : List ℕ) → file_shown s.files (Some name) ≡ Some file → Accepted name s s' K → length file ≤ max_file
 accepted_short name s s' K file shown a = subst (λ (f : List ℕ). length f ≤ max_file) (same_file s.files name file a.file shown a.holds.is) a.holds.short
 
@@ -83,6 +91,7 @@ for_run None files P h = by_some (file_shown files None) _ (λ file shown. absur
 for_run (Some (running keys name)) files P h = by_some (file_shown files (Some name)) _ (λ file shown. h keys name file refl shown)
 for_run (Some (checking name)) files P h = by_some (file_shown files None) _ (λ file shown. absurd (no_name files file shown))
 for_run (Some (generating number name)) files P h = by_some (file_shown files None) _ (λ file shown. absurd (no_name files file shown))
+for_run (Some (showing name)) files P h = by_some (file_shown files None) _ (λ file shown. absurd (no_name files file shown))
 
 pub for_check : (f : Option Form) (files : Option Files) (P : List ℕ → Type 0) → ((name file : List ℕ) → f ≡ Some (checking name) → file_shown files (Some name) ≡ Some file → P file)
     → IfChecks f files P
@@ -90,6 +99,7 @@ for_check None files P h = by_some (file_shown files None) _ (λ file shown. abs
 for_check (Some (running keys name)) files P h = by_some (file_shown files None) _ (λ file shown. absurd (no_name files file shown))
 for_check (Some (checking name)) files P h = by_some (file_shown files (Some name)) _ (λ file shown. h name file refl shown)
 for_check (Some (generating number name)) files P h = by_some (file_shown files None) _ (λ file shown. absurd (no_name files file shown))
+for_check (Some (showing name)) files P h = by_some (file_shown files None) _ (λ file shown. absurd (no_name files file shown))
 
 pub for_generated : (f : Option Form) (files : Option Files) (P : ℕ → List ℕ → Type 0) → ((number : ℕ) (name file : List ℕ) → f ≡ Some (generating number name) → file_shown files (Some name) ≡ Some file → P number file)
     → IfGenerates f files P
@@ -97,3 +107,12 @@ for_generated None files P h = by_some (file_shown files None) _ (λ file shown.
 for_generated (Some (running keys name)) files P h = by_some (file_shown files None) _ (λ file shown. absurd (no_name files file shown))
 for_generated (Some (checking name)) files P h = by_some (file_shown files None) _ (λ file shown. absurd (no_name files file shown))
 for_generated (Some (generating number name)) files P h = by_some (file_shown files (Some name)) _ (λ file shown. h number name file refl shown)
+for_generated (Some (showing name)) files P h = by_some (file_shown files None) _ (λ file shown. absurd (no_name files file shown))
+
+pub for_show : (f : Option Form) (files : Option Files) (P : List ℕ → Type 0) → ((name file : List ℕ) → f ≡ Some (showing name) → file_shown files (Some name) ≡ Some file → P file)
+    → IfShows f files P
+for_show None files P h = by_some (file_shown files None) _ (λ file shown. absurd (no_name files file shown))
+for_show (Some (running keys name)) files P h = by_some (file_shown files None) _ (λ file shown. absurd (no_name files file shown))
+for_show (Some (checking name)) files P h = by_some (file_shown files None) _ (λ file shown. absurd (no_name files file shown))
+for_show (Some (generating number name)) files P h = by_some (file_shown files None) _ (λ file shown. absurd (no_name files file shown))
+for_show (Some (showing name)) files P h = by_some (file_shown files (Some name)) _ (λ file shown. h name file refl shown)

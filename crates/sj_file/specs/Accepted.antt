@@ -3,6 +3,7 @@ use Rattle.std.specs.Prelude.{◌≡◌, ℕ, List, length, IsTrue}
 use Rattle.sj_base.specs.Count.{Rose}
 use Rattle.sj_outside.specs.Outside.{HasFile}
 use Rattle.sj_sql_grammar.specs.declared.refusal.FileKind.{FileKind}
+use Rattle.sj_sql_text.specs.Statements.{lines_text}
 use Rattle.sj_bound.specs.Bound.{Bound}
 use Rattle.sj_file.specs.declared.status.Status.{Status}
 use Rattle.sj_file.specs.declared.status.Status.TheVariants.{Done, Usage, Refused, ShelfFault, ReadFault, WriteFault, Memory, InputLimit, FileTooLong}
@@ -18,6 +19,10 @@ pub record Accepted (name : List ℕ) (old new : ShelfSide) (statements : List B
 -- this file was read whole, and so many statements are accepted
 abbrev pub AcceptedSoMany : List ℕ → ShelfSide → ShelfSide → ℕ → Type 0
 AcceptedSoMany name old new count = (statements : List Bound) × Accepted name old new statements × (count ≡ length statements)
+
+-- this file was read whole, its statements are accepted, and this is their canonical text
+abbrev pub AcceptedWithText : List ℕ → ShelfSide → ShelfSide → List ℕ → Type 0
+AcceptedWithText name old new text = (statements : List Bound) × (a : Accepted name old new statements) × (text ≡ lines_text a.accepted.statements)
 
 -- this file was read whole, and statement k is refused
 pub record RefusedFile (name : List ℕ) (old new : ShelfSide) (k : ℕ) (kind : FileKind) : Type 0 where

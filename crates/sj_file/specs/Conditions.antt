@@ -1,12 +1,14 @@
 -- The conditions under which the contract of `run` speaks.
 use Rattle.std.specs.Prelude.{◌≡◌, ◌⊎◌, ℕ, List, Option, IfSome}
 use Rattle.sj_outside.specs.Outside.{Files}
+use Rattle.sj_path_tree.specs.Tree.{Path}
+use Rattle.sj_sql_grammar.specs.Tree.{Statement}
 use Rattle.sj_bound.specs.Bound.{Bound}
 use Rattle.sj_file.specs.declared.job.Keys.{Keys}
 use Rattle.sj_file.specs.declared.status.Status.{Status}
 use Rattle.sj_file.specs.declared.status.Status.TheVariants.{Memory}
-use Rattle.sj_file.specs.File.{Form, file_named, file_run, keys_run, file_checked, file_generated, lines_generated, file_shown}
-use Rattle.sj_file.specs.Verdict.{Accepts}
+use Rattle.sj_file.specs.File.{Form, file_named, file_run, keys_run, file_checked, file_generated, lines_generated, file_to_show, file_shown}
+use Rattle.sj_file.specs.Verdict.{Accepts, IsReadAs}
 
 -- ---- of the words and the shelf
 
@@ -22,6 +24,10 @@ IfChecks asked files P = IfSome (file_shown files (file_checked asked)) P
 abbrev pub IfGenerates : Option Form → Option Files → (ℕ → List ℕ → Type 0) → Type 0
 IfGenerates asked files P = IfSome (file_shown files (file_generated asked)) (P (lines_generated asked))
 
+-- they ask for the canonical text of this file
+abbrev pub IfShows : Option Form → Option Files → (List ℕ → Type 0) → Type 0
+IfShows asked files P = IfSome (file_shown files (file_to_show asked)) P
+
 -- they name this file, whatever is done with it
 abbrev pub IfNames : Option Form → Option Files → (List ℕ → Type 0) → Type 0
 IfNames asked files P = IfSome (file_shown files (file_named asked)) P
@@ -31,6 +37,10 @@ IfNames asked files P = IfSome (file_shown files (file_named asked)) P
 -- it is accepted, and its statements are bound so
 abbrev pub IfAccepted : List ℕ → (List Bound → Type 0) → Type 0
 IfAccepted file P = (statements : List Bound) → Accepts file statements → P statements
+
+-- it is read as these statements, and none is refused for its own text
+abbrev pub IfRead : List ℕ → (List (Statement Path) → Type 0) → Type 0
+IfRead file P = (statements : List (Statement Path)) → IsReadAs file statements → P statements
 
 -- ---- of the end
 

@@ -20,11 +20,12 @@ abbrev pub is_file_name : List ℕ → Bool
 is_file_name [] = false
 is_file_name (x ∷ name) = not (x == 45)
 
--- what the words ask for: the statements of a file are run over the input, or checked, or run over so many generated lines
+-- what the words ask for: the statements of a file are run over the input, or checked, or run over so many generated lines, or shown
 pub data Form : Type 0 where
   running : (keys : Keys) (name : List ℕ) → Form
   checking : (name : List ℕ) → Form
   generating : (number : ℕ) (name : List ℕ) → Form
+  showing : (name : List ℕ) → Form
 
 -- ---- a number of lines: one to six decimal digits
 
@@ -43,11 +44,13 @@ number_of word = if is_number word then Some (number_from 0 word) else None
 
 -- ---- the words
 
--- `run FILE` and `check FILE`
+-- `run FILE`, `check FILE` and `show FILE`
 abbrev pub form_of : List ℕ → List ℕ → Option Form
 form_of word name =
     if is_file_name name
-    then (if bytes_eq word (codes "run") then Some (running Any name) else (if bytes_eq word (codes "check") then Some (checking name) else None))
+    then (if bytes_eq word (codes "run") then Some (running Any name)
+    else (if bytes_eq word (codes "check") then Some (checking name)
+    else (if bytes_eq word (codes "show") then Some (showing name) else None)))
     else None
 
 abbrev pub generating_as : List ℕ → Option ℕ → Option Form
@@ -78,12 +81,14 @@ abbrev pub form_value : declared.Form → Form
 form_value (f.Run keys name) = running keys name.now
 form_value (f.Check name) = checking name.now
 form_value (f.Generated number name) = generating number name.now
+form_value (f.Show name) = showing name.now
 
 -- a number of lines has six digits at most
 abbrev pub IsWithin : declared.Form → Type 0
 IsWithin (f.Run keys name) = Unit {0}
 IsWithin (f.Check name) = Unit {0}
 IsWithin (f.Generated number name) = number ≤ most_lines
+IsWithin (f.Show name) = Unit {0}
 
 -- ---- the file that is named
 
@@ -92,6 +97,7 @@ abbrev pub named_in : Form → Option (List ℕ)
 named_in (running keys name) = Some name
 named_in (checking name) = Some name
 named_in (generating number name) = Some name
+named_in (showing name) = Some name
 
 abbrev pub file_named : Option Form → Option (List ℕ)
 file_named None = None
@@ -103,6 +109,7 @@ file_run None = None
 file_run (Some (running keys name)) = Some name
 file_run (Some (checking name)) = None
 file_run (Some (generating number name)) = None
+file_run (Some (showing name)) = None
 
 -- whether the keys of a line's objects are to be unique
 abbrev pub keys_run : Option Form → Keys
@@ -110,6 +117,7 @@ keys_run None = Any
 keys_run (Some (running keys name)) = keys
 keys_run (Some (checking name)) = Any
 keys_run (Some (generating number name)) = Any
+keys_run (Some (showing name)) = Any
 
 -- where its statements are checked
 abbrev pub file_checked : Option Form → Option (List ℕ)
@@ -117,6 +125,7 @@ file_checked None = None
 file_checked (Some (running keys name)) = None
 file_checked (Some (checking name)) = Some name
 file_checked (Some (generating number name)) = None
+file_checked (Some (showing name)) = None
 
 -- where they are run over generated lines, and how many
 abbrev pub file_generated : Option Form → Option (List ℕ)
@@ -124,12 +133,22 @@ file_generated None = None
 file_generated (Some (running keys name)) = None
 file_generated (Some (checking name)) = None
 file_generated (Some (generating number name)) = Some name
+file_generated (Some (showing name)) = None
 
 abbrev pub lines_generated : Option Form → ℕ
 lines_generated None = 0
 lines_generated (Some (running keys name)) = 0
 lines_generated (Some (checking name)) = 0
 lines_generated (Some (generating number name)) = number
+lines_generated (Some (showing name)) = 0
+
+-- where they are shown
+abbrev pub file_to_show : Option Form → Option (List ℕ)
+file_to_show None = None
+file_to_show (Some (running keys name)) = None
+file_to_show (Some (checking name)) = None
+file_to_show (Some (generating number name)) = None
+file_to_show (Some (showing name)) = Some name
 
 -- the shelf as it is seen at one moment
 pub record ShelfSide : Type 0 where

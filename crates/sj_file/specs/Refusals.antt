@@ -1,5 +1,5 @@
 -- What the functions that take statements ensure.
-use Rattle.std.specs.Prelude.{◌≡◌, ℕ, List, length, Option, Result, Ok, Err}
+use Rattle.std.specs.Prelude.{◌≡◌, ℕ, List, ◌++◌, length, Option, Result, Ok, Err, codes}
 use Rattle.sj_path_tree.specs.Tree.{Path}
 use Rattle.sj_sql_grammar.specs.declared.refusal.FileKind.{FileKind}
 use Rattle.sj_sql_grammar.specs.Answers.{closed}
@@ -7,6 +7,7 @@ use Rattle.sj_sql_grammar.specs.Tree.{Statement}
 use Rattle.sj_sql.specs.declared.answer.Refused.{Refused as RefusedTree}
 use Rattle.sj_sql.specs.declared.answer.Refused.TheVariants as tree
 use Rattle.sj_sql.specs.File.{EndsBy, IsLeft, IsFirst}
+use Rattle.sj_sql_text.specs.Statements.{statement_text, lines_text}
 use Rattle.sj_bound.specs.Bound as b
 use Rattle.sj_bound.specs.Sound.{IsSound}
 use Rattle.sj_bound.specs.View.{bound_of}
@@ -43,11 +44,21 @@ IsNextBound k rest (Ok next.End) = EndsBy rest closed
 IsNextBound k rest (Err (Refused n kind)) = (n ≡ k) × IsVerdictFrom k rest (Err (k, kind))
 IsNextBound k rest (Err Memory) = Unit {0}
 
+-- The same, where the canonical text of the statement on its line was put behind a text.
+abbrev pub IsNextWithText : ℕ → List ℕ → (old new : List ℕ) → Result NextBound FileRefusal → Type 0
+IsNextWithText k rest old new (Ok (next.Statement x behind)) = (f : IsFirstBound rest (bound_of x) behind.now) × (new ≡ old ++ (statement_text f.statement ++ codes "\n"))
+IsNextWithText k rest old new (Ok next.End) = EndsBy rest closed × (new ≡ old)
+IsNextWithText k rest old new (Err refusal) = IsNextBound k rest (Err refusal)
+
 -- ---- the whole file
 
 -- it is accepted, and has so many statements
 abbrev pub AcceptsSoMany : List ℕ → ℕ → Type 0
 AcceptsSoMany file count = (statements : List b.Bound) × Accepts file statements × (count ≡ length statements)
+
+-- it is accepted, and its statements have this canonical text
+abbrev pub AcceptsWithText : List ℕ → List ℕ → Type 0
+AcceptsWithText file text = (statements : List b.Bound) × (a : Accepts file statements) × (text ≡ lines_text a.statements)
 
 -- it is refused so; being out of memory says nothing of it
 abbrev pub IsRefused : List ℕ → FileRefusal → Type 0

@@ -42,6 +42,10 @@ pub record IsVerdict (file : List ℕ) (verdict : Result (List Bound) (ℕ × Fi
   pub read : IsFile (lexed file) statements refusal
   pub is : verdict ≡ judged 1 statements refusal
 
+-- the file is read as these statements, whatever the rules of binding say of them
+abbrev pub IsReadAs : List ℕ → List (Statement Path) → Type 0
+IsReadAs file statements = IsFile (lexed file) statements None
+
 -- the file is accepted, and its statements are bound so
 abbrev pub Accepts : List ℕ → List Bound → Type 0
 Accepts file statements = IsVerdict file (Ok statements)

@@ -29,9 +29,11 @@ pub enum Form<'a> {
     Check(&'a str),
     /// `selfrun N FILE`: its statements are run over so many generated lines, 999,999 at most.
     Generated(u32, &'a str),
+    /// `show FILE`: the canonical text of its statements is written.
+    Show(&'a str),
 }
 
-/// What the words ask for, or nothing if they are of none of the four forms. The words are those behind the name of the
+/// What the words ask for, or nothing if they are of none of the forms. The words are those behind the name of the
 /// program.
 ///
 /// Example: `run f` asks for a run, and `selfrun 1234567 f` for nothing (`checks/rows/words.txt`).
@@ -57,6 +59,8 @@ fn form_of_two<'a>(word: &str, name: &'a str) -> Option<Form<'a>>
         Some(Form::Run(Keys::Any, name))
     } else if word == "check" {
         Some(Form::Check(name))
+    } else if word == "show" {
+        Some(Form::Show(name))
     } else {
         None
     }

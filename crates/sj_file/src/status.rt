@@ -9,7 +9,7 @@ use sj_sql::FileKind;
 pub enum Status {
     /// All was done that the words ask for. No call on the shelf, the input or the output failed.
     Done,
-    /// The words are of none of the four forms. No file was opened.
+    /// The words are of none of the forms. No file was opened.
     Usage,
     /// The statement of this number is the first that is refused, counted from 1, and this is the reason.
     Refused(u32, FileKind),

@@ -1,14 +1,18 @@
 // What is made of a file of statements, which are read and bound one after the other.
-ghost use Rattle.std.specs.Prelude.{◌≡◌, ◌<◌, ◌≤◌, length, map, IfOk, IfErr};
+ghost use Rattle.std.specs.Prelude.{◌≡◌, ◌<◌, ◌≤◌, ◌++◌, length, map, codes, IfOk, IfErr, OnOk};
+ghost use Rattle.sj_sql_tree.specs.View.{statement_of};
+ghost use Rattle.sj_sql_text.specs.Statements.{statement_text as statement_printed};
 ghost use Rattle.sj_bound.specs.View.{bound_of};
 ghost use Rattle.sj_sql_grammar.specs.Answers.{max_file};
 ghost use Rattle.sj_file.specs.Job.{AreSound, statement_limit};
 ghost use Rattle.sj_file.specs.Verdict.{Accepts};
-ghost use Rattle.sj_file.specs.Refusals.{AcceptsSoMany, IsNextBound, IsRefused, refusal_of};
+ghost use Rattle.sj_file.specs.Refusals.{AcceptsSoMany, AcceptsWithText, IsNextBound, IsNextWithText, IsRefused, refusal_of};
 
 use crate::job::FileRefusal;
+use sj_base::{Bytes, Memory};
 use sj_bind::{BindRefusal, Bound, bind};
-use sj_sql::{FileKind, NextStatement, Refused, next_statement};
+use sj_sql::{FileKind, NextStatement, Refused, Statement, next_statement};
+use sj_sql_text::statement_text;
 use std::alloc::Global;
 
 /// What is left of a file begins with.
@@ -69,6 +73,66 @@ pub(crate) fn statements_of(alloc: Global, file: &[u8]) -> Result<Vec<Bound>, Fi
                 rest = behind;
             }
             Ok(NextBound::End) => return Ok(statements),
+            Err(refusal) => return Err(refusal),
+        }
+    }
+}
+
+/// Puts the canonical text of a statement behind `text`, on a line of its own.
+fn put_line(alloc: Global, statement: &Statement, text: &mut Bytes) -> Result<(), Memory>
+    ensures { OnOk result (text.new ≡ text.old ++ (statement_printed (statement_of statement.now) ++ codes "\n")) }
+{
+    statement_text(alloc, statement, text)?;
+    text.push(b"\n")
+}
+
+/// The first statement of what is left of a file as it is bound, where it has this number, and its canonical text behind
+/// `text`.
+fn next_with_text<'a>(
+    alloc: Global,
+    rest: &'a [u8],
+    number: u32,
+    text: &mut Bytes,
+) -> Result<NextBound<'a>, FileRefusal>
+    ensures { IsNextWithText number rest.now text.old text.new result }
+{
+    match next_statement(alloc, rest) {
+        Ok(NextStatement::Statement(statement, behind)) => {
+            match put_line(alloc, &statement, text) {
+                Ok(()) => {}
+                Err(Memory) => return Err(FileRefusal::Memory),
+            }
+            match bind(alloc, statement) {
+                Ok(bound) => Ok(NextBound::Statement(bound, behind)),
+                Err(BindRefusal::Kind(why)) => {
+                    Err(FileRefusal::Refused(number, FileKind::Bind(why)))
+                }
+                Err(BindRefusal::Memory) => Err(FileRefusal::Memory),
+            }
+        }
+        Ok(NextStatement::End) => Ok(NextBound::End),
+        Err(refused) => Err(refusal_of(number, refused)),
+    }
+}
+
+/// The canonical text of the statements of a file, each on a line, or why the file is refused. Each statement is given up
+/// before the next is read.
+pub(crate) fn text_of(alloc: Global, file: &[u8]) -> Result<Bytes, FileRefusal>
+    requires { length file.now ≤ max_file }
+    ensures accepted { IfOk result (λ text. AcceptsWithText file.now text) }
+    ensures refused { IfErr result (λ refusal. IsRefused file.now refusal) }
+{
+    let mut text = Bytes::new(alloc);
+    let mut rest = file;
+    let mut count: u32 = 0;
+    loop {
+        match next_with_text(alloc, rest, count + 1, &mut text) {
+            Ok(NextBound::Statement(bound, behind)) => {
+                drop(bound);
+                count += 1;
+                rest = behind;
+            }
+            Ok(NextBound::End) => return Ok(text),
             Err(refusal) => return Err(refusal),
         }
     }

@@ -5,6 +5,9 @@ use Rattle.std.specs.Io.KnownBytes.{Consumes, IsAtEnd}
 use Rattle.sj_base.specs.Count.{Rose, raised}
 use Rattle.sj_outside.specs.Outside.{HasFile}
 use Rattle.sj_sql_grammar.specs.declared.refusal.FileKind.{FileKind}
+use Rattle.sj_path_tree.specs.Tree.{Path}
+use Rattle.sj_sql_grammar.specs.Tree.{Statement}
+use Rattle.sj_sql_text.specs.Statements.{lines_text}
 use Rattle.sj_bound.specs.Bound.{Bound}
 use Rattle.sj_generated.specs.Lines.{generated}
 use Rattle.sj_page.specs.Sides.{OutputSide, Grew}
@@ -18,11 +21,11 @@ use Rattle.sj_file.specs.declared.job.Keys.TheVariants.{Any}
 use Rattle.sj_file.specs.declared.status.Status.{Status}
 use Rattle.sj_file.specs.declared.status.Status.TheVariants.{Done, Usage, Refused, ShelfFault, ReadFault, WriteFault, Memory, InputLimit, FileTooLong}
 use Rattle.sj_file.specs.Piece.{max_piece}
-use Rattle.sj_file.specs.File.{ShelfSide, Form, running, checking, generating, named_in, file_named, file_run, file_shown}
-use Rattle.sj_file.specs.Verdict.{Accepts, Refuses}
-use Rattle.sj_file.specs.Conditions.{IfRuns, IfChecks, IfGenerates, IfNames, IfAccepted, IsOrMemory}
+use Rattle.sj_file.specs.File.{ShelfSide, Form, running, checking, generating, showing, named_in, file_named, file_run, file_shown}
+use Rattle.sj_file.specs.Verdict.{Accepts, IsReadAs, Refuses}
+use Rattle.sj_file.specs.Conditions.{IfRuns, IfChecks, IfGenerates, IfShows, IfNames, IfAccepted, IfRead, IsOrMemory}
 use Rattle.sj_file.proofs.Verdicts.{one_accepted, not_both}
-use Rattle.sj_file.proofs.ShownFiles.{by_some, no_name, past_limit, long_file, left_of, no_file, accepted_as, accepted_short, refused_as, for_run, for_check, for_generated}
+use Rattle.sj_file.proofs.ShownFiles.{by_some, no_name, past_limit, long_file, left_of, no_file, accepted_as, accepted_read, accepted_short, refused_as, for_run, for_check, for_generated, for_show}
 use Rattle.sj_file.proofs.Unaccepted.{only_memory, this_refusal, too_long_alone, absent_alone}
 use Rattle.sj_stream.specs.Input.{InputSide}
 use Rattle.sj_stream.specs.LineJob.{LineJob, output, whole_output, allowed}
@@ -36,9 +39,10 @@ use Rattle.sj_stream.proofs.Streaming.{whole_output-append, output-end, prefix_t
 -- ---- what was done
 
 -- it was done with the statements of the file
-does_with : (f : Form) (name : List ℕ) (b a : Moment) (status : Status) (file : List ℕ) (K : List Bound) → file_shown b.shelf.files (Some name) ≡ Some file → Accepts file K → Did f name b a status → Does f K b.input a.input b.out a.out status
+does_with : (f : Form) (name : List ℕ) (b a : Moment) (status : Status) (file : List ℕ) (K : List Bound) → file_shown b.shelf.files (Some name) ≡ Some file → Accepts file K → (d : Did f name b a status)
+    → Does f d.accepted.accepted.statements K b.input a.input b.out a.out status
 does_with f name b a status file K shown accepts d =
-    subst (λ (k : List Bound). Does f k b.input a.input b.out a.out status) (one_accepted file d.statements K (accepted_as name b.shelf a.shelf d.statements file shown d.accepted) accepts) d.does
+    subst (λ (k : List Bound). Does f d.accepted.accepted.statements k b.input a.input b.out a.out status) (one_accepted file d.statements K (accepted_as name b.shelf a.shelf d.statements file shown d.accepted) accepts) d.does
 
 why_not_before : (K : LineJob) (i i' : InputSide) (o : OutputSide) (o' : PrintState) (bytes text : List ℕ) (status : Status) → IsWhy K i i' o o' bytes text status → IsBefore status → ⊥
 why_not_before K i i' o o' bytes text Done why is = is
@@ -65,18 +69,19 @@ tells_not_before text o o' ShelfFault why is = why
 tells_not_before text o o' FileTooLong why is = why
 tells_not_before text o o' (Refused k kind) why is = why
 
-not_before : (f : Form) (K : List Bound) (i i' : InputSide) (o o' : OutputSide) (status : Status) → Does f K i i' o o' status → IsBefore status → ⊥
-not_before (running keys name) K i i' o o' status d is = streamed_not_before (job keys K) i i' o (record { out = o'; page = d.0 }) status d.1 is
-not_before (checking name) K i i' o o' status d is = tells_not_before (accepted_text K) o o' status d.1 is
-not_before (generating number name) K i i' o o' status d is = tells_not_before (summary_text number K) o o' status d.1 is
+not_before : (f : Form) (T : List (Statement Path)) (K : List Bound) (i i' : InputSide) (o o' : OutputSide) (status : Status) → Does f T K i i' o o' status → IsBefore status → ⊥
+not_before (running keys name) T K i i' o o' status d is = streamed_not_before (job keys K) i i' o (record { out = o'; page = d.0 }) status d.1 is
+not_before (checking name) T K i i' o o' status d is = tells_not_before (accepted_text K) o o' status d.1 is
+not_before (generating number name) T K i i' o o' status d is = tells_not_before (summary_text number K) o o' status d.1 is
+not_before (showing name) T K i i' o o' status d is = tells_not_before (lines_text T) o o' status d.1 is
 
 -- ---- by the form
 
 -- either no file was accepted, or this was done with its statements
 either : (f : Form) (name : List ℕ) (b a : Moment) (status : Status) (file : List ℕ) (K : List Bound) (Q : Type 0) → file_shown b.shelf.files (Some name) ≡ Some file → Accepts file K → RanOver f (Some name) b a status
-    → (Idle name b a status → Q) → (Does f K b.input a.input b.out a.out status → Q) → Q
+    → (Idle name b a status → Q) → ((T : List (Statement Path)) → Does f T K b.input a.input b.out a.out status → Q) → Q
 either f name b a status file K Q shown accepts (inl idle) h g = h idle
-either f name b a status file K Q shown accepts (inr d) h g = g (does_with f name b a status file K shown accepts d)
+either f name b a status file K Q shown accepts (inr d) h g = g d.accepted.accepted.statements (does_with f name b a status file K shown accepts d)
 
 -- What holds where no file was accepted, and where its statements were run, holds of a run. So for the other two forms.
 on_run : (f : Option Form) (b a : Moment) (status : Status) (P : Keys → List Bound → Type 0) → Ran f b a status
@@ -86,7 +91,7 @@ on_run : (f : Option Form) (b a : Moment) (status : Status) (P : Keys → List B
 on_run f b a status P r idle ran =
     for_run f b.shelf.files (λ keys file. IfAccepted file (P keys))
     (λ keys name file is shown K accepts.
-    either (running keys name) name b a status file K (P keys K) shown accepts (subst (λ (x : Option Form). Ran x b a status) is r) (idle keys K name) (λ d. ran keys K d.0 d.1))
+    either (running keys name) name b a status file K (P keys K) shown accepts (subst (λ (x : Option Form). Ran x b a status) is r) (idle keys K name) (λ T d. ran keys K d.0 d.1))
 
 on_check : (f : Option Form) (b a : Moment) (status : Status) (P : List Bound → Type 0) → Ran f b a status
     → ((K : List Bound) (name : List ℕ) → Idle name b a status → P K) → ((K : List Bound) → Tells (accepted_text K) b.out a.out status → P K)
@@ -94,7 +99,7 @@ on_check : (f : Option Form) (b a : Moment) (status : Status) (P : List Bound �
 on_check f b a status P r idle told =
     for_check f b.shelf.files (λ file. IfAccepted file P)
     (λ name file is shown K accepts.
-    either (checking name) name b a status file K (P K) shown accepts (subst (λ (x : Option Form). Ran x b a status) is r) (idle K name) (λ d. told K d.1))
+    either (checking name) name b a status file K (P K) shown accepts (subst (λ (x : Option Form). Ran x b a status) is r) (idle K name) (λ T d. told K d.1))
 
 on_generated : (f : Option Form) (b a : Moment) (status : Status) (P : ℕ → List Bound → Type 0) → Ran f b a status
     → ((number : ℕ) (K : List Bound) (name : List ℕ) → Idle name b a status → P number K)
@@ -103,7 +108,20 @@ on_generated : (f : Option Form) (b a : Moment) (status : Status) (P : ℕ → L
 on_generated f b a status P r idle told =
     for_generated f b.shelf.files (λ number file. IfAccepted file (P number))
     (λ number name file is shown K accepts.
-    either (generating number name) name b a status file K (P number K) shown accepts (subst (λ (x : Option Form). Ran x b a status) is r) (idle number K name) (λ d. told number K d.0 d.1))
+    either (generating number name) name b a status file K (P number K) shown accepts (subst (λ (x : Option Form). Ran x b a status) is r) (idle number K name) (λ T d. told number K d.0 d.1))
+
+-- What holds where no file was accepted, and where its canonical text was told, holds of a file that is shown.
+on_show : (f : Option Form) (b a : Moment) (status : Status) (P : List (Statement Path) → Type 0) → Ran f b a status
+    → ((T : List (Statement Path)) (name : List ℕ) → Idle name b a status → P T) → ((T : List (Statement Path)) → Tells (lines_text T) b.out a.out status → P T)
+    → IfShows f b.shelf.files (λ file. IfRead file P)
+on_show f b a status P r idle told =
+    for_show f b.shelf.files (λ file. IfRead file P)
+    (λ name file is shown T read. go name file T shown read (subst (λ (x : Option Form). Ran x b a status) is r))
+  where
+    go : (name file : List ℕ) (T : List (Statement Path)) → file_shown b.shelf.files (Some name) ≡ Some file → IsReadAs file T → RanOver (showing name) (Some name) b a status → P T
+    go name file T shown read (inl i) = idle T name i
+    go name file T shown read (inr d) =
+        told T (subst (λ (t : List (Statement Path)). Tells (lines_text t) b.out a.out status) (accepted_read name b.shelf a.shelf d.statements file T shown d.accepted read) d.does.1)
 
 -- ---- runs over the input
 
@@ -223,6 +241,7 @@ ran_to_end (Some (running keys name)) b a status r so = at_end (subst (Ran (Some
     at_end (inr d) = d.does.1.why.1
 ran_to_end (Some (checking name)) b a status r so = tt
 ran_to_end (Some (generating number name)) b a status r so = tt
+ran_to_end (Some (showing name)) b a status r so = tt
 
 -- ---- when a command is done
 
@@ -250,7 +269,7 @@ ran_completes f b a status r shelf read out =
     (λ keys name file is shown short K accepts. by_some b.input.left _ (λ all left fits.
     either (running keys name) name b a status file K _ shown accepts (subst (λ (x : Option Form). Ran x b a status) is r)
     (λ idle. inr (only_memory name b.shelf a.shelf status file K shown accepts short shelf idle.why))
-    (λ d. streamed_complete (job keys K) b.input a.input b.out (record { out = a.out; page = d.0 }) status all left fits read out d.1)))
+    (λ T d. streamed_complete (job keys K) b.input a.input b.out (record { out = a.out; page = d.0 }) status all left fits read out d.1)))
 
 tells_complete : (text : List ℕ) (o o' : OutputSide) (status : Status) → (Rose o.faults o'.faults → ⊥) → Tells text o o' status → IsOrMemory status Done
 tells_complete text o o' Done out t = inl refl
@@ -293,7 +312,28 @@ ran_check_completes f b a status r shelf out =
     for_check f b.shelf.files (λ file. length file ≤ max_file → IfAccepted file (λ K. IsOrMemory status Done))
     (λ name file is shown short K accepts.
     either (checking name) name b a status file K _ shown accepts (subst (λ (x : Option Form). Ran x b a status) is r)
-    (λ idle. inr (only_memory name b.shelf a.shelf status file K shown accepts short shelf idle.why)) (λ d. tells_complete (accepted_text K) b.out a.out status out d.1))
+    (λ idle. inr (only_memory name b.shelf a.shelf status file K shown accepts short shelf idle.why)) (λ T d. tells_complete (accepted_text K) b.out a.out status out d.1))
+
+-- ---- canonical texts
+
+pub ran_shown : (f : Option Form) (b a : Moment) (status : Status) → Ran f b a status → status ≡ Done
+    → IfShows f b.shelf.files (λ file. IfRead file (λ T. Grew b.out a.out (lines_text T)))
+ran_shown f b a status r so =
+    on_show f b a Done (λ T. Grew b.out a.out (lines_text T)) (subst (Ran f b a) so r) (λ T name idle. absurd idle.why) (λ T t. t.0)
+
+pub ran_show_front : (f : Option Form) (b a : Moment) (status : Status) → Ran f b a status
+    → IfShows f b.shelf.files (λ file. IfRead file (λ T. IsFrontOf (lines_text T) b.out a.out))
+ran_show_front f b a status r =
+    on_show f b a status (λ T. IsFrontOf (lines_text T) b.out a.out) r
+    (λ T name idle. idle_front (lines_text T) b.out a.out idle.out) (λ T t. tells_front (lines_text T) b.out a.out status t)
+
+pub ran_show_completes : (f : Option Form) (b a : Moment) (status : Status) → Ran f b a status → (Rose b.shelf.faults a.shelf.faults → ⊥) → (Rose b.out.faults a.out.faults → ⊥)
+    → IfShows f b.shelf.files (λ file. length file ≤ max_file → IfAccepted file (λ K. IsOrMemory status Done))
+ran_show_completes f b a status r shelf out =
+    for_show f b.shelf.files (λ file. length file ≤ max_file → IfAccepted file (λ K. IsOrMemory status Done))
+    (λ name file is shown short K accepts.
+    either (showing name) name b a status file K _ shown accepts (subst (λ (x : Option Form). Ran x b a status) is r)
+    (λ idle. inr (only_memory name b.shelf a.shelf status file K shown accepts short shelf idle.why)) (λ T d. tells_complete (lines_text T) b.out a.out status out d.1))
 
 -- ---- runs over generated lines
 
@@ -314,7 +354,7 @@ ran_generated_completes f b a status r shelf out =
     for_generated f b.shelf.files (λ number file. length file ≤ max_file → IfAccepted file (λ K. IsOrMemory status Done))
     (λ number name file is shown short K accepts.
     either (generating number name) name b a status file K _ shown accepts (subst (λ (x : Option Form). Ran x b a status) is r)
-    (λ idle. inr (only_memory name b.shelf a.shelf status file K shown accepts short shelf idle.why)) (λ d. tells_complete (summary_text number K) b.out a.out status out d.1))
+    (λ idle. inr (only_memory name b.shelf a.shelf status file K shown accepts short shelf idle.why)) (λ T d. tells_complete (summary_text number K) b.out a.out status out d.1))
 
 idle_steps : (i i' : InputSide) (n : ℕ) → i' ≡ i → i'.steps ≤ raised i.steps n
 idle_steps i i' n same = subst (λ (p : InputSide). p.steps ≤ raised i.steps n) (sym same) (raised_none i.steps n)
@@ -346,9 +386,9 @@ ran_refused None b a status r k kind is = absurd (cc (r.0, is))
 ran_refused (Some f) b a status r k kind is = over (named_in f) (subst (Ran (Some f) b a) is r)
   where
     over : (named : Option (List ℕ)) → RanOver f named b a (Refused k kind) → (a.shelf.faults ≡ b.shelf.faults) × IfSome (file_shown b.shelf.files named) (λ file. (length file ≤ max_file) × Refuses file k kind)
-    over None d = absurd (not_before f [] b.input a.input b.out a.out (Refused k kind) d.does tt)
+    over None d = absurd (not_before f [] [] b.input a.input b.out a.out (Refused k kind) d.does tt)
     over (Some name) (inl idle) = (idle.why.holds.no_fault, by_some (file_shown b.shelf.files (Some name)) _ (λ file shown. refused_as name b.shelf a.shelf k kind file shown idle.why))
-    over (Some name) (inr d) = absurd (not_before f d.statements b.input a.input b.out a.out (Refused k kind) d.does tt)
+    over (Some name) (inr d) = absurd (not_before f d.accepted.accepted.statements d.statements b.input a.input b.out a.out (Refused k kind) d.does tt)
 
 -- ---- files that are too long or absent
 
@@ -358,9 +398,9 @@ ran_too_long None b a status r is = absurd (cc (r.0, is))
 ran_too_long (Some f) b a status r is = over (named_in f) (subst (Ran (Some f) b a) is r)
   where
     over : (named : Option (List ℕ)) → RanOver f named b a FileTooLong → (a.shelf.faults ≡ b.shelf.faults) × IfSome (file_shown b.shelf.files named) (λ file. max_file < length file)
-    over None d = absurd (not_before f [] b.input a.input b.out a.out FileTooLong d.does tt)
+    over None d = absurd (not_before f [] [] b.input a.input b.out a.out FileTooLong d.does tt)
     over (Some name) (inl idle) = (idle.why.1, by_some (file_shown b.shelf.files (Some name)) _ (λ file shown. long_file b.shelf.files name file a.shelf.left shown idle.why.0))
-    over (Some name) (inr d) = absurd (not_before f d.statements b.input a.input b.out a.out FileTooLong d.does tt)
+    over (Some name) (inr d) = absurd (not_before f d.accepted.accepted.statements d.statements b.input a.input b.out a.out FileTooLong d.does tt)
 
 -- no more of it was read than the first byte past the limit
 pub ran_too_long_reads : (f : Option Form) (b a : Moment) (status : Status) → Ran f b a status → status ≡ FileTooLong
@@ -369,9 +409,9 @@ ran_too_long_reads None b a status r is = absurd (cc (r.0, is))
 ran_too_long_reads (Some f) b a status r is = over (named_in f) (subst (Ran (Some f) b a) is r)
   where
     over : (named : Option (List ℕ)) → RanOver f named b a FileTooLong → IfSome (file_shown b.shelf.files named) (λ file. IfSome a.shelf.left (λ rest. length file ≡ max_file + 1 + length rest))
-    over None d = absurd (not_before f [] b.input a.input b.out a.out FileTooLong d.does tt)
+    over None d = absurd (not_before f [] [] b.input a.input b.out a.out FileTooLong d.does tt)
     over (Some name) (inl idle) = by_some (file_shown b.shelf.files (Some name)) _ (λ file shown. by_some a.shelf.left _ (λ rest left. left_of file a.shelf.left rest left (past_limit b.shelf.files name file a.shelf.left shown idle.why.0)))
-    over (Some name) (inr d) = absurd (not_before f d.statements b.input a.input b.out a.out FileTooLong d.does tt)
+    over (Some name) (inr d) = absurd (not_before f d.accepted.accepted.statements d.statements b.input a.input b.out a.out FileTooLong d.does tt)
 
 pub ran_finds_too_long : (f : Option Form) (b a : Moment) (status : Status) → Ran f b a status → (Rose b.shelf.faults a.shelf.faults → ⊥)
     → IfNames f b.shelf.files (λ file. max_file < length file → IsOrMemory status FileTooLong)
@@ -400,9 +440,9 @@ pub not_usage : (f : Form) (named : Option (List ℕ)) (b a : Moment) (status : 
 not_usage f named b a status r is = over named (subst (RanOver f named b a) is r)
   where
     over : (named : Option (List ℕ)) → RanOver f named b a Usage → ⊥
-    over None d = not_before f [] b.input a.input b.out a.out Usage d.does tt
+    over None d = not_before f [] [] b.input a.input b.out a.out Usage d.does tt
     over (Some name) (inl idle) = idle.why
-    over (Some name) (inr d) = not_before f d.statements b.input a.input b.out a.out Usage d.does tt
+    over (Some name) (inr d) = not_before f d.accepted.accepted.statements d.statements b.input a.input b.out a.out Usage d.does tt
 
 pub ran_usage : (f : Option Form) (b a : Moment) (status : Status) → Ran f b a status → (status ≡ Usage) ↔ (f ≡ None)
 ran_usage None b a status r = (λ _. refl, λ _. r.0)
@@ -413,9 +453,9 @@ ran_shelf_fault None b a status r is = absurd (cc (r.0, is))
 ran_shelf_fault (Some f) b a status r is = over (named_in f) (subst (Ran (Some f) b a) is r)
   where
     over : (named : Option (List ℕ)) → RanOver f named b a ShelfFault → Rose b.shelf.faults a.shelf.faults
-    over None d = absurd (not_before f [] b.input a.input b.out a.out ShelfFault d.does tt)
+    over None d = absurd (not_before f [] [] b.input a.input b.out a.out ShelfFault d.does tt)
     over (Some name) (inl idle) = idle.why.0
-    over (Some name) (inr d) = absurd (not_before f d.statements b.input a.input b.out a.out ShelfFault d.does tt)
+    over (Some name) (inr d) = absurd (not_before f d.accepted.accepted.statements d.statements b.input a.input b.out a.out ShelfFault d.does tt)
 
 pub ran_quiet : (f : Option Form) (b a : Moment) (status : Status) → Ran f b a status → IsTrue b.shelf.quiet → IfSome (file_named f) (λ name. HasFile b.shelf.files name → status ≡ ShelfFault → ⊥)
 ran_quiet None b a status r quiet = tt
@@ -427,54 +467,58 @@ ran_quiet (Some f) b a status r quiet = over (named_in f) r
       where
         by_fault : HasFile b.shelf.files name → RanOver f (Some name) b a ShelfFault → ⊥
         by_fault has (inl idle) = idle.why.1 quiet has
-        by_fault has (inr d) = not_before f d.statements b.input a.input b.out a.out ShelfFault d.does tt
+        by_fault has (inr d) = not_before f d.accepted.accepted.statements d.statements b.input a.input b.out a.out ShelfFault d.does tt
 
-read_rose : (f : Form) (K : List Bound) (i i' : InputSide) (o o' : OutputSide) → Does f K i i' o o' ReadFault → Rose i.faults i'.faults × (o'.faults ≡ o.faults)
-read_rose (running keys name) K i i' o o' d = (d.1.why.1, d.1.why.2)
-read_rose (checking name) K i i' o o' d = absurd d.1
-read_rose (generating number name) K i i' o o' d = absurd d.1
+read_rose : (f : Form) (T : List (Statement Path)) (K : List Bound) (i i' : InputSide) (o o' : OutputSide) → Does f T K i i' o o' ReadFault → Rose i.faults i'.faults × (o'.faults ≡ o.faults)
+read_rose (running keys name) T K i i' o o' d = (d.1.why.1, d.1.why.2)
+read_rose (checking name) T K i i' o o' d = absurd d.1
+read_rose (generating number name) T K i i' o o' d = absurd d.1
+read_rose (showing name) T K i i' o o' d = absurd d.1
 
 pub ran_read_rose : (f : Option Form) (b a : Moment) (status : Status) → Ran f b a status → status ≡ ReadFault → Rose b.input.faults a.input.faults × (a.out.faults ≡ b.out.faults)
 ran_read_rose None b a status r is = absurd (cc (r.0, is))
 ran_read_rose (Some f) b a status r is = over (named_in f) (subst (Ran (Some f) b a) is r)
   where
     over : (named : Option (List ℕ)) → RanOver f named b a ReadFault → Rose b.input.faults a.input.faults × (a.out.faults ≡ b.out.faults)
-    over None d = read_rose f [] b.input a.input b.out a.out d.does
+    over None d = read_rose f [] [] b.input a.input b.out a.out d.does
     over (Some name) (inl idle) = absurd idle.why
-    over (Some name) (inr d) = read_rose f d.statements b.input a.input b.out a.out d.does
+    over (Some name) (inr d) = read_rose f d.accepted.accepted.statements d.statements b.input a.input b.out a.out d.does
 
-write_rose : (f : Form) (K : List Bound) (i i' : InputSide) (o o' : OutputSide) → Does f K i i' o o' WriteFault → Rose o.faults o'.faults × (i'.faults ≡ i.faults)
-write_rose (running keys name) K i i' o o' d = (d.1.why.1, d.1.why.2)
-write_rose (checking name) K i i' o o' d = (d.1.1, ap (λ (p : InputSide). p.faults) d.0)
-write_rose (generating number name) K i i' o o' d = (d.1.1, d.0.faults)
+write_rose : (f : Form) (T : List (Statement Path)) (K : List Bound) (i i' : InputSide) (o o' : OutputSide) → Does f T K i i' o o' WriteFault → Rose o.faults o'.faults × (i'.faults ≡ i.faults)
+write_rose (running keys name) T K i i' o o' d = (d.1.why.1, d.1.why.2)
+write_rose (checking name) T K i i' o o' d = (d.1.1, ap (λ (p : InputSide). p.faults) d.0)
+write_rose (generating number name) T K i i' o o' d = (d.1.1, d.0.faults)
+write_rose (showing name) T K i i' o o' d = (d.1.1, ap (λ (p : InputSide). p.faults) d.0)
 
 pub ran_write_rose : (f : Option Form) (b a : Moment) (status : Status) → Ran f b a status → status ≡ WriteFault → Rose b.out.faults a.out.faults × (a.input.faults ≡ b.input.faults)
 ran_write_rose None b a status r is = absurd (cc (r.0, is))
 ran_write_rose (Some f) b a status r is = over (named_in f) (subst (Ran (Some f) b a) is r)
   where
     over : (named : Option (List ℕ)) → RanOver f named b a WriteFault → Rose b.out.faults a.out.faults × (a.input.faults ≡ b.input.faults)
-    over None d = write_rose f [] b.input a.input b.out a.out d.does
+    over None d = write_rose f [] [] b.input a.input b.out a.out d.does
     over (Some name) (inl idle) = absurd idle.why
-    over (Some name) (inr d) = write_rose f d.statements b.input a.input b.out a.out d.does
+    over (Some name) (inr d) = write_rose f d.accepted.accepted.statements d.statements b.input a.input b.out a.out d.does
 
-no_fault : (f : Form) (K : List Bound) (i i' : InputSide) (o o' : OutputSide) → Does f K i i' o o' Done → (i'.faults ≡ i.faults) × (o'.faults ≡ o.faults)
-no_fault (running keys name) K i i' o o' d = (d.1.why.3, d.1.why.4)
-no_fault (checking name) K i i' o o' d = (ap (λ (p : InputSide). p.faults) d.0, d.1.1)
-no_fault (generating number name) K i i' o o' d = (d.0.faults, d.1.1)
+no_fault : (f : Form) (T : List (Statement Path)) (K : List Bound) (i i' : InputSide) (o o' : OutputSide) → Does f T K i i' o o' Done → (i'.faults ≡ i.faults) × (o'.faults ≡ o.faults)
+no_fault (running keys name) T K i i' o o' d = (d.1.why.3, d.1.why.4)
+no_fault (checking name) T K i i' o o' d = (ap (λ (p : InputSide). p.faults) d.0, d.1.1)
+no_fault (generating number name) T K i i' o o' d = (d.0.faults, d.1.1)
+no_fault (showing name) T K i i' o o' d = (ap (λ (p : InputSide). p.faults) d.0, d.1.1)
 
 pub ran_done : (f : Option Form) (b a : Moment) (status : Status) → Ran f b a status → status ≡ Done → (a.shelf.faults ≡ b.shelf.faults) × (a.input.faults ≡ b.input.faults) × (a.out.faults ≡ b.out.faults)
 ran_done None b a status r is = absurd (cc (r.0, is))
 ran_done (Some f) b a status r is = over (named_in f) (subst (Ran (Some f) b a) is r)
   where
     over : (named : Option (List ℕ)) → RanOver f named b a Done → (a.shelf.faults ≡ b.shelf.faults) × (a.input.faults ≡ b.input.faults) × (a.out.faults ≡ b.out.faults)
-    over None d = let same = no_fault f [] b.input a.input b.out a.out d.does in (ap (λ (s : ShelfSide). s.faults) d.shelf, same.0, same.1)
+    over None d = let same = no_fault f [] [] b.input a.input b.out a.out d.does in (ap (λ (s : ShelfSide). s.faults) d.shelf, same.0, same.1)
     over (Some name) (inl idle) = absurd idle.why
-    over (Some name) (inr d) = let same = no_fault f d.statements b.input a.input b.out a.out d.does in (d.accepted.holds.no_fault, same.0, same.1)
+    over (Some name) (inr d) = let same = no_fault f d.accepted.accepted.statements d.statements b.input a.input b.out a.out d.does in (d.accepted.holds.no_fault, same.0, same.1)
 
-no_fault_before : (f : Form) (K : List Bound) (i i' : InputSide) (o o' : OutputSide) → Does f K i i' o o' Memory → (i'.faults ≡ i.faults) × (o'.faults ≡ o.faults)
-no_fault_before (running keys name) K i i' o o' d = (d.1.why.1, d.1.why.2)
-no_fault_before (checking name) K i i' o o' d = (ap (λ (p : InputSide). p.faults) d.0, ap (λ (p : OutputSide). p.faults) d.1)
-no_fault_before (generating number name) K i i' o o' d = (d.0.faults, ap (λ (p : OutputSide). p.faults) d.1)
+no_fault_before : (f : Form) (T : List (Statement Path)) (K : List Bound) (i i' : InputSide) (o o' : OutputSide) → Does f T K i i' o o' Memory → (i'.faults ≡ i.faults) × (o'.faults ≡ o.faults)
+no_fault_before (running keys name) T K i i' o o' d = (d.1.why.1, d.1.why.2)
+no_fault_before (checking name) T K i i' o o' d = (ap (λ (p : InputSide). p.faults) d.0, ap (λ (p : OutputSide). p.faults) d.1)
+no_fault_before (generating number name) T K i i' o o' d = (d.0.faults, ap (λ (p : OutputSide). p.faults) d.1)
+no_fault_before (showing name) T K i i' o o' d = (ap (λ (p : InputSide). p.faults) d.0, ap (λ (p : OutputSide). p.faults) d.1)
 
 -- where memory ran out, no call had failed
 pub ran_memory : (f : Option Form) (b a : Moment) (status : Status) → Ran f b a status → status ≡ Memory → (a.shelf.faults ≡ b.shelf.faults) × (a.input.faults ≡ b.input.faults) × (a.out.faults ≡ b.out.faults)
@@ -482,25 +526,26 @@ ran_memory None b a status r is = absurd (cc (r.0, is))
 ran_memory (Some f) b a status r is = over (named_in f) (subst (Ran (Some f) b a) is r)
   where
     over : (named : Option (List ℕ)) → RanOver f named b a Memory → (a.shelf.faults ≡ b.shelf.faults) × (a.input.faults ≡ b.input.faults) × (a.out.faults ≡ b.out.faults)
-    over None d = let same = no_fault_before f [] b.input a.input b.out a.out d.does in (ap (λ (s : ShelfSide). s.faults) d.shelf, same.0, same.1)
+    over None d = let same = no_fault_before f [] [] b.input a.input b.out a.out d.does in (ap (λ (s : ShelfSide). s.faults) d.shelf, same.0, same.1)
     over (Some name) (inl idle) = (idle.why, ap (λ (p : InputSide). p.faults) idle.input, ap (λ (p : OutputSide). p.faults) idle.out)
-    over (Some name) (inr d) = let same = no_fault_before f d.statements b.input a.input b.out a.out d.does in (d.accepted.holds.no_fault, same.0, same.1)
+    over (Some name) (inr d) = let same = no_fault_before f d.accepted.accepted.statements d.statements b.input a.input b.out a.out d.does in (d.accepted.holds.no_fault, same.0, same.1)
 
 -- ---- the limit of an input
 
-took_most : (f : Form) (K : List Bound) (b a : Moment) → Does f K b.input a.input b.out a.out InputLimit → (a.input.faults ≡ b.input.faults) × (a.out.faults ≡ b.out.faults) × TookMost b.input.left a.input.left
-took_most (running keys name) K b a d = (d.1.why.2, d.1.why.3, (d.1.bytes, d.1.consumed, d.1.why.1))
-took_most (checking name) K b a d = absurd d.1
-took_most (generating number name) K b a d = absurd d.1
+took_most : (f : Form) (T : List (Statement Path)) (K : List Bound) (b a : Moment) → Does f T K b.input a.input b.out a.out InputLimit → (a.input.faults ≡ b.input.faults) × (a.out.faults ≡ b.out.faults) × TookMost b.input.left a.input.left
+took_most (running keys name) T K b a d = (d.1.why.2, d.1.why.3, (d.1.bytes, d.1.consumed, d.1.why.1))
+took_most (checking name) T K b a d = absurd d.1
+took_most (generating number name) T K b a d = absurd d.1
+took_most (showing name) T K b a d = absurd d.1
 
 pub ran_input_limit : (f : Option Form) (b a : Moment) (status : Status) → Ran f b a status → status ≡ InputLimit → (a.input.faults ≡ b.input.faults) × (a.out.faults ≡ b.out.faults) × TookMost b.input.left a.input.left
 ran_input_limit None b a status r is = absurd (cc (r.0, is))
 ran_input_limit (Some f) b a status r is = over (named_in f) (subst (Ran (Some f) b a) is r)
   where
     over : (named : Option (List ℕ)) → RanOver f named b a InputLimit → (a.input.faults ≡ b.input.faults) × (a.out.faults ≡ b.out.faults) × TookMost b.input.left a.input.left
-    over None d = took_most f [] b a d.does
+    over None d = took_most f [] [] b a d.does
     over (Some name) (inl idle) = absurd idle.why
-    over (Some name) (inr d) = took_most f d.statements b a d.does
+    over (Some name) (inr d) = took_most f d.accepted.accepted.statements d.statements b a d.does
 
 -- where nothing is taken, the limit is not reached
 same_below : (i i' : InputSide) (all rest : List ℕ) → i'.left ≡ i.left → i.left ≡ Some all → i'.left ≡ Some rest → length all ≡ length rest + max_input → ⊥
@@ -527,11 +572,12 @@ limit_by_why K i i' o o' ShelfFault all rest s is is' len read write = absurd s.
 limit_by_why K i i' o o' FileTooLong all rest s is is' len read write = absurd s.why
 limit_by_why K i i' o o' (Refused k kind) all rest s is is' len read write = absurd s.why
 
-does_limit : (f : Form) (K : List Bound) (i i' : InputSide) (o o' : OutputSide) (status : Status) (all rest : List ℕ) → Does f K i i' o o' status → i.left ≡ Some all → i'.left ≡ Some rest
+does_limit : (f : Form) (T : List (Statement Path)) (K : List Bound) (i i' : InputSide) (o o' : OutputSide) (status : Status) (all rest : List ℕ) → Does f T K i i' o o' status → i.left ≡ Some all → i'.left ≡ Some rest
     → length all ≡ length rest + max_input → (Rose i.faults i'.faults → ⊥) → (Rose o.faults o'.faults → ⊥) → IsOrMemory status InputLimit
-does_limit (running keys name) K i i' o o' status all rest d is is' len read write = limit_by_why (job keys K) i i' o (record { out = o'; page = d.0 }) status all rest d.1 is is' len read write
-does_limit (checking name) K i i' o o' status all rest d is is' len read write = absurd (same_below i i' all rest (ap (λ (p : InputSide). p.left) d.0) is is' len)
-does_limit (generating number name) K i i' o o' status all rest d is is' len read write = absurd (same_below i i' all rest d.0.left is is' len)
+does_limit (running keys name) T K i i' o o' status all rest d is is' len read write = limit_by_why (job keys K) i i' o (record { out = o'; page = d.0 }) status all rest d.1 is is' len read write
+does_limit (checking name) T K i i' o o' status all rest d is is' len read write = absurd (same_below i i' all rest (ap (λ (p : InputSide). p.left) d.0) is is' len)
+does_limit (generating number name) T K i i' o o' status all rest d is is' len read write = absurd (same_below i i' all rest d.0.left is is' len)
+does_limit (showing name) T K i i' o o' status all rest d is is' len read write = absurd (same_below i i' all rest (ap (λ (p : InputSide). p.left) d.0) is is' len)
 
 ends_limit : (f : Option Form) (b a : Moment) (status : Status) (all rest : List ℕ) → Ran f b a status → b.input.left ≡ Some all → a.input.left ≡ Some rest
     → length all ≡ length rest + max_input → (Rose b.input.faults a.input.faults → ⊥) → (Rose b.out.faults a.out.faults → ⊥) → IsOrMemory status InputLimit
@@ -539,9 +585,9 @@ ends_limit None b a status all rest r is is' len read write = absurd (same_below
 ends_limit (Some f) b a status all rest r is is' len read write = over (named_in f) r
   where
     over : (named : Option (List ℕ)) → RanOver f named b a status → IsOrMemory status InputLimit
-    over None d = does_limit f [] b.input a.input b.out a.out status all rest d.does is is' len read write
+    over None d = does_limit f [] [] b.input a.input b.out a.out status all rest d.does is is' len read write
     over (Some name) (inl idle) = absurd (same_below b.input a.input all rest (ap (λ (p : InputSide). p.left) idle.input) is is' len)
-    over (Some name) (inr d) = does_limit f d.statements b.input a.input b.out a.out status all rest d.does is is' len read write
+    over (Some name) (inr d) = does_limit f d.accepted.accepted.statements d.statements b.input a.input b.out a.out status all rest d.does is is' len read write
 
 -- where as many bytes were taken as an input may have, and no call failed, the run stops at the limit
 pub ran_finds_limit : (f : Option Form) (b a : Moment) (status : Status) → Ran f b a status → (Rose b.input.faults a.input.faults → ⊥) → (Rose b.out.faults a.out.faults → ⊥)

@@ -13,8 +13,8 @@ use Rattle.sj_page.specs.declared.page.Page.{Page}
 use Rattle.sj_file.specs.declared.job.Keys.TheVariants.{Any}
 use Rattle.sj_file.specs.declared.status.Status.{Status}
 use Rattle.sj_file.specs.declared.status.Status.TheVariants.{Done, Memory, WriteFault}
-use Rattle.sj_file.specs.File.{ShelfSide, checking, generating}
-use Rattle.sj_file.specs.Accepted.{Accepted}
+use Rattle.sj_file.specs.File.{ShelfSide, checking, generating, showing}
+use Rattle.sj_file.specs.Accepted.{Accepted, AcceptedWithText}
 use Rattle.sj_stream.specs.Input.{InputSide}
 use Rattle.sj_stream.specs.LineJob.{all_print, output, allowed}
 use Rattle.sj_run.specs.Output.{job}
@@ -47,6 +47,18 @@ pub check_cut : {T E : Type 0} (name : List ℕ) (s s' : ShelfSide) (from : Inpu
     → Wrote o o' (joined (codes "accepted " ∷ decimal (length items) ∷ codes "\n" ∷ [])) r → (IsOk r → ⊥) → Ran (Some (checking name)) (moment s from o) (moment s' from o') WriteFault
 check_cut name s s' from o o' items r accepted w bad =
     inr (record { statements = map bound_of items; accepted = accepted; does = (refl, subst (λ (t : List ℕ). Tells t o o' WriteFault) (counted items) (tells_cut _ o o' r w bad)) })
+
+-- ---- canonical texts
+
+pub show_done : {T E : Type 0} (name : List ℕ) (s s' : ShelfSide) (from : InputSide) (o o' : OutputSide) (text : List ℕ) (r : Result T E) (x : T) → AcceptedWithText name s s' text → Wrote o o' text r → r ≡ Ok x
+    → Ran (Some (showing name)) (moment s from o) (moment s' from o') Done
+show_done name s s' from o o' text r x a w ok =
+    inr (record { statements = a.0; accepted = a.1; does = (refl, subst (λ (t : List ℕ). Tells t o o' Done) a.2 (tells_done text o o' r x w ok)) })
+
+pub show_cut : {T E : Type 0} (name : List ℕ) (s s' : ShelfSide) (from : InputSide) (o o' : OutputSide) (text : List ℕ) (r : Result T E) → AcceptedWithText name s s' text → Wrote o o' text r → (IsOk r → ⊥)
+    → Ran (Some (showing name)) (moment s from o) (moment s' from o') WriteFault
+show_cut name s s' from o o' text r a w bad =
+    inr (record { statements = a.0; accepted = a.1; does = (refl, subst (λ (t : List ℕ). Tells t o o' WriteFault) a.2 (tells_cut text o o' r w bad)) })
 
 -- ---- runs over generated lines
 

@@ -4,6 +4,9 @@ use Rattle.sj_base.specs.Count.{Rose, raised}
 use Rattle.sj_outside.specs.declared.outside.Shelf as shelves
 use Rattle.sj_outside.specs.declared.outside.Source as sources
 use Rattle.sj_outside.specs.declared.outside.Sink as sinks
+use Rattle.sj_path_tree.specs.Tree.{Path}
+use Rattle.sj_sql_grammar.specs.Tree.{Statement}
+use Rattle.sj_sql_text.specs.Statements.{lines_text}
 use Rattle.sj_bound.specs.Bound.{Bound}
 use Rattle.sj_generated.specs.Lines.{generated}
 use Rattle.sj_page.specs.Sides.{OutputSide, output_side, Grew, joined}
@@ -11,7 +14,7 @@ use Rattle.sj_page.specs.declared.page.Page.{Page}
 use Rattle.sj_file.specs.declared.job.Keys.TheVariants.{Any}
 use Rattle.sj_file.specs.declared.status.Status.{Status}
 use Rattle.sj_file.specs.declared.status.Status.TheVariants.{Done, Usage, Refused, ShelfFault, ReadFault, WriteFault, Memory, InputLimit, FileTooLong}
-use Rattle.sj_file.specs.File.{ShelfSide, shelf_at, Form, running, checking, generating, named_in}
+use Rattle.sj_file.specs.File.{ShelfSide, shelf_at, Form, running, checking, generating, showing, named_in}
 use Rattle.sj_file.specs.Accepted.{Accepted, IsUnaccepted}
 use Rattle.sj_stream.specs.Input.{InputSide, input_at}
 use Rattle.sj_stream.specs.LineJob.{allowed}
@@ -60,11 +63,12 @@ pub record RanGenerated (number : ℕ) (statements : List Bound) (from from' : I
   pub faults : from'.faults ≡ from.faults
   pub costs : from'.steps ≤ raised from.steps (allowed (job Any statements) (generated number))
 
--- WHAT A FORM DOES with the statements of an accepted file, and how that ended
-abbrev pub Does : Form → List Bound → InputSide → InputSide → OutputSide → OutputSide → Status → Type 0
-Does (running keys name) statements from from' to to' status = (page : Page) × Streamed (job keys statements) from from' to (record { out = to'; page = page }) status
-Does (checking name) statements from from' to to' status = (from' ≡ from) × Tells (accepted_text statements) to to' status
-Does (generating number name) statements from from' to to' status = RanGenerated number statements from from' × Tells (summary_text number statements) to to' status
+-- WHAT A FORM DOES with the statements of an accepted file, as they are read and as they are bound, and how that ended
+abbrev pub Does : Form → List (Statement Path) → List Bound → InputSide → InputSide → OutputSide → OutputSide → Status → Type 0
+Does (running keys name) read statements from from' to to' status = (page : Page) × Streamed (job keys statements) from from' to (record { out = to'; page = page }) status
+Does (checking name) read statements from from' to to' status = (from' ≡ from) × Tells (accepted_text statements) to to' status
+Does (generating number name) read statements from from' to to' status = RanGenerated number statements from from' × Tells (summary_text number statements) to to' status
+Does (showing name) read statements from from' to to' status = (from' ≡ from) × Tells (lines_text read) to to' status
 
 -- ---- the whole
 
@@ -78,12 +82,12 @@ pub record Idle (name : List ℕ) (before after : Moment) (status : Status) : Ty
 pub record Did (form : Form) (name : List ℕ) (before after : Moment) (status : Status) : Type 0 where
   pub statements : List Bound
   pub accepted : Accepted name before.shelf after.shelf statements
-  pub does : Does form statements before.input after.input before.out after.out status
+  pub does : Does form accepted.accepted.statements statements before.input after.input before.out after.out status
 
 -- no file was asked for, so there were no statements, and this was done
 pub record DidWithout (form : Form) (before after : Moment) (status : Status) : Type 0 where
   pub shelf : after.shelf ≡ before.shelf
-  pub does : Does form [] before.input after.input before.out after.out status
+  pub does : Does form [] [] before.input after.input before.out after.out status
 
 -- by the file that a form names, if it names one
 abbrev pub RanOver : Form → Option (List ℕ) → Moment → Moment → Status → Type 0

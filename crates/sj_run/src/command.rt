@@ -9,9 +9,10 @@ ghost use Rattle.sj_page.specs.Sides.{Grew};
 ghost use Rattle.sj_sql_grammar.specs.Answers.{max_file};
 ghost use Rattle.sj_rows.specs.Lines.{max_input};
 ghost use Rattle.sj_file.specs.declared.job.Keys.TheVariants.{Any};
-ghost use Rattle.sj_file.specs.File.{running, command, file_named, file_run, file_checked, file_generated};
-ghost use Rattle.sj_file.specs.Conditions.{IfRuns, IfChecks, IfGenerates, IfNames, IfAccepted, IsOrMemory};
+ghost use Rattle.sj_file.specs.File.{running, command, file_named, file_run, file_checked, file_generated, file_to_show};
+ghost use Rattle.sj_file.specs.Conditions.{IfRuns, IfChecks, IfGenerates, IfShows, IfNames, IfAccepted, IfRead, IsOrMemory};
 ghost use Rattle.sj_file.specs.Verdict.{Refuses};
+ghost use Rattle.sj_sql_text.specs.Statements.{lines_text};
 ghost use Rattle.sj_stream.specs.Input.{input_at};
 ghost use Rattle.sj_run.specs.Ran.{Ran, out_at, moment_at, IsBefore, accepted_text};
 ghost use Rattle.sj_run.specs.Summary.{summary_text};
@@ -23,6 +24,7 @@ ghost use Rattle.sj_stream.specs.Stream.{TookMost, IsFrontOf, WroteLeast, WroteW
 use crate::check::check_file;
 use crate::generate::run_generated;
 use crate::notes::tell;
+use crate::show::show_file;
 use crate::stream::stream;
 use sj_base::Steps;
 use sj_file::{Form, Job, Keys, Status, accept, form_of};
@@ -60,6 +62,7 @@ fn run_file<H: Shelf, I: Source, O: Sink>(
 /// - `run --unique-keys FILE` does the same, and a line in which keys are not unique is an error.
 /// - `check FILE` tells how many statements of a file are accepted.
 /// - `selfrun N FILE` runs the statements over N generated lines, and tells how many rows and error rows they gave.
+/// - `show FILE` writes the canonical text of the statements of a file, each on a line.
 ///
 /// Example: the words `run f`, a file `f` with `SELECT JSON_EXISTS(doc, 'lax $.a.b');` and the line `{"a":{"b":null}}`
 /// write `1`, `1`, `R` and `TRUE`, with TABs between them (`sj_run_tests::faults::lines_in_any_cut`).
@@ -138,13 +141,28 @@ pub fn run<H: Shelf, I: Source, O: Sink, N: Sink>(
         IfGenerates (command words.now) (H.files shelf.old) (λ _ file. length file ≤ max_file → IfAccepted file (λ _.
         IsOrMemory result Status.Done)) }
 
+    // If a file is shown with Done, the canonical text of its statements was written.
+    ensures shown { result ≡ Status.Done →
+        IfShows (command words.now) (H.files shelf.old) (λ file. IfRead file (λ statements.
+        Grew (out_at O.Sink out.old) (out_at O.Sink out.new) (lines_text statements))) }
+    // However it ended, what was written is a front of that.
+    ensures show_front { IfShows (command words.now) (H.files shelf.old) (λ file. IfRead file (λ statements.
+        IsFrontOf (lines_text statements) (out_at O.Sink out.old) (out_at O.Sink out.new))) }
+    // It leaves the input and the counter as they were.
+    ensures show_reads_nothing { IfSome (file_to_show (command words.now)) (λ _. (input.new ≡ input.old) × (steps.new ≡ steps.old)) }
+
+    // If no call failed, an accepted file is shown with Done, unless memory ran out.
+    ensures show_completes { ¬ (Rose (H.faults shelf.old) (H.faults shelf.new)) → ¬ (Rose (O.faults out.old) (O.faults out.new)) →
+        IfShows (command words.now) (H.files shelf.old) (λ file. length file ≤ max_file → IfAccepted file (λ _.
+        IsOrMemory result Status.Done)) }
+
     // If it ended before a file was accepted, no input was read and nothing was written.
     ensures untouched { IsBefore result → (input.new ≡ input.old) × (out.new ≡ out.old) × (steps.new ≡ steps.old) }
 
     // At Usage the shelf is as it was too.
     ensures usage_untouched { result ≡ Status.Usage → shelf.new ≡ shelf.old }
 
-    // It ends with Usage exactly if the words are none of the four commands.
+    // It ends with Usage exactly if the words are none of the commands.
     ensures usage { (result ≡ Status.Usage) ↔ (command words.now ≡ None) }
 
     // It ends with ShelfFault only if the shelf's count of faults rose.
@@ -239,6 +257,7 @@ fn answer<H: Shelf, I: Source, O: Sink>(
     ensures usage_untouched { result ≡ Status.Usage → shelf.new ≡ shelf.old }
     ensures check_reads_nothing { IfSome (file_checked (command words.now)) (λ _. (input.new ≡ input.old) × (steps.new ≡ steps.old)) }
     ensures generated_reads_nothing { IfSome (file_generated (command words.now)) (λ _. input.new ≡ input.old) }
+    ensures show_reads_nothing { IfSome (file_to_show (command words.now)) (λ _. (input.new ≡ input.old) × (steps.new ≡ steps.old)) }
 {
     match form_of(words) {
         None => Status::Usage,
@@ -247,5 +266,6 @@ fn answer<H: Shelf, I: Source, O: Sink>(
         Some(Form::Generated(number, name)) => {
             run_generated(alloc, number, name, shelf, out, steps)
         }
+        Some(Form::Show(name)) => show_file(alloc, name, shelf, out),
     }
 }

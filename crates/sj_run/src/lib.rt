@@ -15,6 +15,7 @@ mod kept;
 mod notes;
 mod round;
 mod rows;
+mod show;
 mod stream;
 
 pub use command::run;

@@ -96,3 +96,8 @@ statement_on (Listed items table) ps = word (codes "SELECT") (listed item_on ite
 
 abbrev pub statement_text : Statement Path → List ℕ
 statement_text s = text_of (statement_on s [])
+
+-- THE CANONICAL TEXT of statements: each on a line of its own
+abbrev pub lines_text : List (Statement Path) → List ℕ
+lines_text [] = []
+lines_text (s ∷ ss) = (statement_text s ++ codes "\n") ++ lines_text ss

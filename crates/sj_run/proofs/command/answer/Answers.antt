@@ -9,3 +9,7 @@ returns-in-Some-Check-clause-usage_untouched g c = λ is.
 
 pub returns-in-Some-Generated-clause-usage_untouched : goal.returns-in-Some-Generated-clause-usage_untouched
 returns-in-Some-Generated-clause-usage_untouched g c = λ is. absurd (not_usage _ (Some _) _ _ _ (c.run_generated.ensures.ran None 0) is)
+
+pub returns-in-Some-Show-clause-usage_untouched : goal.returns-in-Some-Show-clause-usage_untouched
+returns-in-Some-Show-clause-usage_untouched g c = λ is.
+    absurd (not_usage _ (Some _) _ _ _ (c.show_file.ensures.ran (input_at g.I.Source c.args.input.now c.args.steps.now)) is)

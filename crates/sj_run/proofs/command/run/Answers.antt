@@ -37,6 +37,15 @@ returns-clause-generated_completes g c = ending.ran_generated_completes _ _ _ _ 
 pub returns-clause-generated_within : goal.returns-clause-generated_within
 returns-clause-generated_within g c = ending.ran_generated_within _ _ _ _ c.answer-status.ensures.ran
 
+pub returns-clause-shown : goal.returns-clause-shown
+returns-clause-shown g c = ending.ran_shown _ _ _ _ c.answer-status.ensures.ran
+
+pub returns-clause-show_front : goal.returns-clause-show_front
+returns-clause-show_front g c = ending.ran_show_front _ _ _ _ c.answer-status.ensures.ran
+
+pub returns-clause-show_completes : goal.returns-clause-show_completes
+returns-clause-show_completes g c = ending.ran_show_completes _ _ _ _ c.answer-status.ensures.ran
+
 pub returns-clause-usage : goal.returns-clause-usage
 returns-clause-usage g c = ending.ran_usage _ _ _ _ c.answer-status.ensures.ran
 
