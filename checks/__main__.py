@@ -34,6 +34,7 @@ from checks.program import Program
 from checks.recipes import check_recipes
 from checks.refusals import check_refusals
 from checks.rows import check_rows
+from checks.show import check_show
 from checks.tally import Tally
 from checks.texts import check_texts
 from checks.where import check_where
@@ -88,6 +89,7 @@ def check_all(tally, given):
     if program.exists():
         check_examples(tally, program, TOP / "examples")
         check_rows(tally, program, TOP / "checks" / "rows")
+        check_show(tally, program, TOP)
         check_decimals(tally, program)
         check_guide(tally, program, TOP)
         check_recipes(tally, program, TOP)

@@ -51,6 +51,8 @@ RUNS = [
     ("a check", ["check"], """SELECT JSON_VALUE(doc, '$.a.b' PASSING 1 AS x), 'text';
         SELECT a FROM JSON_TABLE(doc, '$[1, 2 to last]' AS p COLUMNS (a VARCHAR DEFAULT 'none' ON EMPTY,
             NESTED '$' AS q COLUMNS (b INT)) PLAN (p OUTER q));""", b""),
+    ("a canonical text", ["show"], """SELECT JSON_QUERY(doc, '$.a[1, 2] ? (@ starts with "it''s")' PASSING 1 AS x), 'text';
+        SELECT a FROM JSON_TABLE(doc, '$' AS p COLUMNS (a INT, NESTED '$.b' AS q COLUMNS (b INT)) PLAN (p OUTER q));""", b""),
     ("generated lines", ["selfrun", "3"], "SELECT JSON_QUERY(doc, '$'), JSON_VALUE(doc, '$.n' RETURNING INTEGER);", b""),
 ]
 

@@ -18,7 +18,7 @@ from checks import streams
 from checks.answers import accepted, refusal
 from checks.program import CLOSED, Ended, difference, front_problem
 
-USAGE = b"usage: sqljson run [--unique-keys] FILE | check FILE | selfrun N FILE\n"
+USAGE = b"usage: sqljson run [--unique-keys] FILE | check FILE | selfrun N FILE | show FILE\n"
 UNREADABLE = Ended(3, note=b"statement file cannot be read\n")
 TOO_LONG = Ended(8, note=b"statement file too long\n")
 MEMBER = b"SELECT JSON_EXISTS(doc, 'lax $.a');\n"
@@ -74,7 +74,7 @@ def check_words(tally, program, folder):
     refused = [
         [], ["run"], ["run", ""], ["run", "-x"], ["run", "member.sql", "more"], ["RUN", "member.sql"], ["check", "-x"],
         ["run", "--unique-keys"], ["selfrun", "1000000", "member.sql"], ["selfrun", "", "member.sql"],
-        ["selfrun", "-1", "member.sql"], ["selfrun", "member.sql"], ["member.sql"],
+        ["selfrun", "-1", "member.sql"], ["selfrun", "member.sql"], ["member.sql"], ["show", "-x"],
     ]
     for words in refused:
         tally.check(f"the words {words}", difference(Ended(1, note=USAGE), program.run(words, b"true\n", folder)))
@@ -101,7 +101,7 @@ def check_files(tally, program, folder):
         ("a file without an end", "/dev/zero", TOO_LONG),
     ]
     for name, file, wanted in cases:
-        for words in [["run", file], ["run", "--unique-keys", file], ["check", file], ["selfrun", "3", file]]:
+        for words in [["run", file], ["run", "--unique-keys", file], ["check", file], ["selfrun", "3", file], ["show", file]]:
             tally.check(f"{name}, {words[0]}", difference(wanted, program.run(words, b"true\n", folder)))
     whole = program.run(["run", "/dev/stdin"], MEMBER, folder)
     tally.check("the input for a file, which leaves no line", difference(Ended(0), whole))
