@@ -9,9 +9,9 @@ use Rattle.sj_sql_text.specs.Phrases.{nulls_on}
 use Rattle.sj_sql_text.specs.Statements.{array_clause_on}
 use Rattle.sj_sql_text.proofs.value.array_clause.Goals as goal
 
-stands : (values : List Value) (on_null : Nulls) (ps : Pieces) → length values == 0 ≡ false → nulls_on on_null ps ≡ array_clause_on (values_of values) on_null ps
-stands [] on_null ps some = absurd (true≢false some)
-stands (x ∷ xs) on_null ps some = refl
+stands : (values : List Value) (clause : Nulls) (ps : Pieces) → length values == 0 ≡ false → nulls_on clause ps ≡ array_clause_on (values_of values) clause ps
+stands [] clause ps some = absurd (true≢false some)
+stands (x ∷ xs) clause ps some = refl
 
 pub returns-else-is_empty : goal.returns-else-is_empty
 returns-else-is_empty c = on_ok_weaker c.nulls.result

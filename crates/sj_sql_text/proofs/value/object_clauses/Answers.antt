@@ -9,10 +9,10 @@ use Rattle.sj_sql_text.specs.Phrases.{nulls_on, unique_on}
 use Rattle.sj_sql_text.specs.Statements.{object_clauses_on}
 use Rattle.sj_sql_text.proofs.value.object_clauses.Goals as goal
 
-stand : (members : List Member) (on_null : Nulls) (unique : Bool) (ps : Pieces) → length members == 0 ≡ false
-    → nulls_on on_null (unique_on unique ps) ≡ object_clauses_on (members_of members) on_null unique ps
-stand [] on_null unique ps some = absurd (true≢false some)
-stand (x ∷ xs) on_null unique ps some = refl
+stand : (members : List Member) (clause : Nulls) (unique : Bool) (ps : Pieces) → length members == 0 ≡ false
+    → nulls_on clause (unique_on unique ps) ≡ object_clauses_on (members_of members) clause unique ps
+stand [] clause unique ps some = absurd (true≢false some)
+stand (x ∷ xs) clause unique ps some = refl
 
 pub returns : goal.returns
 returns c = on_ok_weaker c.unique.result
