@@ -9,10 +9,8 @@ ghost use Rattle.sj_sql_text.specs.Phrases as spec;
 use crate::pieces::Pieces;
 use sj_base::{Memory, Text};
 use sj_path_tree::{Literal, Path};
-use sj_sql_tree::{
-    Common, Encoding, IsJsonCall, Passed, QueryClauses, TypeName, ValueDo,
-};
 use sj_sql_grammar::Quotes;
+use sj_sql_tree::{Common, Encoding, IsJsonCall, Passed, QueryClauses, TypeName, ValueDo};
 use sj_value::{ExistsAction, JsonKind, Nulls, QueryAction, SqlType, TableAction, Wrapper};
 
 /// A comma, behind another part.
@@ -206,7 +204,11 @@ fn value_action<'a>(action: &'a ValueDo, out: &mut Pieces<'a>) -> Result<(), Mem
 }
 
 /// What JSON_VALUE gives where there is no item, and where an error comes.
-pub(crate) fn value_clauses<'a>(empty: &'a ValueDo, error: &'a ValueDo, out: &mut Pieces<'a>) -> Result<(), Memory>
+pub(crate) fn value_clauses<'a>(
+    empty: &'a ValueDo,
+    error: &'a ValueDo,
+    out: &mut Pieces<'a>,
+) -> Result<(), Memory>
     ensures { OnOk result (Adds out.old out.new (spec.value_clauses_on empty.now error.now)) }
 {
     value_action(empty, out)?;

@@ -55,7 +55,12 @@ fn formatted<'a>(column: &'a FormattedColumn, out: &mut Pieces<'a>) -> Result<()
     query_clauses(column.clauses, out)
 }
 
-fn existence<'a>(name: &'a Text, own: &'a Path, on_error: ExistsAction, out: &mut Pieces<'a>) -> Result<(), Memory>
+fn existence<'a>(
+    name: &'a Text,
+    own: &'a Path,
+    on_error: ExistsAction,
+    out: &mut Pieces<'a>,
+) -> Result<(), Memory>
     ensures { OnOk result (Adds out.old out.new (spec.existence_on name.now (path_of own.now) on_error)) }
 {
     out.name(name.as_str())?;
@@ -81,7 +86,12 @@ fn for_ordinality(out: &mut Pieces<'_>) -> Result<(), Memory>
 
 /// A nested path, with its columns.
 #[cycle(columns)]
-fn nested<'a>(own: &'a Path, name: &'a Option<Text>, inside: &'a Columns, out: &mut Pieces<'a>) -> Result<(), Memory>
+fn nested<'a>(
+    own: &'a Path,
+    name: &'a Option<Text>,
+    inside: &'a Columns,
+    out: &mut Pieces<'a>,
+) -> Result<(), Memory>
     ensures { OnOk result (Adds out.old out.new (spec.column_on (t.Nested (path_of own.now) name.now (columns_of inside.now)))) }
 {
     out.word("NESTED")?;

@@ -30,7 +30,12 @@ pub(crate) fn value<'a>(value: &'a Value, out: &mut Pieces<'a>) -> Result<(), Me
 }
 
 #[cycle(values)]
-fn object<'a>(members: &'a [Member], on_null: Nulls, keys: bool, out: &mut Pieces<'a>) -> Result<(), Memory>
+fn object<'a>(
+    members: &'a [Member],
+    on_null: Nulls,
+    keys: bool,
+    out: &mut Pieces<'a>,
+) -> Result<(), Memory>
     ensures { OnOk result (Adds out.old out.new (spec.value_on (t.Object (members_of members.now) on_null keys))) }
 {
     out.call("JSON_OBJECT")?;
@@ -49,7 +54,12 @@ fn array<'a>(values: &'a [Value], on_null: Nulls, out: &mut Pieces<'a>) -> Resul
     out.close()
 }
 
-fn object_clauses(members: &[Member], on_null: Nulls, keys: bool, out: &mut Pieces<'_>) -> Result<(), Memory>
+fn object_clauses(
+    members: &[Member],
+    on_null: Nulls,
+    keys: bool,
+    out: &mut Pieces<'_>,
+) -> Result<(), Memory>
     ensures { OnOk result (Adds out.old out.new (spec.object_clauses_on (members_of members.now) on_null keys)) }
 {
     if members.is_empty() {
@@ -62,7 +72,11 @@ fn object_clauses(members: &[Member], on_null: Nulls, keys: bool, out: &mut Piec
 fn array_clause(values: &[Value], on_null: Nulls, out: &mut Pieces<'_>) -> Result<(), Memory>
     ensures { OnOk result (Adds out.old out.new (spec.array_clause_on (values_of values.now) on_null)) }
 {
-    if values.is_empty() { Ok(()) } else { nulls(on_null, out) }
+    if values.is_empty() {
+        Ok(())
+    } else {
+        nulls(on_null, out)
+    }
 }
 
 #[cycle(values)]

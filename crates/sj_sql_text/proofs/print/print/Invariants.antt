@@ -1,4 +1,4 @@
-use Rattle.std.proofs.Common.{true, drop}
+use Rattle.std.proofs.Common.{drop}
 use Rattle.sj_text.proofs.Appends.{Appending}
 use Rattle.sj_sql_text.specs.Pieces.{text_of, text_behind}
 use Rattle.sj_sql_text.specs.View.{pieces_of}

@@ -10,5 +10,5 @@ pub returns : goal.returns
 returns c = (
   omega (arith, c.split_at.ensures.back_len),
   splits_behind (mark_of c.args.mark) c.byte.result c.args.text.now c.split_at.result.0.now c.split_at.result.1.now c.in-Some.at
-  c.byte.ensures c.in-Some.ensures.0 c.in-Some.ensures.1 c.split_at.ensures.front c.split_at.ensures.back,
+      c.byte.ensures c.in-Some.ensures.0 c.in-Some.ensures.1 c.split_at.ensures.front c.split_at.ensures.back,
 )

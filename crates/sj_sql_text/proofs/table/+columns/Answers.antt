@@ -19,7 +19,7 @@ listed-returns t c =
     let last = tree.Last (column_of c.args.columns.now.last) in
     on_ok_weaker c.column-2.result
     (λ came rest.
-      came rest
-      ∙ sym (at_drop_all (λ xs. c.loop-one.out ++ listed_columns_on (columns_onto xs last) rest) before c.loop-one.one-index (omega arith))
-      ∙ c.loop-one.invariant rest)
+    came rest
+    ∙ sym (at_drop_all (λ xs. c.loop-one.out ++ listed_columns_on (columns_onto xs last) rest) before c.loop-one.one-index (omega arith))
+    ∙ c.loop-one.invariant rest)
     c.column-2.ensures

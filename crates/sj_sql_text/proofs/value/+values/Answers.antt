@@ -20,8 +20,8 @@ value-returns-in-Array t c =
 pub object-returns : goal.object-returns
 object-returns t c = on_ok_weaker c.close.result
     (λ came rest.
-      puts _ _ _ came rest
-      ∙ c.in_ok-object_clauses.ensures (Close ∷ rest)
-      ∙ c.in_ok-listed_members.ensures _
-      ∙ puts _ _ _ c.in_ok-call.ensures _)
+    puts _ _ _ came rest
+    ∙ c.in_ok-object_clauses.ensures (Close ∷ rest)
+    ∙ c.in_ok-listed_members.ensures _
+    ∙ puts _ _ _ c.in_ok-call.ensures _)
     c.close.ensures

@@ -17,7 +17,7 @@ stand (x ∷ xs) clause unique ps some = refl
 pub returns : goal.returns
 returns c = on_ok_weaker c.unique.result
     (λ came rest.
-      came rest
-      ∙ c.in_ok-nulls.ensures (unique_on c.args.keys rest)
-      ∙ ap (λ ps. c.args.out.now ++ ps) (stand c.args.members.now c.args.on_null c.args.keys rest (sym c.is_empty.ensures ∙ c.if-is_empty.false)))
+    came rest
+    ∙ c.in_ok-nulls.ensures (unique_on c.args.keys rest)
+    ∙ ap (λ ps. c.args.out.now ++ ps) (stand c.args.members.now c.args.on_null c.args.keys rest (sym c.is_empty.ensures ∙ c.if-is_empty.false)))
     c.unique.ensures
