@@ -1,14 +1,12 @@
 -- The tokens of each phrase are that phrase.
-use Rattle.std.proofs.Common.{◌≡◌, ℕ, Bool, true, false, List, [], ◌∷◌, codes, cond, ℤ, pos, negsuc, zero, suc, neg_ℤ, Option, Some, None, refl, ap, ◌∙◌}
+use Rattle.std.proofs.Common.{◌≡◌, ℕ, Bool, true, false, List, [], ◌∷◌, codes, cond, ℤ, pos, negsuc, zero, suc, neg_ℤ, Option, Some, None, refl, ap}
 use Rattle.std.specs.Prelude.{◌==◌, ◌&&◌, nat_le}
-use Rattle.sj_base.specs.Options.{◌>>=◌}
 use Rattle.sj_decimal.specs.Limits.{max_digits}
 use Rattle.sj_decimal.specs.Signed.{is_negative}
 use Rattle.sj_path_tree.specs.declared.parts.Literal.{Literal}
 use Rattle.sj_path_tree.specs.declared.parts.Literal.TheVariants as l
 use Rattle.sj_path_tree.specs.Tree.{Path}
 use Rattle.sj_path_text.specs.Text.{path_text}
-use Rattle.sj_value.specs.declared.types.SqlType.{SqlType}
 use Rattle.sj_value.specs.declared.types.SqlType.TheVariants as sql
 use Rattle.sj_value.specs.declared.clauses.Wrapper.{Wrapper}
 use Rattle.sj_value.specs.declared.clauses.Wrapper.TheVariants as wrapper
@@ -22,7 +20,6 @@ use Rattle.sj_value.specs.declared.clauses.Nulls.{Nulls}
 use Rattle.sj_value.specs.declared.clauses.Nulls.TheVariants as nulls
 use Rattle.sj_value.specs.declared.clauses.JsonKind.{JsonKind}
 use Rattle.sj_value.specs.declared.clauses.JsonKind.TheVariants as json
-use Rattle.sj_sql_token.specs.declared.token.Token.{Token}
 use Rattle.sj_sql_token.specs.declared.token.Token.TheVariants as k
 use Rattle.sj_sql_token.specs.declared.keyword.Keyword.{Keyword}
 use Rattle.sj_sql_token.specs.declared.keyword.Keyword.TheVariants as w
@@ -47,7 +44,7 @@ use Rattle.sj_sql_text.specs.Pieces.{Pieces}
 use Rattle.sj_sql_text.specs.Phrases as on
 use Rattle.sj_sql_text.specs.Tokens.{unsigned, tokens_of}
 use Rattle.sj_sql_text.proofs.ReadPhrases.{IsWithin}
-use Rattle.sj_sql_text.proofs.WordTokens.{stands, as_is, passing_is, on_is, empty_is, error_is, is_is, json_is, returning_is}
+use Rattle.sj_sql_text.proofs.WordTokens.{stands, passing_is, on_is, empty_is, error_is, is_is, json_is, returning_is}
 
 -- ---- literals
 

@@ -1,5 +1,5 @@
 -- The tokens of a plan are that plan.
-use Rattle.std.proofs.Common.{◌≡◌, ℕ, ◌≤◌, Bool, true, false, List, ◌∷◌, codes, Some, refl, sym, ◌∙◌}
+use Rattle.std.proofs.Common.{◌≡◌, Bool, true, false, ◌∷◌, codes, Some, refl, sym}
 use Rattle.sj_sql_token.specs.declared.keyword.Keyword.TheVariants as w
 use Rattle.sj_sql_token.specs.Keywords.{keyword_of}
 use Rattle.sj_sql_grammar.specs.declared.clauses.InOut.{InOut}
@@ -12,7 +12,7 @@ use Rattle.sj_sql_grammar.specs.Grammar as g
 use Rattle.sj_sql_grammar.specs.Grammar.{IsPlanExpr, IsUnion, IsCross, IsPlanPrim, IsPlan}
 use Rattle.sj_sql_text.specs.Pieces.{Pieces, Open, Close, Comma}
 use Rattle.sj_sql_text.specs.Phrases as on
-use Rattle.sj_sql_text.specs.Plans.{is_name, leads_union, leads_cross, alone_or_enclosed, named_on, in_out_on, siblings_on, plan_on}
+use Rattle.sj_sql_text.specs.Plans.{is_name, alone_or_enclosed, named_on, in_out_on, siblings_on, plan_on}
 use Rattle.sj_sql_text.specs.Tokens.{tokens_of}
 use Rattle.sj_sql_text.proofs.ReadPhrases.{IsDefault, default_read}
 use Rattle.sj_sql_text.proofs.WordTokens.{stands, plan_is, default_is, outer_is, inner_is, union_is, cross_is}

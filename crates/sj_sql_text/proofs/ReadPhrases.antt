@@ -1,5 +1,5 @@
 -- What is known of types and of default plans that some tokens spell.
-use Rattle.std.proofs.Common.{◌≡◌, ℕ, Bool, true, false, List, ◌∷◌, Some, refl}
+use Rattle.std.proofs.Common.{◌≡◌, ℕ, Bool, true, false, ◌∷◌, Some, refl}
 use Rattle.std.specs.Prelude.{◌&&◌, nat_le}
 use Rattle.sj_decimal.specs.Limits.{max_digits}
 use Rattle.sj_value.specs.declared.types.SqlType.TheVariants as sql

@@ -1,20 +1,17 @@
 -- The tokens of columns and tables that some tokens spell are those, with each path in its canonical text.
-use Rattle.std.proofs.Common.{◌≡◌, ℕ, List, ◌∷◌, codes, Option, Some, None, refl}
+use Rattle.std.proofs.Common.{◌≡◌, ℕ, List, ◌∷◌, codes, Some, refl}
 use Rattle.sj_path_tree.specs.Tree.{Path}
 use Rattle.sj_path_text.specs.Text.{path_text}
 use Rattle.sj_value.specs.declared.clauses.ExistsAction.{ExistsAction}
 use Rattle.sj_sql_token.specs.declared.keyword.Keyword.TheVariants as w
 use Rattle.sj_sql_token.specs.Keywords.{keyword_of}
-use Rattle.sj_sql_grammar.specs.declared.clauses.Encoding.{Encoding}
-use Rattle.sj_sql_grammar.specs.declared.clauses.QueryClauses.{QueryClauses}
-use Rattle.sj_sql_grammar.specs.declared.clauses.TypeName.{TypeName}
-use Rattle.sj_sql_grammar.specs.Tree.{PathText, Written, RegularColumn, FormattedColumn, ColumnOf, Formatted, Existence, Columns, Table}
+use Rattle.sj_sql_grammar.specs.Tree.{PathText, Written, FormattedColumn, ColumnOf, Formatted, Existence, Columns, Table}
 use Rattle.sj_sql_grammar.specs.Phrases.{Tokens, formatted_at, existence_at}
 use Rattle.sj_sql_grammar.specs.Grammar as g
 use Rattle.sj_sql_grammar.specs.Grammar.{IsColumnPath, IsColumn, IsColumns, IsColumnList, IsTable}
 use Rattle.sj_sql_grammar.specs.Notes.{formatted_with, column_with, columns_with, table_with}
 use Rattle.sj_sql_grammar.specs.Answers.{path_of, finishing}
-use Rattle.sj_sql_text.specs.Pieces.{Pieces, Open, Comma, Close}
+use Rattle.sj_sql_text.specs.Pieces.{Pieces, Comma, Close}
 use Rattle.sj_sql_text.specs.Phrases as on
 use Rattle.sj_sql_text.specs.Plans.{plan_on}
 use Rattle.sj_sql_text.specs.Statements.{column_path_on, formatted_on, existence_on, column_on, listed_columns_on, columns_on, table_on}

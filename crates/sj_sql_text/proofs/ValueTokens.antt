@@ -1,5 +1,5 @@
 -- The tokens of a value that some tokens spell are that value, with each path in its canonical text.
-use Rattle.std.proofs.Common.{◌≡◌, ℕ, List, [], ◌∷◌, codes, Option, Some, None, refl}
+use Rattle.std.proofs.Common.{◌≡◌, ◌∷◌, codes, Some, None, refl}
 use Rattle.sj_sql_token.specs.declared.keyword.Keyword.TheVariants as w
 use Rattle.sj_sql_grammar.specs.declared.clauses.ValueDo.{ValueDo}
 use Rattle.sj_sql_grammar.specs.declared.clauses.ValueDo.TheVariants as on_value
