@@ -6,3 +6,16 @@ mod Constructed
 mod Growth
 -- for `print`
 mod Printing
+-- for the lemmas of `PhraseTokens`, `PlanTokens`, `ValueTokens`, `TableTokens` and `SelectTokens`
+pub mod WordTokens
+-- for the lemmas of `PhraseTokens`, `PlanTokens`, `ValueTokens` and `TableTokens`
+pub mod ReadPhrases
+-- for the lemmas of `ValueTokens`, `TableTokens` and `SelectTokens`
+pub mod PhraseTokens
+-- for the lemmas of `TableTokens`
+pub mod PlanTokens
+-- for the lemmas of `SelectTokens`
+pub mod ValueTokens
+pub mod TableTokens
+-- for `spelled`
+pub mod SelectTokens

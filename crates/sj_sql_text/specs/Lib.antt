@@ -5,3 +5,5 @@ pub mod Statements
 pub mod View
 pub mod Adds
 pub mod Marks
+pub mod Tokens
+pub mod Law

@@ -97,12 +97,16 @@ table_on t ps = Call (codes "JSON_TABLE") ∷ document_on t.common.encoding (Com
 -- ---- statements
 
 abbrev pub from_on : Table Path → Pieces → Pieces
-from_on table ps = word (codes "FROM") (table_on table (Semicolon ∷ ps))
+from_on table ps = word (codes "FROM") (table_on table ps)
+
+-- without its semicolon
+abbrev pub body_on : Statement Path → Pieces → Pieces
+body_on (Plain values) ps = word (codes "SELECT") (listed value_on values ps)
+body_on (All table) ps = word (codes "SELECT") (Star ∷ from_on table ps)
+body_on (Listed items table) ps = word (codes "SELECT") (listed item_on items (from_on table ps))
 
 abbrev pub statement_on : Statement Path → Pieces → Pieces
-statement_on (Plain values) ps = word (codes "SELECT") (listed value_on values (Semicolon ∷ ps))
-statement_on (All table) ps = word (codes "SELECT") (Star ∷ from_on table ps)
-statement_on (Listed items table) ps = word (codes "SELECT") (listed item_on items (from_on table ps))
+statement_on s ps = body_on s (Semicolon ∷ ps)
 
 abbrev pub statement_text : Statement Path → List ℕ
 statement_text s = text_of (statement_on s [])

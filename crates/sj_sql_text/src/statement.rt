@@ -62,18 +62,17 @@ fn from_table<'a>(from: &'a Table, out: &mut Pieces<'a>) -> Result<(), Memory>
     ensures { OnOk result (Adds out.old out.new (spec.from_on (table_of from.now))) }
 {
     out.word("FROM")?;
-    table(from, out)?;
-    out.semicolon()
+    table(from, out)
 }
 
-fn statement<'a>(statement: &'a Statement, out: &mut Pieces<'a>) -> Result<(), Memory>
-    ensures { OnOk result (Adds out.old out.new (spec.statement_on (statement_of statement.now))) }
+/// A statement without its semicolon.
+fn body<'a>(statement: &'a Statement, out: &mut Pieces<'a>) -> Result<(), Memory>
+    ensures { OnOk result (Adds out.old out.new (spec.body_on (statement_of statement.now))) }
 {
     match statement {
         Statement::Plain(list) => {
             out.word("SELECT")?;
-            values(list.as_slice(), out)?;
-            out.semicolon()
+            values(list.as_slice(), out)
         }
         Statement::All(from) => {
             out.word("SELECT")?;
@@ -86,6 +85,13 @@ fn statement<'a>(statement: &'a Statement, out: &mut Pieces<'a>) -> Result<(), M
             from_table(from, out)
         }
     }
+}
+
+fn statement<'a>(statement: &'a Statement, out: &mut Pieces<'a>) -> Result<(), Memory>
+    ensures { OnOk result (Adds out.old out.new (spec.statement_on (statement_of statement.now))) }
+{
+    body(statement, out)?;
+    out.semicolon()
 }
 
 /// Appends the canonical text of a statement, with its semicolon. Where memory runs out, `out` has grown by a first part
