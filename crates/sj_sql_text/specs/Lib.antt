@@ -6,3 +6,4 @@ pub mod View
 pub mod Adds
 pub mod Marks
 pub mod Tokens
+pub mod Printable

@@ -9,6 +9,7 @@
 #![tactic(auto)]
 
 mod call;
+mod lexing;
 mod phrase;
 mod piece;
 mod pieces;
@@ -19,4 +20,5 @@ mod statement;
 mod table;
 mod value;
 
+pub use lexing::text_breaks;
 pub use statement::statement_text;
