@@ -8,7 +8,7 @@ use Rattle.sj_sql_grammar.specs.Phrases.{Tokens, negated}
 use Rattle.sj_sql_text.specs.Pieces.{Piece, Word, Call, Name, String, Number, Count, Open, Close, Comma, Star, Semicolon, Pieces, piece_text, opens, leans, gap, text_behind}
 use Rattle.sj_sql_text.specs.Tokens.{unsigned, piece_on, tokens_of}
 use Rattle.sj_sql_text.specs.Printable.{IsPrintable, starts_apart, followed_by}
-use Rattle.sj_sql_text.proofs.Lexes.{Stops, stops, blank_stops, MayFollow, Reads, blank_passed, both, sign, open_parenthesis, word_reads}
+use Rattle.sj_sql_text.proofs.Lexes.{stops, blank_stops, MayFollow, Reads, blank_passed, both, sign, open_parenthesis, word_reads}
 use Rattle.sj_sql_text.proofs.QuotedTexts.{string_reads, name_reads}
 use Rattle.sj_sql_text.proofs.NumberTexts.{count_reads, number_reads}
 

@@ -1,5 +1,5 @@
 -- The text of a number is one token, behind a minus sign where the number is negative.
-use Rattle.std.proofs.Common.{◌≡◌, ℕ, zero, suc, ◌+◌, ◌*◌, ◌/◌, ◌%◌, ◌^◌, ◌<◌, Bool, true, false, cond, ◌&&◌, ◌||◌, ◌==◌, List, [], ◌∷◌, ◌++◌, length, take, drop, decimal, ℤ, pos, negsuc, Option, Some, None, refl, sym, ap, ap₂, subst, ◌∙◌, arith, append_assoc, append-nil, length-append, take_at, drop_at, div-le_self, eq-eqb, ne_eqb}
+use Rattle.std.proofs.Common.{◌≡◌, ℕ, zero, suc, ◌+◌, ◌*◌, ◌/◌, ◌%◌, ◌^◌, ◌<◌, Bool, true, false, cond, ◌&&◌, ◌==◌, List, [], ◌∷◌, ◌++◌, length, take, drop, decimal, ℤ, pos, negsuc, Option, Some, refl, sym, ap, ap₂, subst, ◌∙◌, arith, append_assoc, append-nil, length-append, take_at, drop_at, div-le_self, eq-eqb, ne_eqb}
 use Rattle.std.specs.List.{prefix_len, take_while}
 use Rattle.std.specs.Char.{is_ascii_digit, digit_value}
 use Rattle.std.specs.Int.{IsInRange}
@@ -11,7 +11,7 @@ use Rattle.std.proofs.lemmas.Int.Digits.{digits_value_push}
 use Rattle.std.proofs.lemmas.Str.{digit_value_digit}
 use Rattle.sj_base.specs.ByteClasses.{is_blank, is_letter, next_is, next_is_digit}
 use Rattle.sj_decimal.specs.Limits.{magnitude_limit}
-use Rattle.sj_decimal.specs.Normal.{normal, IsDecimal}
+use Rattle.sj_decimal.specs.Normal.{IsDecimal}
 use Rattle.sj_decimal.specs.Exact.{is_exact}
 use Rattle.sj_decimal.specs.Text.{last_digits, decimals_text, decimal_text}
 use Rattle.sj_decimal.proofs.Digits.{digit_passes}
@@ -28,7 +28,7 @@ use Rattle.sj_sql_token.specs.declared.token.Token.TheVariants as k
 use Rattle.sj_sql_token.specs.declared.piece.Piece.{Piece}
 use Rattle.sj_sql_token.specs.declared.piece.Piece.TheVariants as p
 use Rattle.sj_sql_token.specs.Numbers.{value_of, exact_of, pointed, fraction_of, fraction_len}
-use Rattle.sj_sql_token.specs.Tokens.{Lexed, next, number_piece, number_at, piece_at, lexed}
+use Rattle.sj_sql_token.specs.Tokens.{Lexed, next, number_piece, number_at, piece_at}
 use Rattle.sj_sql_text.specs.Printable.{followed_by}
 use Rattle.sj_sql_text.specs.Tokens.{unsigned, number_on}
 use Rattle.sj_sql_text.proofs.Lexes.{apart, digit_ascii, digit_not_blank, digit_not_letter, MayFollow, no_digit, Reads, one_token}

@@ -1,5 +1,5 @@
 -- A text between quotation marks is one token.
-use Rattle.std.proofs.Common.{◌≡◌, ◌≢◌, ℕ, zero, suc, ◌+◌, ◌<◌, Bool, true, false, cond, ◌==◌, List, [], ◌∷◌, ◌++◌, length, get_or, take, Option, Some, None, option_map, refl, sym, ap, subst, ◌∙◌, arith, append_assoc, length-append, take_at, drop_at, eqb-true, eq-eqb, IsUtf8}
+use Rattle.std.proofs.Common.{◌≡◌, ◌≢◌, ℕ, zero, suc, ◌+◌, ◌<◌, Bool, true, false, cond, ◌==◌, List, [], ◌∷◌, ◌++◌, length, get_or, take, Some, None, option_map, refl, sym, ap, subst, ◌∙◌, arith, append_assoc, length-append, take_at, drop_at, eqb-true, eq-eqb, IsUtf8}
 use Rattle.std.specs.Str.{is_utf8, IsCharBoundary}
 use Rattle.std.proofs.lemmas.List.{get_or_at}
 use Rattle.std.proofs.lemmas.Str.{IsUtf8-append, IsUtf8-take, IsUtf8-drop, IsCharBoundary-before_ascii, IsCharBoundary-after_ascii, is_utf8-from_IsUtf8}
@@ -9,7 +9,7 @@ use Rattle.sj_path_text.proofs.Utf8.{one_more}
 use Rattle.sj_sql_token.specs.declared.token.Token.TheVariants as k
 use Rattle.sj_sql_token.specs.declared.piece.Piece.TheVariants as p
 use Rattle.sj_sql_token.specs.Quotes.{inside_len, undoubled}
-use Rattle.sj_sql_token.specs.Tokens.{next, string_piece, string_end, name_piece, name_end, piece_at, lexed}
+use Rattle.sj_sql_token.specs.Tokens.{next, string_piece, string_end, name_piece, name_end, piece_at}
 use Rattle.sj_sql_token.proofs.Quotes.{inside_plain, inside_double, undoubled_plain, undoubled_double}
 use Rattle.sj_sql_text.specs.Pieces.{doubled, quoted}
 use Rattle.sj_sql_text.proofs.Lexes.{MayFollow, Reads, no_name, no_string, one_token}
@@ -34,7 +34,7 @@ inside m (b ∷ bs) rest h = go (b == m) refl (inside m bs rest h)
 
 -- ---- what it stands for
 
-pub back : (m : ℕ) (text : List ℕ) → undoubled m (doubled m text) ≡ text
+back : (m : ℕ) (text : List ℕ) → undoubled m (doubled m text) ≡ text
 back m [] = refl
 back m (b ∷ bs) = go (b == m) refl (back m bs)
   where
@@ -95,8 +95,8 @@ string_is : (text rest : List ℕ) → IsUtf8 text → next_is 39 rest ≡ false
 string_is text rest u h =
     ap (string_piece (closed 39 text rest)) (inside 39 text rest h)
     ∙ string_of (closed 39 text rest) text (length (doubled 39 text))
-        (ap is_utf8 (closed_front 39 text rest) ∙ doubled_text 39 (omega arith) text u)
-        (ap (undoubled 39) (closed_front 39 text rest) ∙ back 39 text)
+    (ap is_utf8 (closed_front 39 text rest) ∙ doubled_text 39 (omega arith) text u)
+    (ap (undoubled 39) (closed_front 39 text rest) ∙ back 39 text)
 
 closed_len : (m : ℕ) (text : List ℕ) → length (doubled m text) + 1 ≡ length (doubled m text ++ (m ∷ []))
 closed_len m text = omega (arith, length-append (doubled m text) (m ∷ []))
@@ -121,8 +121,8 @@ name_is : (text rest : List ℕ) → text ≢ [] → IsUtf8 text → next_is 34 
 name_is text rest some u h =
     ap (name_piece (closed 34 text rest)) (inside 34 text rest h)
     ∙ name_of (closed 34 text rest) text (length (doubled 34 text)) (doubled_some 34 text some)
-        (ap is_utf8 (closed_front 34 text rest) ∙ doubled_text 34 (omega arith) text u)
-        (ap (undoubled 34) (closed_front 34 text rest) ∙ back 34 text)
+    (ap is_utf8 (closed_front 34 text rest) ∙ doubled_text 34 (omega arith) text u)
+    (ap (undoubled 34) (closed_front 34 text rest) ∙ back 34 text)
 
 pub name_reads : (text : List ℕ) → text ≢ [] → IsUtf8 text → Reads false (quoted 34 text) (next (k.Quoted text))
 unfolding piece_at
