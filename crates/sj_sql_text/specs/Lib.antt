@@ -7,3 +7,4 @@ pub mod Adds
 pub mod Marks
 pub mod Tokens
 pub mod Law
+pub mod Printable

@@ -10,6 +10,7 @@
 
 mod call;
 mod law;
+mod lexing;
 mod phrase;
 mod piece;
 mod pieces;
@@ -21,4 +22,5 @@ mod table;
 mod value;
 
 pub use law::spelled;
+pub use lexing::text_breaks;
 pub use statement::statement_text;

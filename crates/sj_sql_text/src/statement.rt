@@ -57,7 +57,7 @@ fn items_behind<'a>(items: &'a [Item], out: &mut Pieces<'a>) -> Result<(), Memor
     Ok(())
 }
 
-/// FROM and a table, to the end.
+/// FROM and a table.
 fn from_table<'a>(from: &'a Table, out: &mut Pieces<'a>) -> Result<(), Memory>
     ensures { OnOk result (Adds out.old out.new (spec.from_on (table_of from.now))) }
 {
