@@ -1,5 +1,5 @@
 -- THE CANONICAL TEXT of a statement: one text for each tree.
-use Rattle.std.specs.Prelude.{ℕ, Bool, true, false, List, [], ◌∷◌, codes}
+use Rattle.std.specs.Prelude.{ℕ, Bool, true, false, List, [], ◌∷◌, ◌++◌, codes}
 use Rattle.sj_path_tree.specs.Tree.{Path}
 use Rattle.sj_sql_grammar.specs.Tree.{Value, Lit, Column, Exists, ValueOf, Query, IsJson, Object, Array, Values, NoValues, MoreValues, Members, NoMembers, MoreMembers, Item, Single, ArrayAgg, ObjectAgg, ExistsCall, ValueCall, QueryCall, RegularColumn, FormattedColumn, ColumnOf, Ordinality, Regular, Formatted, Existence, Nested, Columns, Last, More, Table, Statement, Plain, All, Listed}
 use Rattle.sj_value.specs.declared.clauses.ExistsAction.{ExistsAction}
