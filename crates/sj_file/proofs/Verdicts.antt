@@ -62,11 +62,11 @@ abbrev pub with_front : List Bound → Result (List Bound) (ℕ × FileKind) →
 with_front front (Ok others) = Ok (front ++ others)
 with_front front (Err refusal) = Err refusal
 
-front_none : (r : Result (List Bound) (ℕ × FileKind)) → r ≡ with_front [] r
+pub front_none : (r : Result (List Bound) (ℕ × FileKind)) → r ≡ with_front [] r
 front_none (Ok xs) = refl
 front_none (Err refusal) = refl
 
-front_more : (front : List Bound) (x : Bound) (k : ℕ) (r : Result (List Bound) (ℕ × FileKind)) → with_front front (before_others k (Ok x) r) ≡ with_front (front ++ x ∷ []) r
+pub front_more : (front : List Bound) (x : Bound) (k : ℕ) (r : Result (List Bound) (ℕ × FileKind)) → with_front front (before_others k (Ok x) r) ≡ with_front (front ++ x ∷ []) r
 front_more front x k (Ok others) = ap Ok (sym (append_assoc front (x ∷ []) others))
 front_more front x k (Err refusal) = refl
 

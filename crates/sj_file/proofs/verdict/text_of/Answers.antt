@@ -4,7 +4,7 @@ use Rattle.sj_file.proofs.Texts.{no_text, more_text, whole_text, refused_text, s
 use Rattle.sj_file.proofs.verdict.text_of.Goals as goal
 
 pub loop-bound-init : goal.loop-bound-init
-loop-bound-init c = record { taken = no_text c.args.file.now; room = omega arith }
+loop-bound-init c = record { taken = no_text c.args.file.now c.new-text.result c.new-text.ensures; room = omega arith }
 
 pub loop-bound-preserved : goal.loop-bound-preserved
 loop-bound-preserved c =
