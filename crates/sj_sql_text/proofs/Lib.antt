@@ -11,3 +11,7 @@ pub mod ValueTokens
 pub mod TableTokens
 -- for `spelled`
 pub mod SelectTokens
+-- for the lemmas of `CanonicalTrees`
+pub mod PathReadings
+-- for `accepted`
+pub mod CanonicalTrees
