@@ -15,3 +15,6 @@ pub mod SelectTokens
 pub mod PathReadings
 -- for `accepted`
 pub mod CanonicalTrees
+-- for `RoomPhrases`
+pub mod Room
+pub mod RoomPhrases
