@@ -18,3 +18,7 @@ pub mod CanonicalTrees
 -- for `RoomPhrases`
 pub mod Room
 pub mod RoomPhrases
+pub mod RoomPlans
+pub mod RoomValues
+pub mod RoomTables
+pub mod RoomStatements

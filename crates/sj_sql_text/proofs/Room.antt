@@ -149,6 +149,14 @@ in_parentheses {a} {b} {c} {rest} {f} o x z = record { needs = go; keeps = (encl
     go zero h = absurd (o.fits zero h)
     go (suc d) h = enclosed_need (x.needs d (o.fits (suc d) h))
 
+-- and without the parentheses
+pub within : {a b c rest : Tokens} {f : Pieces → Pieces} → Opens a b → Holds b f c → Closes c rest → Holds a f rest
+within {a} {b} {c} {rest} {f} o x z = record { needs = go; keeps = (enclosed_keep o (record { fits = x.keeps }) z).fits }
+  where
+    go : (d : ℕ) → Fits a d → Needs d f
+    go zero h = absurd (o.fits zero h)
+    go (suc d) h = with_more (omega arith) (x.needs d (o.fits (suc d) h))
+
 pub called : {ts a b c rest : Tokens} {f : Pieces → Pieces} (name : List ℕ) → Keeps ts a → Opens a b → Holds b f c → Closes c rest → Holds ts (λ ps. Call name ∷ f (Close ∷ ps)) rest
 called {f = f} name w o x z =
     let inner : Holds _ (λ ps. Open ∷ f (Close ∷ ps)) _ = behind w (in_parentheses o x z) in

@@ -51,11 +51,11 @@ query_spelled c ps =
 -- ---- values
 
 -- with commas between them
-abbrev listed_values : Values Path → Pieces → Pieces
+abbrev pub listed_values : Values Path → Pieces → Pieces
 listed_values NoValues ps = ps
 listed_values (MoreValues x others) ps = value_on x (values_on others ps)
 
-abbrev listed_members : Members Path → Pieces → Pieces
+abbrev pub listed_members : Members Path → Pieces → Pieces
 listed_members NoMembers ps = ps
 listed_members (MoreMembers key x others) ps = member_on key x (members_on others ps)
 

@@ -20,5 +20,5 @@ mod statement;
 mod table;
 mod value;
 
-pub use law::spelled;
+pub use law::{accepted, spelled};
 pub use statement::statement_text;
