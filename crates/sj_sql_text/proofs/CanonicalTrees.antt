@@ -2,13 +2,12 @@
 use Rattle.std.proofs.Common.{◌≡◌, List, [], ◌∷◌, ◌++◌, refl, sym, ap, ap₂, subst, ◌∙◌}
 use mathlib.Core.Path.{fun_ext}
 use Rattle.sj_path_tree.specs.Tree.{Path}
-use Rattle.sj_path_text.specs.Text.{path_text}
 use Rattle.sj_path_grammar.specs.declared.refusal.Name.{Name}
 use Rattle.sj_sql_grammar.specs.declared.refusal.FileKind.{FileKind}
 use Rattle.sj_sql_grammar.specs.Tree.{PathText, Value, Lit, Column, Exists, ValueOf, Query, IsJson, Object, Array, Values, NoValues, MoreValues, Members, NoMembers, MoreMembers, Item, Single, ArrayAgg, ObjectAgg, ColumnOf, Ordinality, Regular, Formatted, Existence, Nested, Columns, Last, More, Table, Statement, Plain, All, Listed}
 use Rattle.sj_sql_grammar.specs.Notes.{Notes, value_with, values_with, members_with, item_with, column_with, columns_with, common_with, table_with, plain_with, items_with, statement_with, note_value, note_values, note_members, note_item, note_column, note_columns, note_common, note_table, note_plain, note_items, note_statement}
-use Rattle.sj_sql_grammar.specs.Answers.{Mark, path, unsupported, listing, marks, IsFault, IsUnsupported, Free, none, more, path_of, finishing}
-use Rattle.sj_sql_grammar.proofs.Marks.{see, seen, noted}
+use Rattle.sj_sql_grammar.specs.Answers.{Mark, path, unsupported, listing, marks, IsFault, IsUnsupported, Free, none, more, finishing}
+use Rattle.sj_sql_grammar.proofs.Marks.{seen, noted}
 use Rattle.sj_sql_text.specs.Law.{canonical}
 use Rattle.sj_sql_text.proofs.PathReadings.{same_path, faultless, all_supported}
 

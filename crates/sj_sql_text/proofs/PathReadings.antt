@@ -1,13 +1,12 @@
 -- The canonical text of the path that stands for a written path is accepted as this path.
-use Rattle.std.proofs.Common.{◌≡◌, ℕ, zero, suc, ◌<◌, inl, inr, false, List, ◌∷◌, take, Option, Some, None, refl, sym, ap, ◌∙◌, arith}
+use Rattle.std.proofs.Common.{◌≡◌, ℕ, zero, suc, ◌<◌, inl, inr, false, List, take, Option, Some, None, refl, sym, ap, ◌∙◌, arith}
 use Rattle.sj_path_grammar.specs.declared.refusal.Name.{Name}
-use Rattle.sj_path_grammar.specs.declared.refusal.PathRefusal.{PathRefusal}
 use Rattle.sj_path_grammar.specs.declared.refusal.PathRefusal.TheVariants as r
 use Rattle.sj_path_tree.specs.declared.parts.Mode.TheVariants as mode
 use Rattle.sj_path_tree.specs.Tree.{Path, Root, Access, Member}
 use Rattle.sj_path_grammar.specs.Depth.{is_opening, is_counted, IsTooDeep}
 use Rattle.sj_path_grammar.specs.Misplaced.{is_misplaced}
-use Rattle.sj_path_grammar.specs.Answers.{Accepts, Refuses}
+use Rattle.sj_path_grammar.specs.Answers.{Accepts}
 use Rattle.sj_path_grammar.specs.Accepted.{accepted_path}
 use Rattle.sj_path_grammar.proofs.Acceptance.{path_accepted, accepted_is}
 use Rattle.sj_path_grammar.proofs.Laws as grammar

@@ -1,5 +1,5 @@
 -- How many more parentheses may be open at once, and what it takes for the pieces of a tree to have that room.
-use Rattle.std.proofs.Common.{◌≡◌, ℕ, zero, suc, ◌+◌, ◌<◌, ◌≤◌, Bool, cond, List, [], ◌∷◌, take, Some, None, count_by, refl, arith}
+use Rattle.std.proofs.Common.{◌≡◌, ℕ, zero, suc, ◌+◌, ◌<◌, ◌≤◌, Bool, cond, List, [], ◌∷◌, take, count_by, refl, arith}
 use Rattle.std.proofs.lemmas.List.Recursion.{is_count_by}
 use Rattle.std.specs.Bool.{⊤}
 use Rattle.sj_base.specs.Nesting.{max_open}

@@ -1,7 +1,6 @@
 -- Phrases close what they open, and their pieces need no room but those of types.
-use Rattle.std.proofs.Common.{◌≡◌, ℕ, zero, suc, ◌≤◌, Bool, true, false, cond, List, [], ◌∷◌, codes, ℤ, Option, Some, None, refl, arith}
+use Rattle.std.proofs.Common.{ℕ, zero, suc, ◌≤◌, Bool, true, false, cond, List, [], ◌∷◌, codes, ℤ, Option, Some, None, refl, arith}
 use Rattle.std.specs.Prelude.{◌==◌, ◌&&◌, nat_le}
-use Rattle.sj_base.specs.Options.{◌>>=◌}
 use Rattle.sj_decimal.specs.Limits.{max_digits}
 use Rattle.sj_decimal.specs.Signed.{is_negative}
 use Rattle.sj_path_tree.specs.declared.parts.Literal.{Literal}
@@ -36,12 +35,12 @@ use Rattle.sj_sql_grammar.specs.declared.clauses.Quotes.TheVariants as quotes
 use Rattle.sj_sql_grammar.specs.declared.clauses.QueryClauses.{QueryClauses}
 use Rattle.sj_sql_grammar.specs.declared.clauses.IsJsonCall.{IsJsonCall}
 use Rattle.sj_sql_grammar.specs.Tree.{Common}
-use Rattle.sj_sql_grammar.specs.Phrases.{Tokens, Phrase, if_some, word, open_at, close_at, comma_at, colon_at, star_at, string_at, count_at, number_at, name_at, doc_at, meant, skip_word, constant_of, literal_at, sized, max_varchar, varchar_at, fixed_at, numeric_at, type_from, type_at, encoding_of, encoding_at, format_at, passed_at, cause_at, on_at, exists_action_of, exists_clause_at, returning_at, value_action_of, value_action_at, value_clause_at, query_action_of, emptied_of, query_action_at, query_clause_at, condition_of, wrapped, wrapper_at, quotes_of, on_scalar_string, quotes_at, not_at, kind_of, unique_of, unique_at, nulls_of, nulls_at, alias_at, table_alias_at, path_name_at, path_at, nested_path_at, formatted_at, existence_at, table_action_of, table_clause_at, in_out_of, siblings_of, default_at}
+use Rattle.sj_sql_grammar.specs.Phrases.{Tokens, Phrase, if_some, word, open_at, close_at, comma_at, colon_at, star_at, string_at, count_at, number_at, name_at, doc_at, meant, skip_word, constant_of, literal_at, sized, max_varchar, varchar_at, fixed_at, numeric_at, type_from, type_at, encoding_of, encoding_at, format_at, passed_at, cause_at, on_at, exists_action_of, exists_clause_at, returning_at, value_action_of, value_action_at, value_clause_at, query_action_of, emptied_of, query_action_at, query_clause_at, condition_of, wrapped, wrapper_at, quotes_of, on_scalar_string, quotes_at, not_at, unique_of, unique_at, nulls_of, nulls_at, alias_at, table_alias_at, path_name_at, path_at, nested_path_at, formatted_at, existence_at, table_action_of, table_clause_at, in_out_of, siblings_of, default_at}
 use Rattle.sj_sql_grammar.proofs.ReadTokens.{If, nothing, here, then, given, either, chosen, weaken, said}
-use Rattle.sj_sql_text.specs.Pieces.{Word, Name, String, Comma, Pieces}
+use Rattle.sj_sql_text.specs.Pieces.{Comma, Pieces}
 use Rattle.sj_sql_text.specs.Phrases as on
 use Rattle.sj_sql_text.specs.Tokens.{unsigned, number_on, tokens_of}
-use Rattle.sj_sql_text.proofs.Room.{Fits, Keeps, stays, and_keeps, opens, closes, Opens, Closes, enclosed_keep, Needs, needs_none, and_needs, Holds, plain, behind, joined, by_parentheses}
+use Rattle.sj_sql_text.proofs.Room.{Fits, Keeps, stays, and_keeps, opens, closes, Opens, enclosed_keep, Needs, needs_none, and_needs, Holds, plain, behind, joined, by_parentheses}
 
 -- ---- single tokens
 
@@ -165,7 +164,7 @@ sized_keeps ty ts n =
 varchar_holds : (ts : Tokens) → If (HoldsType ts) (varchar_at ts)
 varchar_holds ts =
     either (open_at ts) _ _ (λ a o. then (count_at a) _ (count_keeps a) (λ n e. given (close_at n.1) _ (λ rest z. chosen (nat_le 1 n.0 && nat_le n.0 max_varchar) _ _
-        (λ _. here (by_parentheses (varchar_needs n.0) ((opens ts).holds a o) e ((closes n.1).holds rest z))) (λ _. nothing))))
+    (λ _. here (by_parentheses (varchar_needs n.0) ((opens ts).holds a o) e ((closes n.1).holds rest z))) (λ _. nothing))))
     (λ _. here (plain (needs_none (λ d ps h. h)) (stays ts)))
 
 fixed_holds : {ts a b : Tokens} (p s : ℕ) → Opens ts a → Keeps a b → If (HoldsType ts) (fixed_at p s b)
@@ -175,8 +174,8 @@ fixed_holds {b = b} p s o e =
 numeric_holds : (ts : Tokens) → If (HoldsType ts) (numeric_at ts)
 numeric_holds ts =
     either (open_at ts) _ _ (λ a o. then (count_at a) _ (count_keeps a) (λ p e. either (comma_at p.1) _ _
-        (λ b c. then (count_at b) _ (count_keeps b) (λ s g. fixed_holds p.0 s.0 ((opens ts).holds a o) (and_keeps e (and_keeps ((comma_keeps p.1).holds b c) g))))
-        (λ _. fixed_holds p.0 0 ((opens ts).holds a o) e)))
+    (λ b c. then (count_at b) _ (count_keeps b) (λ s g. fixed_holds p.0 s.0 ((opens ts).holds a o) (and_keeps e (and_keeps ((comma_keeps p.1).holds b c) g))))
+    (λ _. fixed_holds p.0 0 ((opens ts).holds a o) e)))
     (λ _. here (plain (needs_none (λ d ps h. h)) (stays ts)))
 
 type_from_holds : (v : Keyword) (ts : Tokens) → If (HoldsType ts) (type_from v ts)
@@ -258,7 +257,7 @@ unfolding wrapper_at
 wrapper_keeps ts =
     either (word w.Without ts) _ _ (λ a h. wrapped_keeps wrapper.Without ((word_keeps w.Without ts).holds a h))
     (λ _. then (word w.With ts) _ (word_keeps w.With ts) (λ a e. either (meant condition_of a) _ _
-        (λ c h. wrapped_keeps c.0 (and_keeps e ((meant_keeps condition_of a).holds c h))) (λ _. wrapped_keeps wrapper.Unconditional e)))
+    (λ c h. wrapped_keeps c.0 (and_keeps e ((meant_keeps condition_of a).holds c h))) (λ _. wrapped_keeps wrapper.Unconditional e)))
 
 scalar_string_keeps : (ts : Tokens) → If (Keeps ts) (on_scalar_string ts)
 scalar_string_keeps ts =
@@ -327,11 +326,11 @@ unfolding default_at
 default_keeps ts =
     either (meant in_out_of ts) _ _
     (λ i h. either (comma_at i.1) _ _
-        (λ a c. then (meant siblings_of a) _ (meant_keeps siblings_of a) (λ s e. here (and_keeps ((meant_keeps in_out_of ts).holds i h) (and_keeps ((comma_keeps i.1).holds a c) e))))
-        (λ _. here ((meant_keeps in_out_of ts).holds i h)))
+    (λ a c. then (meant siblings_of a) _ (meant_keeps siblings_of a) (λ s e. here (and_keeps ((meant_keeps in_out_of ts).holds i h) (and_keeps ((comma_keeps i.1).holds a c) e))))
+    (λ _. here ((meant_keeps in_out_of ts).holds i h)))
     (λ _. then (meant siblings_of ts) _ (meant_keeps siblings_of ts) (λ s e. either (comma_at s.1) _ _
-        (λ a c. then (meant in_out_of a) _ (meant_keeps in_out_of a) (λ i g. here (and_keeps e (and_keeps ((comma_keeps s.1).holds a c) g))))
-        (λ _. here e)))
+    (λ a c. then (meant in_out_of a) _ (meant_keeps in_out_of a) (λ i g. here (and_keeps e (and_keeps ((comma_keeps s.1).holds a c) g))))
+    (λ _. here e)))
 
 -- ---- the pieces of these
 

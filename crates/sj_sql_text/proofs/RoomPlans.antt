@@ -1,20 +1,20 @@
 -- The pieces of a plan that some tokens spell have the room that these have, if it is room for one at least.
-use Rattle.std.proofs.Common.{◌≡◌, ℕ, zero, suc, ◌≤◌, Bool, true, false, List, [], ◌∷◌, codes, Some, refl, sym, subst, arith}
+use Rattle.std.proofs.Common.{◌≡◌, ℕ, zero, suc, ◌≤◌, Bool, true, false, List, ◌∷◌, codes, refl, sym, subst, arith}
 use Rattle.sj_sql_token.specs.declared.keyword.Keyword.TheVariants as w
 use Rattle.sj_sql_grammar.specs.declared.clauses.InOut.{InOut}
 use Rattle.sj_sql_grammar.specs.declared.clauses.InOut.TheVariants as in_out
 use Rattle.sj_sql_grammar.specs.declared.clauses.Siblings.{Siblings}
 use Rattle.sj_sql_grammar.specs.declared.clauses.Siblings.TheVariants as siblings
 use Rattle.sj_sql_grammar.specs.Tree.{NamedPlan, PathOf, Outer, Inner, Union, Cross, PlanTree, Default, Named}
-use Rattle.sj_sql_grammar.specs.Phrases.{Tokens, default_at}
+use Rattle.sj_sql_grammar.specs.Phrases.{Tokens}
 use Rattle.sj_sql_grammar.specs.Grammar as g
 use Rattle.sj_sql_grammar.specs.Grammar.{IsPlanExpr, IsUnion, IsCross, IsPlanPrim, IsPlan}
-use Rattle.sj_sql_text.specs.Pieces.{Pieces, Open, Close, Comma}
+use Rattle.sj_sql_text.specs.Pieces.{Pieces, Open, Close}
 use Rattle.sj_sql_text.specs.Phrases as on
-use Rattle.sj_sql_text.specs.Plans.{is_name, leads_union, leads_cross, alone_or_enclosed, named_on, in_out_on, siblings_on, plan_on}
+use Rattle.sj_sql_text.specs.Plans.{is_name, leads_union, leads_cross, alone_or_enclosed, named_on, plan_on}
 use Rattle.sj_sql_text.specs.Tokens.{tokens_of}
 use Rattle.sj_sql_text.proofs.ReadPhrases.{IsDefault, default_read}
-use Rattle.sj_sql_text.proofs.Room.{Fits, Opened, Keeps, stays, and_keeps, opens, closes, enclosed_keep, Needs, needs_none, with_more, enclosed_need, Holds, plain, joined, in_parentheses, within}
+use Rattle.sj_sql_text.proofs.Room.{Fits, Keeps, stays, and_keeps, opens, closes, enclosed_keep, Needs, needs_none, with_more, Holds, plain, joined, in_parentheses, within}
 use Rattle.sj_sql_text.proofs.RoomPhrases.{word_keeps, name_keeps, default_keeps}
 
 apart : true ≡ false → ⊥
@@ -113,7 +113,7 @@ default_holds (Named p) is k = absurd (apart (sym is.is))
 pub plan_holds : {ts rest : Tokens} {p : PlanTree} → IsPlan ts p rest → HoldsPlan ts (plan_on p) rest
 plan_holds (g.named_plan {ts = ts} {a = a} {b = b} {c = c} {rest = rest} {p = p} h o d z few) =
     let x : Holds ts (plan_on (Named p)) rest =
-        joined (plain (word_needs (codes "PLAN")) ((word_keeps w.Plan ts).holds a h)) (in_parentheses ((opens a).holds b o) (expr_holds d) ((closes c).holds rest z)) in
+    joined (plain (word_needs (codes "PLAN")) ((word_keeps w.Plan ts).holds a h)) (in_parentheses ((opens a).holds b o) (expr_holds d) ((closes c).holds rest z)) in
     record { needs = λ d le fit. x.needs d fit; keeps = record { fits = x.keeps } }
 plan_holds (g.default_plan {ts = ts} {a = a} {b = b} {c = c} {d = d} {rest = rest} {p = p} h e o q z) =
     default_holds p (default_read c d p q)

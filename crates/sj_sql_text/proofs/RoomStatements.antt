@@ -1,5 +1,5 @@
 -- The canonical tokens of a statement nest no deeper than others that spell it.
-use Rattle.std.proofs.Common.{◌≡◌, ℕ, List, [], ◌∷◌, codes, Some, refl, subst, arith}
+use Rattle.std.proofs.Common.{◌≡◌, ℕ, List, [], ◌∷◌, codes, refl, subst, arith}
 use Rattle.sj_base.specs.Nesting.{max_open}
 use Rattle.sj_sql_token.specs.declared.keyword.Keyword.TheVariants as w
 use Rattle.sj_sql_grammar.specs.Tree.{PathText, Value, Item, Statement}

@@ -1,5 +1,5 @@
 -- The pieces of columns and tables that some tokens spell have the room that these have.
-use Rattle.std.proofs.Common.{◌≡◌, ℕ, zero, suc, ◌≤◌, List, ◌∷◌, codes, Option, Some, None, refl, arith}
+use Rattle.std.proofs.Common.{ℕ, zero, suc, ◌≤◌, List, ◌∷◌, codes, Option, arith}
 use Rattle.sj_path_tree.specs.Tree.{Path}
 use Rattle.sj_value.specs.declared.clauses.ExistsAction.{ExistsAction}
 use Rattle.sj_sql_token.specs.declared.keyword.Keyword.TheVariants as w
@@ -13,7 +13,7 @@ use Rattle.sj_sql_grammar.specs.Grammar as g
 use Rattle.sj_sql_grammar.specs.Grammar.{IsColumn, IsColumns, IsColumnList, IsPlan, IsTable}
 use Rattle.sj_sql_grammar.specs.Notes.{column_with, columns_with, table_with}
 use Rattle.sj_sql_grammar.specs.Answers.{path_of, finishing}
-use Rattle.sj_sql_text.specs.Pieces.{Pieces, Comma}
+use Rattle.sj_sql_text.specs.Pieces.{Comma}
 use Rattle.sj_sql_text.specs.Phrases as on
 use Rattle.sj_sql_text.specs.Plans.{plan_on}
 use Rattle.sj_sql_text.specs.Statements.{column_path_on, column_on, listed_columns_on, columns_on, table_on}

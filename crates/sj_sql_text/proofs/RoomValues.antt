@@ -1,5 +1,5 @@
 -- The pieces of a value that some tokens spell have the room that these have.
-use Rattle.std.proofs.Common.{◌≡◌, ℕ, Bool, List, [], ◌∷◌, codes, Option, Some, None, refl, subst}
+use Rattle.std.proofs.Common.{◌≡◌, Bool, List, ◌∷◌, codes, Some, refl, subst}
 use Rattle.sj_path_tree.specs.Tree.{Path}
 use Rattle.sj_value.specs.declared.clauses.Nulls.{Nulls}
 use Rattle.sj_sql_token.specs.declared.keyword.Keyword.TheVariants as w

@@ -3,7 +3,6 @@ use Rattle.sj_path_tree.specs.Tree.{Path}
 use Rattle.sj_sql_grammar.specs.Tree.{Statement}
 use Rattle.sj_sql_grammar.specs.Grammar.{IsTooDeep, IsSelect}
 use Rattle.sj_sql_grammar.specs.Notes.{statement_with}
-use Rattle.sj_sql_grammar.specs.Answers.{Accepted}
 use Rattle.sj_sql_text.specs.Statements.{body_on}
 use Rattle.sj_sql_text.specs.Tokens.{tokens_of}
 use Rattle.sj_sql_text.specs.Law.{canonical}
