@@ -1,3 +1,11 @@
+-- for `split_behind_mark`
+mod Marks
+-- for `value` and `column`
+mod Constructed
+-- for `returning` and `with_wrapper`
+mod Growth
+-- for `print`
+mod Printing
 -- for the lemmas of `PhraseTokens`, `PlanTokens`, `ValueTokens`, `TableTokens` and `SelectTokens`
 pub mod WordTokens
 -- for the lemmas of `PhraseTokens`, `PlanTokens`, `ValueTokens`, `TableTokens` and `RoomPlans`

@@ -1,5 +1,5 @@
 -- The pieces of a value that some tokens spell have the room that these have.
-use Rattle.std.proofs.Common.{◌≡◌, Bool, List, ◌∷◌, codes, Some, refl, subst}
+use Rattle.std.proofs.Common.{◌≡◌, Bool, true, false, List, ◌∷◌, codes, Some, refl, subst}
 use Rattle.sj_path_tree.specs.Tree.{Path}
 use Rattle.sj_value.specs.declared.clauses.Nulls.{Nulls}
 use Rattle.sj_sql_token.specs.declared.keyword.Keyword.TheVariants as w
@@ -21,7 +21,6 @@ use Rattle.sj_sql_grammar.proofs.ReadTokens.{If}
 use Rattle.sj_sql_text.specs.Pieces.{Pieces, Call, Comma, Close}
 use Rattle.sj_sql_text.specs.Phrases as on
 use Rattle.sj_sql_text.specs.Statements.{exists_on, value_call_on, query_on, value_on, values_on, members_on, member_on}
-use Rattle.sj_sql_text.proofs.ValueTokens.{listed_values, listed_members}
 use Rattle.sj_sql_text.proofs.Room.{Keeps, stays, and_keeps, opens, closes, Needs, needs_none, and_needs, Holds, plain, behind, joined, called}
 use Rattle.sj_sql_text.proofs.RoomPhrases as room
 use Rattle.sj_sql_text.proofs.RoomPhrases.{Over, word_keeps, comma_keeps, colon_keeps, string_keeps, name_keeps, doc_keeps, meant_keeps}
@@ -98,24 +97,24 @@ is_json_keeps (g.is_json_call {ts = ts} {a = a} {b = b} {c = c} {d = d} h i n j 
 -- ---- values
 
 abbrev object_on : Members Path → Nulls → Bool → Pieces → Pieces
-object_on members n u ps = Call (codes "JSON_OBJECT") ∷ listed_members members (on.nulls_on n (on.unique_on u (Close ∷ ps)))
+object_on members n u ps = Call (codes "JSON_OBJECT") ∷ members_on false members (on.nulls_on n (on.unique_on u (Close ∷ ps)))
 
 is_object : {s : Source} {ts rest : Tokens} {xs : Members PathText} → IsMembers s ts xs rest → (n : Nulls) (u : Bool) → object_on (members_with finishing xs) n u ≡ value_on (Object (members_with finishing xs) n u)
 is_object (g.last_member d) n u = refl
 is_object (g.more_members d c q) n u = refl
 
 abbrev array_on : Values Path → Nulls → Pieces → Pieces
-array_on values n ps = Call (codes "JSON_ARRAY") ∷ listed_values values (on.nulls_on n (Close ∷ ps))
+array_on values n ps = Call (codes "JSON_ARRAY") ∷ values_on false values (on.nulls_on n (Close ∷ ps))
 
 is_array : {s : Source} {ts rest : Tokens} {xs : Values PathText} → IsValues s ts xs rest → (n : Nulls) → array_on (values_with finishing xs) n ≡ value_on (Array (values_with finishing xs) n)
 is_array (g.last_value d) n = refl
 is_array (g.more_values d c q) n = refl
 
-other_members : {s : Source} {ts rest : Tokens} {xs : Members PathText} → IsMembers s ts xs rest → (λ ps. Comma ∷ listed_members (members_with finishing xs) ps) ≡ members_on (members_with finishing xs)
+other_members : {s : Source} {ts rest : Tokens} {xs : Members PathText} → IsMembers s ts xs rest → (λ ps. Comma ∷ members_on false (members_with finishing xs) ps) ≡ members_on true (members_with finishing xs)
 other_members (g.last_member d) = refl
 other_members (g.more_members d c q) = refl
 
-other_values : {s : Source} {ts rest : Tokens} {xs : Values PathText} → IsValues s ts xs rest → (λ ps. Comma ∷ listed_values (values_with finishing xs) ps) ≡ values_on (values_with finishing xs)
+other_values : {s : Source} {ts rest : Tokens} {xs : Values PathText} → IsValues s ts xs rest → (λ ps. Comma ∷ values_on false (values_with finishing xs) ps) ≡ values_on true (values_with finishing xs)
 other_values (g.last_value d) = refl
 other_values (g.more_values d c q) = refl
 
@@ -145,7 +144,7 @@ mutual
       subst (λ (f : Pieces → Pieces). Holds ts f rest) (is_array d n)
       (called (codes "JSON_ARRAY") ((word_keeps w.JsonArray ts).holds a h) ((opens a).holds b o) (joined (values_hold d) (plain (room.nulls_need n) (optional_keeps room.nulls_keeps nulls))) ((closes e).holds rest z))
 
-  values_hold : {s : Source} {ts rest : Tokens} {xs : Values PathText} → IsValues s ts xs rest → Holds ts (listed_values (values_with finishing xs)) rest
+  values_hold : {s : Source} {ts rest : Tokens} {xs : Values PathText} → IsValues s ts xs rest → Holds ts (values_on false (values_with finishing xs)) rest
   values_hold (g.last_value d) = value_holds d
   values_hold (g.more_values {a = a} {rest = rest} d c q) = joined (value_holds d) (subst (λ (f : Pieces → Pieces). Holds a f rest) (other_values q) (behind_comma c (values_hold q)))
 
@@ -155,6 +154,6 @@ mutual
   member_holds (g.valued {a = a} {b = b} d v q) = joined (value_holds d) (joined (value_word ((word_keeps w.Value a).holds b v)) (value_holds q))
   member_holds (g.coloned {a = a} {b = b} d v q) = joined (value_holds d) (joined (value_word ((colon_keeps a).holds b v)) (value_holds q))
 
-  members_hold : {s : Source} {ts rest : Tokens} {xs : Members PathText} → IsMembers s ts xs rest → Holds ts (listed_members (members_with finishing xs)) rest
+  members_hold : {s : Source} {ts rest : Tokens} {xs : Members PathText} → IsMembers s ts xs rest → Holds ts (members_on false (members_with finishing xs)) rest
   members_hold (g.last_member d) = member_holds d
   members_hold (g.more_members {a = a} {rest = rest} d c q) = joined (member_holds d) (subst (λ (f : Pieces → Pieces). Holds a f rest) (other_members q) (behind_comma c (members_hold q)))

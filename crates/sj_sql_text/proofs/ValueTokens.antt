@@ -1,10 +1,9 @@
 -- The tokens of a value that some tokens spell are that value, with each path in its canonical text.
-use Rattle.std.proofs.Common.{◌≡◌, ◌∷◌, codes, Some, None, refl}
+use Rattle.std.proofs.Common.{◌≡◌, true, false, ◌∷◌, codes, Some, None, refl}
 use Rattle.sj_sql_token.specs.declared.keyword.Keyword.TheVariants as w
 use Rattle.sj_sql_grammar.specs.declared.clauses.ValueDo.{ValueDo}
 use Rattle.sj_sql_grammar.specs.declared.clauses.ValueDo.TheVariants as on_value
-use Rattle.sj_sql_grammar.specs.Tree.{PathText, Common, ExistsCall, ValueCall, QueryCall, Value, Values, NoValues, MoreValues, Members, NoMembers, MoreMembers}
-use Rattle.sj_path_tree.specs.Tree.{Path}
+use Rattle.sj_sql_grammar.specs.Tree.{PathText, Common, ExistsCall, ValueCall, QueryCall, Value, Values, Members}
 use Rattle.sj_sql_grammar.specs.Phrases.{Tokens, open_at, comma_at}
 use Rattle.sj_sql_grammar.specs.Grammar as g
 use Rattle.sj_sql_grammar.specs.Grammar.{IsCommon, IsExistsCall, IsValueCall, IsQueryCall, Source, IsValue, IsValues, IsMember, IsMembers}
@@ -50,20 +49,11 @@ query_spelled c ps =
 
 -- ---- values
 
--- with commas between them
-abbrev pub listed_values : Values Path → Pieces → Pieces
-listed_values NoValues ps = ps
-listed_values (MoreValues x others) ps = value_on x (values_on others ps)
-
-abbrev pub listed_members : Members Path → Pieces → Pieces
-listed_members NoMembers ps = ps
-listed_members (MoreMembers key x others) ps = member_on key x (members_on others ps)
-
-values_behind : {s : Source} {ts rest : Tokens} {xs : Values PathText} → IsValues s ts xs rest → (ps : Pieces) → comma_at (tokens_of (values_on (values_with finishing xs) ps)) ≡ Some (tokens_of (listed_values (values_with finishing xs) ps))
+values_behind : {s : Source} {ts rest : Tokens} {xs : Values PathText} → IsValues s ts xs rest → (ps : Pieces) → comma_at (tokens_of (values_on true (values_with finishing xs) ps)) ≡ Some (tokens_of (values_on false (values_with finishing xs) ps))
 values_behind (g.last_value d) ps = refl
 values_behind (g.more_values d c q) ps = refl
 
-members_behind : {s : Source} {ts rest : Tokens} {xs : Members PathText} → IsMembers s ts xs rest → (ps : Pieces) → comma_at (tokens_of (members_on (members_with finishing xs) ps)) ≡ Some (tokens_of (listed_members (members_with finishing xs) ps))
+members_behind : {s : Source} {ts rest : Tokens} {xs : Members PathText} → IsMembers s ts xs rest → (ps : Pieces) → comma_at (tokens_of (members_on true (members_with finishing xs) ps)) ≡ Some (tokens_of (members_on false (members_with finishing xs) ps))
 members_behind (g.last_member d) ps = refl
 members_behind (g.more_members d c q) ps = refl
 
@@ -84,7 +74,7 @@ mutual
       let unique = on.unique_on u (Close ∷ ps) in
       let nulls = on.nulls_on n unique in
       g.object (stands w.JsonObject (codes "JSON_OBJECT") _ json_object_is) refl
-      (g.more_members (member_spelled d (members_on (members_with finishing xs) nulls)) (members_behind q nulls) (members_spelled q nulls))
+      (g.more_members (member_spelled d (members_on true (members_with finishing xs) nulls)) (members_behind q nulls) (members_spelled q nulls))
       (g.there (phrase.nulls_are n unique)) (g.there (phrase.unique_is u (Close ∷ ps))) refl
   value_spelled (g.no_array h o z) ps = g.no_array (stands w.JsonArray (codes "JSON_ARRAY") _ json_array_is) refl refl
   value_spelled (g.array {n = n} h o (g.last_value d) nulls z) ps =
@@ -93,11 +83,11 @@ mutual
   value_spelled (g.array {n = n} h o (g.more_values {xs = xs} d c q) nulls z) ps =
       let nulls = on.nulls_on n (Close ∷ ps) in
       g.array (stands w.JsonArray (codes "JSON_ARRAY") _ json_array_is) refl
-      (g.more_values (value_spelled d (values_on (values_with finishing xs) nulls)) (values_behind q nulls) (values_spelled q nulls)) (g.there (phrase.nulls_are n (Close ∷ ps))) refl
+      (g.more_values (value_spelled d (values_on true (values_with finishing xs) nulls)) (values_behind q nulls) (values_spelled q nulls)) (g.there (phrase.nulls_are n (Close ∷ ps))) refl
 
-  values_spelled : {s : Source} {ts rest : Tokens} {xs : Values PathText} → IsValues s ts xs rest → (ps : Pieces) → IsValues s (tokens_of (listed_values (values_with finishing xs) ps)) (values_with canonical xs) (tokens_of ps)
+  values_spelled : {s : Source} {ts rest : Tokens} {xs : Values PathText} → IsValues s ts xs rest → (ps : Pieces) → IsValues s (tokens_of (values_on false (values_with finishing xs) ps)) (values_with canonical xs) (tokens_of ps)
   values_spelled (g.last_value d) ps = g.last_value (value_spelled d ps)
-  values_spelled (g.more_values {xs = xs} d c q) ps = g.more_values (value_spelled d (values_on (values_with finishing xs) ps)) (values_behind q ps) (values_spelled q ps)
+  values_spelled (g.more_values {xs = xs} d c q) ps = g.more_values (value_spelled d (values_on true (values_with finishing xs) ps)) (values_behind q ps) (values_spelled q ps)
 
   pub member_spelled : {s : Source} {ts rest : Tokens} {x y : Value PathText} → IsMember s ts x y rest → (ps : Pieces) → IsMember s (tokens_of (member_on (value_with finishing x) (value_with finishing y) ps)) (value_with canonical x) (value_with canonical y) (tokens_of ps)
   member_spelled (g.keyed {y = y} h d v q) ps =
@@ -107,6 +97,6 @@ mutual
   member_spelled (g.coloned {y = y} d v q) ps =
       let value = value_on (value_with finishing y) ps in g.valued (value_spelled d (on.word (codes "VALUE") value)) (stands w.Value (codes "VALUE") (tokens_of value) value_is) (value_spelled q ps)
 
-  members_spelled : {s : Source} {ts rest : Tokens} {xs : Members PathText} → IsMembers s ts xs rest → (ps : Pieces) → IsMembers s (tokens_of (listed_members (members_with finishing xs) ps)) (members_with canonical xs) (tokens_of ps)
+  members_spelled : {s : Source} {ts rest : Tokens} {xs : Members PathText} → IsMembers s ts xs rest → (ps : Pieces) → IsMembers s (tokens_of (members_on false (members_with finishing xs) ps)) (members_with canonical xs) (tokens_of ps)
   members_spelled (g.last_member d) ps = g.last_member (member_spelled d ps)
-  members_spelled (g.more_members {xs = xs} d c q) ps = g.more_members (member_spelled d (members_on (members_with finishing xs) ps)) (members_behind q ps) (members_spelled q ps)
+  members_spelled (g.more_members {xs = xs} d c q) ps = g.more_members (member_spelled d (members_on true (members_with finishing xs) ps)) (members_behind q ps) (members_spelled q ps)

@@ -46,6 +46,11 @@ abbrev pub listed : {A : Type 0} → (A → Pieces → Pieces) → List A → Pi
 listed one [] ps = ps
 listed one (x ∷ xs) ps = one x (each_behind one xs ps)
 
+-- a comma, behind another part
+abbrev pub comma_behind : Bool → Pieces → Pieces
+comma_behind true ps = Comma ∷ ps
+comma_behind false ps = ps
+
 -- ---- literals, types and the document
 
 abbrev pub literal_on : Literal → Pieces → Pieces
@@ -70,6 +75,9 @@ abbrev pub type_on : TypeName → Pieces → Pieces
 type_on (Known ty) ps = sql_type_on ty ps
 type_on Approximate ps = word (codes "FLOAT") ps
 type_on Datetime ps = word (codes "DATE") ps
+
+abbrev pub returning_on : TypeName → Pieces → Pieces
+returning_on ty ps = word (codes "RETURNING") (type_on ty ps)
 
 -- the second is of no accepted statement
 abbrev pub encoding_on : Encoding → Pieces → Pieces

@@ -1,5 +1,5 @@
 -- The pieces of plans. A parenthesis stands only where the grammar needs it to give this tree.
-use Rattle.std.specs.Prelude.{Bool, true, false, not, ◌||◌, List, ◌∷◌, codes}
+use Rattle.std.specs.Prelude.{Bool, true, false, ◌∷◌, codes}
 use Rattle.sj_sql_grammar.specs.declared.clauses.InOut.{InOut}
 use Rattle.sj_sql_grammar.specs.declared.clauses.InOut.TheVariants as in_out
 use Rattle.sj_sql_grammar.specs.declared.clauses.Siblings.{Siblings}

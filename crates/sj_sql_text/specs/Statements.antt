@@ -1,10 +1,11 @@
 -- THE CANONICAL TEXT of a statement: one text for each tree.
-use Rattle.std.specs.Prelude.{ℕ, List, [], ◌∷◌, ◌++◌, codes}
+use Rattle.std.specs.Prelude.{ℕ, Bool, true, false, List, [], ◌∷◌, ◌++◌, codes}
 use Rattle.sj_path_tree.specs.Tree.{Path}
 use Rattle.sj_sql_grammar.specs.Tree.{Value, Lit, Column, Exists, ValueOf, Query, IsJson, Object, Array, Values, NoValues, MoreValues, Members, NoMembers, MoreMembers, Item, Single, ArrayAgg, ObjectAgg, ExistsCall, ValueCall, QueryCall, RegularColumn, FormattedColumn, ColumnOf, Ordinality, Regular, Formatted, Existence, Nested, Columns, Last, More, Table, Statement, Plain, All, Listed}
 use Rattle.sj_value.specs.declared.clauses.ExistsAction.{ExistsAction}
+use Rattle.sj_value.specs.declared.clauses.Nulls.{Nulls}
 use Rattle.sj_sql_text.specs.Pieces.{Call, Open, Close, Comma, Star, Semicolon, Pieces, text_of}
-use Rattle.sj_sql_text.specs.Phrases.{word, listed, literal_on, type_on, encoding_on, document_on, path_on, name_on, path_name_on, passing_on, common_on, exists_clause_on, value_clauses_on, query_clauses_on, unique_on, nulls_on, is_json_on, table_clause_on}
+use Rattle.sj_sql_text.specs.Phrases.{word, listed, comma_behind, literal_on, type_on, returning_on, encoding_on, document_on, path_on, name_on, path_name_on, passing_on, common_on, exists_clause_on, value_clauses_on, query_clauses_on, unique_on, nulls_on, is_json_on, table_clause_on}
 use Rattle.sj_sql_text.specs.Plans.{plan_on}
 
 -- ---- functions on the document
@@ -13,14 +14,23 @@ abbrev pub exists_on : ExistsCall Path → Pieces → Pieces
 exists_on c ps = Call (codes "JSON_EXISTS") ∷ common_on c.common (exists_clause_on c.on_error (Close ∷ ps))
 
 abbrev pub value_call_on : ValueCall Path → Pieces → Pieces
-value_call_on c ps = Call (codes "JSON_VALUE") ∷ common_on c.common (word (codes "RETURNING") (type_on c.ty (value_clauses_on c.on_empty c.on_error (Close ∷ ps))))
+value_call_on c ps = Call (codes "JSON_VALUE") ∷ common_on c.common (returning_on c.ty (value_clauses_on c.on_empty c.on_error (Close ∷ ps)))
 
 abbrev pub query_on : QueryCall Path → Pieces → Pieces
 query_on c ps = Call (codes "JSON_QUERY") ∷ common_on c.common (query_clauses_on c.clauses (Close ∷ ps))
 
 -- ---- values
 
--- A constructor without members has no clause. The key of a member stands before VALUE.
+-- A constructor without members has no clause.
+abbrev pub array_clause_on : Values Path → Nulls → Pieces → Pieces
+array_clause_on NoValues clause ps = ps
+array_clause_on (MoreValues x others) clause ps = nulls_on clause ps
+
+abbrev pub object_clauses_on : Members Path → Nulls → Bool → Pieces → Pieces
+object_clauses_on NoMembers clause unique ps = ps
+object_clauses_on (MoreMembers key x others) clause unique ps = nulls_on clause (unique_on unique ps)
+
+-- The key of a member stands before VALUE.
 abbrev mutual
   pub value_on : Value Path → Pieces → Pieces
   value_on (Lit x) ps = literal_on x ps
@@ -29,20 +39,17 @@ abbrev mutual
   value_on (ValueOf c) ps = value_call_on c ps
   value_on (Query c) ps = query_on c ps
   value_on (IsJson c) ps = is_json_on c ps
-  value_on (Object NoMembers nulls unique) ps = Call (codes "JSON_OBJECT") ∷ Close ∷ ps
-  value_on (Object (MoreMembers key x others) nulls unique) ps =
-      Call (codes "JSON_OBJECT") ∷ value_on key (word (codes "VALUE") (value_on x (members_on others (nulls_on nulls (unique_on unique (Close ∷ ps))))))
-  value_on (Array NoValues nulls) ps = Call (codes "JSON_ARRAY") ∷ Close ∷ ps
-  value_on (Array (MoreValues x others) nulls) ps = Call (codes "JSON_ARRAY") ∷ value_on x (values_on others (nulls_on nulls (Close ∷ ps)))
+  value_on (Object members clause unique) ps = Call (codes "JSON_OBJECT") ∷ members_on false members (object_clauses_on members clause unique (Close ∷ ps))
+  value_on (Array values clause) ps = Call (codes "JSON_ARRAY") ∷ values_on false values (array_clause_on values clause (Close ∷ ps))
 
-  -- values and members behind the first
-  pub values_on : Values Path → Pieces → Pieces
-  values_on NoValues ps = ps
-  values_on (MoreValues x others) ps = Comma ∷ value_on x (values_on others ps)
+  -- with commas between them; the flag is true behind another
+  pub values_on : Bool → Values Path → Pieces → Pieces
+  values_on behind NoValues ps = ps
+  values_on behind (MoreValues x others) ps = comma_behind behind (value_on x (values_on true others ps))
 
-  pub members_on : Members Path → Pieces → Pieces
-  members_on NoMembers ps = ps
-  members_on (MoreMembers key x others) ps = Comma ∷ value_on key (word (codes "VALUE") (value_on x (members_on others ps)))
+  pub members_on : Bool → Members Path → Pieces → Pieces
+  members_on behind NoMembers ps = ps
+  members_on behind (MoreMembers key x others) ps = comma_behind behind (value_on key (word (codes "VALUE") (value_on x (members_on true others ps))))
 
 abbrev pub member_on : (key x : Value Path) → Pieces → Pieces
 member_on key x ps = value_on key (word (codes "VALUE") (value_on x ps))
@@ -88,6 +95,9 @@ table_on t ps = Call (codes "JSON_TABLE") ∷ document_on t.common.encoding (Com
     (passing_on t.common.passing (columns_on t.columns (plan_on t.plan (table_clause_on t.on_error (Close ∷ ps)))))))
 
 -- ---- statements
+
+abbrev pub from_on : Table Path → Pieces → Pieces
+from_on table ps = word (codes "FROM") (table_on table (Semicolon ∷ ps))
 
 -- without its semicolon
 abbrev pub body_on : Statement Path → Pieces → Pieces

@@ -5,7 +5,7 @@ ghost use Rattle.sj_sql_tree.specs.View.{exists_of, value_call_of, query_of};
 ghost use Rattle.sj_sql_text.specs.Adds.{Adds};
 ghost use Rattle.sj_sql_text.specs.Statements as spec;
 
-use crate::phrase::{common, exists_clause, query_clauses, type_name, value_clauses};
+use crate::phrase::{common, exists_clause, query_clauses, returning, value_clauses};
 use crate::pieces::Pieces;
 use sj_base::Memory;
 use sj_sql_tree::{ExistsCall, QueryCall, ValueCall};
@@ -24,8 +24,7 @@ pub(crate) fn value<'a>(call: &'a ValueCall, out: &mut Pieces<'a>) -> Result<(),
 {
     out.call("JSON_VALUE")?;
     common(&call.common, out)?;
-    out.word("RETURNING")?;
-    type_name(call.ty, out)?;
+    returning(call.ty, out)?;
     value_clauses(&call.on_empty, &call.on_error, out)?;
     out.close()
 }

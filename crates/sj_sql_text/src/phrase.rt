@@ -1,6 +1,6 @@
 //! The pieces of what a statement has but values, columns and plans.
 
-ghost use Rattle.std.specs.Prelude.{OnOk};
+ghost use Rattle.std.specs.Prelude.{OnOk, codes};
 ghost use Rattle.sj_path_tree.specs.View.{path_of};
 ghost use Rattle.sj_sql_tree.specs.View.{common_of};
 ghost use Rattle.sj_sql_text.specs.Adds.{Adds};
@@ -9,11 +9,16 @@ ghost use Rattle.sj_sql_text.specs.Phrases as spec;
 use crate::pieces::Pieces;
 use sj_base::{Memory, Text};
 use sj_path_tree::{Literal, Path};
-use sj_sql_tree::{
-    Common, Encoding, IsJsonCall, Passed, QueryClauses, TypeName, ValueDo,
-};
 use sj_sql_grammar::Quotes;
+use sj_sql_tree::{Common, Encoding, IsJsonCall, Passed, QueryClauses, TypeName, ValueDo};
 use sj_value::{ExistsAction, JsonKind, Nulls, QueryAction, SqlType, TableAction, Wrapper};
+
+/// A comma, behind another part.
+pub(crate) fn comma_behind(behind: bool, out: &mut Pieces<'_>) -> Result<(), Memory>
+    ensures { OnOk result (Adds out.old out.new (spec.comma_behind behind)) }
+{
+    if behind { out.comma() } else { Ok(()) }
+}
 
 pub(crate) fn literal<'a>(literal: &'a Literal, out: &mut Pieces<'a>) -> Result<(), Memory>
     ensures { OnOk result (Adds out.old out.new (spec.literal_on literal.now)) }
@@ -59,6 +64,13 @@ pub(crate) fn type_name(ty: TypeName, out: &mut Pieces<'_>) -> Result<(), Memory
         TypeName::Approximate => out.word("FLOAT"),
         TypeName::Datetime => out.word("DATE"),
     }
+}
+
+pub(crate) fn returning(ty: TypeName, out: &mut Pieces<'_>) -> Result<(), Memory>
+    ensures { OnOk result (Adds out.old out.new (spec.returning_on ty)) }
+{
+    out.word("RETURNING")?;
+    type_name(ty, out)
 }
 
 pub(crate) fn encoding(encoding: Encoding, out: &mut Pieces<'_>) -> Result<(), Memory>
@@ -192,7 +204,11 @@ fn value_action<'a>(action: &'a ValueDo, out: &mut Pieces<'a>) -> Result<(), Mem
 }
 
 /// What JSON_VALUE gives where there is no item, and where an error comes.
-pub(crate) fn value_clauses<'a>(empty: &'a ValueDo, error: &'a ValueDo, out: &mut Pieces<'a>) -> Result<(), Memory>
+pub(crate) fn value_clauses<'a>(
+    empty: &'a ValueDo,
+    error: &'a ValueDo,
+    out: &mut Pieces<'a>,
+) -> Result<(), Memory>
     ensures { OnOk result (Adds out.old out.new (spec.value_clauses_on empty.now error.now)) }
 {
     value_action(empty, out)?;
@@ -201,21 +217,26 @@ pub(crate) fn value_clauses<'a>(empty: &'a ValueDo, error: &'a ValueDo, out: &mu
     on_error(out)
 }
 
+/// A wrapper of this kind.
+fn with_wrapper<'a>(kind: &'a str, out: &mut Pieces<'a>) -> Result<(), Memory>
+    ensures { OnOk result (Adds out.old out.new (λ ps. spec.word (codes "WITH") (spec.word kind.now (spec.word (codes "WRAPPER") ps)))) }
+{
+    out.word("WITH")?;
+    out.word(kind)?;
+    out.word("WRAPPER")
+}
+
 fn wrapper(wrapper: Wrapper, out: &mut Pieces<'_>) -> Result<(), Memory>
     ensures { OnOk result (Adds out.old out.new (spec.wrapper_on wrapper)) }
 {
     match wrapper {
-        Wrapper::Without => out.word("WITHOUT")?,
-        Wrapper::Conditional => {
-            out.word("WITH")?;
-            out.word("CONDITIONAL")?;
+        Wrapper::Without => {
+            out.word("WITHOUT")?;
+            out.word("WRAPPER")
         }
-        Wrapper::Unconditional => {
-            out.word("WITH")?;
-            out.word("UNCONDITIONAL")?;
-        }
+        Wrapper::Conditional => with_wrapper("CONDITIONAL", out),
+        Wrapper::Unconditional => with_wrapper("UNCONDITIONAL", out),
     }
-    out.word("WRAPPER")
 }
 
 fn quotes(quotes: Quotes, out: &mut Pieces<'_>) -> Result<(), Memory>

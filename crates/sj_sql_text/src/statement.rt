@@ -1,7 +1,7 @@
 //! The canonical text of a statement.
 
 ghost use Rattle.std.specs.Prelude.{◌≡◌, ◌++◌, OnOk, OnErr};
-ghost use Rattle.sj_sql_tree.specs.View.{items_of, plain_of, statement_of};
+ghost use Rattle.sj_sql_tree.specs.View.{items_of, plain_of, statement_of, table_of};
 ghost use Rattle.sj_text.specs.Prefixes.{AppendsPrefix};
 ghost use Rattle.sj_sql_text.specs.Adds.{Adds};
 ghost use Rattle.sj_sql_text.specs.Phrases as phrase;
@@ -12,7 +12,7 @@ use crate::print::print;
 use crate::table::table;
 use crate::value::{item, value};
 use sj_base::{Bytes, Memory};
-use sj_sql_tree::{Item, Statement, Value};
+use sj_sql_tree::{Item, Statement, Table, Value};
 use std::alloc::Global;
 
 fn values<'a>(values: &'a [Value], out: &mut Pieces<'a>) -> Result<(), Memory>
@@ -57,6 +57,15 @@ fn items_behind<'a>(items: &'a [Item], out: &mut Pieces<'a>) -> Result<(), Memor
     Ok(())
 }
 
+/// FROM and a table, to the end.
+fn from_table<'a>(from: &'a Table, out: &mut Pieces<'a>) -> Result<(), Memory>
+    ensures { OnOk result (Adds out.old out.new (spec.from_on (table_of from.now))) }
+{
+    out.word("FROM")?;
+    table(from, out)?;
+    out.semicolon()
+}
+
 fn statement<'a>(statement: &'a Statement, out: &mut Pieces<'a>) -> Result<(), Memory>
     ensures { OnOk result (Adds out.old out.new (spec.statement_on (statement_of statement.now))) }
 {
@@ -69,16 +78,12 @@ fn statement<'a>(statement: &'a Statement, out: &mut Pieces<'a>) -> Result<(), M
         Statement::All(from) => {
             out.word("SELECT")?;
             out.star()?;
-            out.word("FROM")?;
-            table(from, out)?;
-            out.semicolon()
+            from_table(from, out)
         }
         Statement::Listed(list, from) => {
             out.word("SELECT")?;
             items(list.as_slice(), out)?;
-            out.word("FROM")?;
-            table(from, out)?;
-            out.semicolon()
+            from_table(from, out)
         }
     }
 }

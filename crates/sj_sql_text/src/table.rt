@@ -55,7 +55,12 @@ fn formatted<'a>(column: &'a FormattedColumn, out: &mut Pieces<'a>) -> Result<()
     query_clauses(column.clauses, out)
 }
 
-fn existence<'a>(name: &'a Text, own: &'a Path, on_error: ExistsAction, out: &mut Pieces<'a>) -> Result<(), Memory>
+fn existence<'a>(
+    name: &'a Text,
+    own: &'a Path,
+    on_error: ExistsAction,
+    out: &mut Pieces<'a>,
+) -> Result<(), Memory>
     ensures { OnOk result (Adds out.old out.new (spec.existence_on name.now (path_of own.now) on_error)) }
 {
     out.name(name.as_str())?;
@@ -65,25 +70,46 @@ fn existence<'a>(name: &'a Text, own: &'a Path, on_error: ExistsAction, out: &mu
     exists_clause(on_error, out)
 }
 
+fn ordinality<'a>(name: &'a Text, out: &mut Pieces<'a>) -> Result<(), Memory>
+    ensures { OnOk result (Adds out.old out.new (spec.column_on (t.Ordinality name.now))) }
+{
+    out.name(name.as_str())?;
+    for_ordinality(out)
+}
+
+fn for_ordinality(out: &mut Pieces<'_>) -> Result<(), Memory>
+    ensures { OnOk result (Adds out.old out.new (λ ps. phrase.word (codes "FOR") (phrase.word (codes "ORDINALITY") ps))) }
+{
+    out.word("FOR")?;
+    out.word("ORDINALITY")
+}
+
+/// A nested path, with its columns.
+#[cycle(columns)]
+fn nested<'a>(
+    own: &'a Path,
+    name: &'a Option<Text>,
+    inside: &'a Columns,
+    out: &mut Pieces<'a>,
+) -> Result<(), Memory>
+    ensures { OnOk result (Adds out.old out.new (spec.column_on (t.Nested (path_of own.now) name.now (columns_of inside.now)))) }
+{
+    out.word("NESTED")?;
+    column_path(own, out)?;
+    path_name(name, out)?;
+    columns(inside, out)
+}
+
 #[cycle(columns)]
 fn column<'a>(column: &'a Column, out: &mut Pieces<'a>) -> Result<(), Memory>
     ensures { OnOk result (Adds out.old out.new (spec.column_on (column_of column.now))) }
 {
     match column {
-        Column::Ordinality(name) => {
-            out.name(name.as_str())?;
-            out.word("FOR")?;
-            out.word("ORDINALITY")
-        }
+        Column::Ordinality(name) => ordinality(name, out),
         Column::Regular(column) => regular(column, out),
         Column::Formatted(column) => formatted(column, out),
         Column::Exists(name, own, on_error) => existence(name, own, *on_error, out),
-        Column::Nested(own, name, inside) => {
-            out.word("NESTED")?;
-            column_path(own, out)?;
-            path_name(name, out)?;
-            columns(inside, out)
-        }
+        Column::Nested(own, name, inside) => nested(own, name, inside, out),
     }
 }
 
@@ -93,12 +119,20 @@ fn columns<'a>(columns: &'a Columns, out: &mut Pieces<'a>) -> Result<(), Memory>
 {
     out.word("COLUMNS")?;
     out.open()?;
+    listed(columns, out)?;
+    out.close()
+}
+
+/// Columns with commas between them.
+#[cycle(columns)]
+fn listed<'a>(columns: &'a Columns, out: &mut Pieces<'a>) -> Result<(), Memory>
+    ensures { OnOk result (Adds out.old out.new (spec.listed_columns_on (columns_of columns.now))) }
+{
     for one in &columns.before {
         column(one, out)?;
         out.comma()?;
     }
-    column(&columns.last, out)?;
-    out.close()
+    column(&columns.last, out)
 }
 
 /// The document, the row path with its name, and the variables.

@@ -1,20 +1,19 @@
 //! The pieces of values, and of the items of a SELECT list with a table.
 
-ghost use Rattle.std.specs.Prelude.{OnOk};
+ghost use Rattle.std.specs.Prelude.{OnOk, false};
 ghost use Rattle.sj_sql_grammar.specs.Tree as t;
 ghost use Rattle.sj_sql_tree.specs.View.{value_of, values_of, members_of, item_of};
 ghost use Rattle.sj_sql_text.specs.Adds.{Adds};
 ghost use Rattle.sj_sql_text.specs.Statements as spec;
 
 use crate::call;
-use crate::phrase::{is_json, literal, nulls, unique};
+use crate::phrase::{comma_behind, is_json, literal, nulls, unique};
 use crate::pieces::Pieces;
 use sj_base::Memory;
 use sj_sql_tree::{Item, Member, Value};
 use sj_value::Nulls;
 
 #[cycle(values)]
-#[tactic(auto, using(sj_sql_tree::proofs::Rows::object, sj_sql_tree::proofs::Rows::array))]
 pub(crate) fn value<'a>(value: &'a Value, out: &mut Pieces<'a>) -> Result<(), Memory>
     ensures { OnOk result (Adds out.old out.new (spec.value_on (value_of value.now))) }
 {
@@ -31,17 +30,17 @@ pub(crate) fn value<'a>(value: &'a Value, out: &mut Pieces<'a>) -> Result<(), Me
 }
 
 #[cycle(values)]
-fn object<'a>(members: &'a [Member], on_null: Nulls, keys: bool, out: &mut Pieces<'a>) -> Result<(), Memory>
+fn object<'a>(
+    members: &'a [Member],
+    on_null: Nulls,
+    keys: bool,
+    out: &mut Pieces<'a>,
+) -> Result<(), Memory>
     ensures { OnOk result (Adds out.old out.new (spec.value_on (t.Object (members_of members.now) on_null keys))) }
 {
     out.call("JSON_OBJECT")?;
-    let Some((first, others)) = members.split_first() else {
-        return out.close();
-    };
-    member(first, out)?;
-    members_behind(others, out)?;
-    nulls(on_null, out)?;
-    unique(keys, out)?;
+    listed_members(members, out)?;
+    object_clauses(members, on_null, keys, out)?;
     out.close()
 }
 
@@ -50,13 +49,34 @@ fn array<'a>(values: &'a [Value], on_null: Nulls, out: &mut Pieces<'a>) -> Resul
     ensures { OnOk result (Adds out.old out.new (spec.value_on (t.Array (values_of values.now) on_null))) }
 {
     out.call("JSON_ARRAY")?;
-    let Some((first, others)) = values.split_first() else {
-        return out.close();
-    };
-    value(first, out)?;
-    values_behind(others, out)?;
-    nulls(on_null, out)?;
+    listed_values(values, out)?;
+    array_clause(values, on_null, out)?;
     out.close()
+}
+
+fn object_clauses(
+    members: &[Member],
+    on_null: Nulls,
+    keys: bool,
+    out: &mut Pieces<'_>,
+) -> Result<(), Memory>
+    ensures { OnOk result (Adds out.old out.new (spec.object_clauses_on (members_of members.now) on_null keys)) }
+{
+    if members.is_empty() {
+        return Ok(());
+    }
+    nulls(on_null, out)?;
+    unique(keys, out)
+}
+
+fn array_clause(values: &[Value], on_null: Nulls, out: &mut Pieces<'_>) -> Result<(), Memory>
+    ensures { OnOk result (Adds out.old out.new (spec.array_clause_on (values_of values.now) on_null)) }
+{
+    if values.is_empty() {
+        Ok(())
+    } else {
+        nulls(on_null, out)
+    }
 }
 
 #[cycle(values)]
@@ -68,26 +88,30 @@ fn member<'a>(member: &'a Member, out: &mut Pieces<'a>) -> Result<(), Memory>
     value(&member.value, out)
 }
 
-/// The members behind the first.
+/// Members with commas between them.
 #[cycle(values)]
-fn members_behind<'a>(members: &'a [Member], out: &mut Pieces<'a>) -> Result<(), Memory>
-    ensures { OnOk result (Adds out.old out.new (spec.members_on (members_of members.now))) }
+fn listed_members<'a>(members: &'a [Member], out: &mut Pieces<'a>) -> Result<(), Memory>
+    ensures { OnOk result (Adds out.old out.new (spec.members_on false (members_of members.now))) }
 {
+    let mut behind = false;
     for one in members {
-        out.comma()?;
+        comma_behind(behind, out)?;
         member(one, out)?;
+        behind = true;
     }
     Ok(())
 }
 
-/// The values behind the first.
+/// Values with commas between them.
 #[cycle(values)]
-fn values_behind<'a>(values: &'a [Value], out: &mut Pieces<'a>) -> Result<(), Memory>
-    ensures { OnOk result (Adds out.old out.new (spec.values_on (values_of values.now))) }
+fn listed_values<'a>(values: &'a [Value], out: &mut Pieces<'a>) -> Result<(), Memory>
+    ensures { OnOk result (Adds out.old out.new (spec.values_on false (values_of values.now))) }
 {
+    let mut behind = false;
     for one in values {
-        out.comma()?;
+        comma_behind(behind, out)?;
         value(one, out)?;
+        behind = true;
     }
     Ok(())
 }
