@@ -8,17 +8,33 @@ mod Growth
 mod Printing
 -- for the lemmas of `PhraseTokens`, `PlanTokens`, `ValueTokens`, `TableTokens` and `SelectTokens`
 pub mod WordTokens
--- for the lemmas of `PhraseTokens`, `PlanTokens`, `ValueTokens` and `TableTokens`
+-- for the lemmas of `PhraseTokens`, `PlanTokens`, `ValueTokens`, `TableTokens` and `RoomPlans`
 pub mod ReadPhrases
 -- for the lemmas of `ValueTokens`, `TableTokens` and `SelectTokens`
 pub mod PhraseTokens
 -- for the lemmas of `TableTokens`
 pub mod PlanTokens
--- for the lemmas of `SelectTokens`
+-- for the lemmas of `SelectTokens` and `RoomValues`
 pub mod ValueTokens
+-- for the lemmas of `SelectTokens`
 pub mod TableTokens
--- for `spelled`
+-- for `spelled` and `accepted`
 pub mod SelectTokens
+-- for the lemmas of `CanonicalTrees`
+pub mod PathReadings
+-- for `accepted`
+pub mod CanonicalTrees
+-- for the lemmas of `RoomPhrases`, `RoomPlans`, `RoomValues`, `RoomTables` and `RoomStatements`
+pub mod Room
+pub mod RoomPhrases
+-- for the lemmas of `RoomTables`
+pub mod RoomPlans
+-- for the lemmas of `RoomTables` and `RoomStatements`
+pub mod RoomValues
+-- for the lemmas of `RoomStatements`
+pub mod RoomTables
+-- for `accepted`
+pub mod RoomStatements
 -- for the lemmas of `QuotedTexts`, `NumberTexts` and `Breaking`
 pub mod Lexes
 -- for the lemmas of `Breaking`

@@ -1,5 +1,5 @@
 -- The tokens of a value that some tokens spell are that value, with each path in its canonical text.
-use Rattle.std.proofs.Common.{◌≡◌, ◌∷◌, codes, true, false, Some, None, refl}
+use Rattle.std.proofs.Common.{◌≡◌, true, false, ◌∷◌, codes, Some, None, refl}
 use Rattle.sj_sql_token.specs.declared.keyword.Keyword.TheVariants as w
 use Rattle.sj_sql_grammar.specs.declared.clauses.ValueDo.{ValueDo}
 use Rattle.sj_sql_grammar.specs.declared.clauses.ValueDo.TheVariants as on_value
@@ -49,7 +49,6 @@ query_spelled c ps =
 
 -- ---- values
 
--- those behind the first stand behind a comma
 values_behind : {s : Source} {ts rest : Tokens} {xs : Values PathText} → IsValues s ts xs rest → (ps : Pieces) → comma_at (tokens_of (values_on true (values_with finishing xs) ps)) ≡ Some (tokens_of (values_on false (values_with finishing xs) ps))
 values_behind (g.last_value d) ps = refl
 values_behind (g.more_values d c q) ps = refl

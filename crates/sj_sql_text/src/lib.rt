@@ -21,6 +21,6 @@ mod statement;
 mod table;
 mod value;
 
-pub use law::spelled;
+pub use law::{accepted, spelled};
 pub use lexing::text_breaks;
 pub use statement::statement_text;
