@@ -55,10 +55,14 @@ pub show_done : {T E : Type 0} (name : List ℕ) (s s' : ShelfSide) (from : Inpu
 show_done name s s' from o o' text r x a w ok =
     inr (record { statements = a.0; accepted = a.1; does = (refl, subst (λ (t : List ℕ). Tells t o o' Done) a.2 (tells_done text o o' r x w ok)) })
 
-pub show_cut : {T E : Type 0} (name : List ℕ) (s s' : ShelfSide) (from : InputSide) (o o' : OutputSide) (text : List ℕ) (r : Result T E) → AcceptedWithText name s s' text → Wrote o o' text r → (IsOk r → ⊥)
+pub show_cut : {T E : Type 0} (name : List ℕ) (s s' : ShelfSide) (from : InputSide) (o o' : OutputSide) (text : List ℕ) (r : Result T E) (e : E) → AcceptedWithText name s s' text → Wrote o o' text r → r ≡ Err e
     → Ran (Some (showing name)) (moment s from o) (moment s' from o') WriteFault
-show_cut name s s' from o o' text r a w bad =
-    inr (record { statements = a.0; accepted = a.1; does = (refl, subst (λ (t : List ℕ). Tells t o o' WriteFault) a.2 (tells_cut text o o' r w bad)) })
+show_cut name s s' from o o' text r e a w is =
+    inr (record { statements = a.0; accepted = a.1; does = (refl, subst (λ (t : List ℕ). Tells t o o' WriteFault) a.2 (tells_err text o o' r e w is)) })
+  where
+    tells_err : {T E : Type 0} (text : List ℕ) (o o' : OutputSide) (r : Result T E) (e : E) → Wrote o o' text r → r ≡ Err e → Tells text o o' WriteFault
+    tells_err text o o' (Ok y) e w is = absurd (cc is)
+    tells_err text o o' (Err x) e w is = (record { text = w.written; grew = w.grew; front = (w.left, w.split) }, w.cause.failed)
 
 -- ---- runs over generated lines
 

@@ -1,4 +1,4 @@
-use Rattle.std.proofs.Common.{◌≡◌, ◌+◌, ◌≤◌, ℕ, List, [], ◌++◌, length, map, refl, ap, subst, sym, ◌∙◌, arith, length-append}
+use Rattle.std.proofs.Common.{[], ◌++◌, map, refl, ap, subst, sym, ◌∙◌, arith, length-append}
 use Rattle.sj_bound.specs.View.{bound_of}
 use Rattle.sj_page.specs.declared.page.Page.{Page}
 use Rattle.sj_file.specs.Job.{job_of}
