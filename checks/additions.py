@@ -15,7 +15,7 @@ HEAD = "| One more | Definitions | Code | Proofs | Files | Tests, edits and rows
 RULE = "|---|---|---|---|---|---|---|"
 KINDS = {"specs": "*.antt", "src": "*.rt", "proofs": "*.antt"}
 PATHS = ["sj_path_token", "sj_path_tree", "sj_path_grammar", "sj_path", "sj_path_text", "sj_step", "sj_walk", "sj_plain_path", "sj_method", "sj_cursor", "sj_fault_free"]
-STATEMENTS = ["sj_sql_token", "sj_sql_grammar", "sj_sql_tree", "sj_sql_phrase", "sj_sql", "sj_bound", "sj_bind"]
+STATEMENTS = ["sj_sql_token", "sj_sql_grammar", "sj_sql_tree", "sj_sql_text", "sj_sql_phrase", "sj_sql", "sj_bound", "sj_bind"]
 TELLING = ["GUIDE", "DECISIONS", "PROOFS", "TERMS"]
 
 
