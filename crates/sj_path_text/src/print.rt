@@ -19,8 +19,6 @@ use sj_text::string_text;
 /// Appends the canonical text of a path. Where memory runs out, `out` has grown by a first part of it.
 ///
 /// Example: the path of the text `$.a+1` has the canonical text `lax $."a" + 1`.
-///
-/// The program does not call this; its tests do, and a host may.
 pub fn path_text(path: &Path, out: &mut Bytes) -> Result<(), Memory>
     ensures ok { OnOk result (out.new ≡ out.old ++ spec.path_text (path_of path.now)) }
     ensures err { OnErr result (AppendsPrefix out.old (spec.path_text (path_of path.now)) out.new) }

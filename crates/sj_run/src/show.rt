@@ -1,21 +1,13 @@
 // The canonical text of a file.
 ghost use Rattle.std.specs.Prelude.{◌≡◌, Some};
-ghost use Rattle.sj_page.specs.Sides.{Wrote};
 ghost use Rattle.sj_file.specs.File.{showing, shelf_at};
 ghost use Rattle.sj_stream.specs.Input.{InputSide};
 ghost use Rattle.sj_run.specs.Ran.{IsBefore, Ran, moment, out_at};
 
-use sj_base::Bytes;
 use sj_file::{Status, accept_text};
-use sj_outside::{Failed, Shelf, Sink};
+use sj_outside::{Shelf, Sink};
 use sj_page::write_all;
 use std::alloc::Global;
-
-fn write_text<O: Sink>(out: &mut O, text: &Bytes) -> Result<(), Failed>
-    ensures { Wrote (out_at O.Sink out.old) (out_at O.Sink out.new) text.now result }
-{
-    write_all(out, text.as_slice())
-}
 
 /// Writes the canonical text of the statements of a file, each on a line, once all of them are accepted. It reads no input.
 pub(crate) fn show_file<H: Shelf, O: Sink>(
@@ -33,7 +25,7 @@ pub(crate) fn show_file<H: Shelf, O: Sink>(
         Ok(text) => text,
         Err(status) => return status,
     };
-    match write_text(out, &text) {
+    match write_all(out, text.as_slice()) {
         Ok(()) => Status::Done,
         Err(_) => Status::WriteFault,
     }

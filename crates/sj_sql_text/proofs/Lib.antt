@@ -18,11 +18,11 @@ pub mod PlanTokens
 pub mod ValueTokens
 -- for the lemmas of `SelectTokens`
 pub mod TableTokens
--- for `spelled` and `accepted`
+-- for `tokens_spell` and `tokens_accepted`
 pub mod SelectTokens
 -- for the lemmas of `CanonicalTrees`
 pub mod PathReadings
--- for `accepted`
+-- for `tokens_accepted`
 pub mod CanonicalTrees
 -- for the lemmas of `RoomPhrases`, `RoomPlans`, `RoomValues`, `RoomTables` and `RoomStatements`
 pub mod Room
@@ -33,7 +33,7 @@ pub mod RoomPlans
 pub mod RoomValues
 -- for the lemmas of `RoomStatements`
 pub mod RoomTables
--- for `accepted`
+-- for `tokens_accepted`
 pub mod RoomStatements
 -- for the lemmas of `QuotedTexts`, `NumberTexts` and `Breaking`
 pub mod Lexes

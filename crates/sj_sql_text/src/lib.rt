@@ -10,7 +10,6 @@
 
 mod call;
 mod law;
-mod lexing;
 mod phrase;
 mod piece;
 mod pieces;
@@ -21,6 +20,5 @@ mod statement;
 mod table;
 mod value;
 
-pub use law::{accepted, spelled};
-pub use lexing::text_breaks;
+pub use law::{text_breaks, tokens_accepted, tokens_spell};
 pub use statement::statement_text;

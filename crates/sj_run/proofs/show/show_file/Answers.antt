@@ -1,14 +1,22 @@
+use Rattle.std.proofs.Common.{List, ℕ, sym, subst}
 use Rattle.sj_file.specs.File.{shelf_at}
+use Rattle.sj_file.specs.Accepted.{AcceptedWithText}
 use Rattle.sj_run.specs.Ran.{out_at}
 use Rattle.sj_run.proofs.Telling.{show_done, show_cut}
 use Rattle.sj_run.proofs.show.show_file.Goals as goal
 
-pub returns-in-Ok-write_text-clause-ran : goal.returns-in-Ok-write_text-clause-ran
-returns-in-Ok-write_text-clause-ran g c = λ from.
-    show_done c.args.name.now (shelf_at g.H.Shelf c.args.shelf.now) (shelf_at g.H.Shelf c.accept_text.new.shelf) from (out_at g.O.Sink c.args.out.now) (out_at g.O.Sink c.write_text.new.out)
-    c.in-Ok.text c.write_text.result c.in-Ok-write_text.field-0 c.in-Ok.ensures c.write_text.ensures c.in-Ok-write_text.is
+pub returns-in-Ok-write_all-clause-ran : goal.returns-in-Ok-write_all-clause-ran
+returns-in-Ok-write_all-clause-ran g c = λ from.
+    let old = shelf_at g.H.Shelf c.args.shelf.now in
+    let new = shelf_at g.H.Shelf c.accept_text.new.shelf in
+    show_done c.args.name.now old new from (out_at g.O.Sink c.args.out.now) (out_at g.O.Sink c.write_all.new.out)
+    c.as_slice.result.now c.write_all.result c.in-Ok-write_all.field-0
+    (subst (λ (text : List ℕ). AcceptedWithText c.args.name.now old new text) (sym c.as_slice.ensures) c.in-Ok.ensures) c.write_all.ensures c.in-Ok-write_all.is
 
 pub returns-clause-ran : goal.returns-clause-ran
 returns-clause-ran g c = λ from.
-    show_cut c.args.name.now (shelf_at g.H.Shelf c.args.shelf.now) (shelf_at g.H.Shelf c.accept_text.new.shelf) from (out_at g.O.Sink c.args.out.now) (out_at g.O.Sink c.write_text.new.out)
-    c.in-Ok.text c.write_text.result c.in-Err-write_text.field-0 c.in-Ok.ensures c.write_text.ensures c.in-Err-write_text.is
+    let old = shelf_at g.H.Shelf c.args.shelf.now in
+    let new = shelf_at g.H.Shelf c.accept_text.new.shelf in
+    show_cut c.args.name.now old new from (out_at g.O.Sink c.args.out.now) (out_at g.O.Sink c.write_all.new.out)
+    c.as_slice.result.now c.write_all.result c.in-Err-write_all.field-0
+    (subst (λ (text : List ℕ). AcceptedWithText c.args.name.now old new text) (sym c.as_slice.ensures) c.in-Ok.ensures) c.write_all.ensures c.in-Err-write_all.is

@@ -9,7 +9,7 @@ use Rattle.sj_sql_text.specs.Law.{canonical}
 use Rattle.sj_sql_text.proofs.SelectTokens.{select_spelled}
 use Rattle.sj_sql_text.proofs.CanonicalTrees.{same_paths, no_fault, no_unsupported}
 use Rattle.sj_sql_text.proofs.RoomStatements.{stays_shallow}
-use Rattle.sj_sql_text.proofs.law.accepted.Goals as goal
+use Rattle.sj_sql_text.proofs.law.tokens_accepted.Goals as goal
 
 pub returns : goal.returns
 returns c = λ ts s a.
