@@ -42,3 +42,5 @@ pub mod QuotedTexts
 pub mod NumberTexts
 -- for `text_breaks`
 pub mod Breaking
+-- for the lemmas on printable pieces
+pub mod Inner
