@@ -10,3 +10,5 @@ pub mod ShownFiles
 pub mod Unaccepted
 -- for `next_with_text` and `text_of`, and for sj_run
 pub mod Texts
+-- for `canonical_file`, and for sj_run
+pub mod ShownAgain

@@ -6,7 +6,6 @@ use Rattle.sj_bound.specs.Bound.{Bound}
 use Rattle.sj_bound.specs.View.{bound_of}
 use Rattle.sj_bound.specs.declared.bound.Bound.{Bound as BoundHeld}
 use Rattle.sj_sql_token.specs.Tokens.{lexed}
-use Rattle.sj_sql_grammar.specs.declared.refusal.BindKind.{BindKind}
 use Rattle.sj_sql_grammar.specs.declared.refusal.FileKind.{FileKind}
 use Rattle.sj_sql_grammar.specs.Tree.{Statement}
 use Rattle.sj_sql_grammar.specs.Answers.{closed}
@@ -14,16 +13,15 @@ use Rattle.sj_sql_grammar.proofs.Scripts.{one_file}
 use Rattle.sj_sql.specs.File.{EndsBy, IsFirst, IsLeft}
 use Rattle.sj_sql.proofs.Files.{first_read, none_read}
 use Rattle.sj_bind.specs.Meaning.{bound}
-use Rattle.sj_bind.specs.Rules.{bind_fault}
 use Rattle.sj_sql_text.specs.Statements.{statement_text, lines_text}
 use Rattle.sj_file.specs.File.{ShelfSide, Holds}
 use Rattle.sj_file.specs.Accepted.{AcceptedWithText}
-use Rattle.sj_file.specs.Verdict.{unless_fault, before_others, judged, IsVerdict, Accepts, IsReadAs}
+use Rattle.sj_file.specs.Verdict.{answer, before_others, judged, IsVerdict, Accepts, IsReadAs}
 use Rattle.sj_file.specs.declared.job.FileRefusal.{FileRefusal}
 use Rattle.sj_file.specs.declared.verdict.NextBound.{NextBound}
 use Rattle.sj_file.specs.declared.verdict.NextBound.TheVariants as next
 use Rattle.sj_file.specs.Refusals.{AcceptsWithText, IsRefused, IsVerdictFrom, IsFirstBound, IsNextBound, IsNextWithText}
-use Rattle.sj_file.proofs.Verdicts.{with_front, front_none, front_more, IsTakenTo, one_refused}
+use Rattle.sj_file.proofs.Verdicts.{with_front, front_none, front_more, IsTakenTo, one_refused, bound_first}
 
 -- These statements were taken from the front of the file and bound so, and this is left.
 pub record IsReadTo (file : List ℕ) (trees : List (Statement Path)) (taken : List Bound) (rest : List ℕ) : Type 0 where
@@ -125,10 +123,9 @@ pub read_as : (file : List ℕ) (K : List Bound) (a : Accepts file K) (trees : L
 read_as file K a trees read = (one_file (lexed file) trees a.statements None a.refusal read a.read).0
 
 -- a statement that is bound so, with its text
-pub with_text_so : (rest behind old new : List ℕ) (s : Statement Path) (x : Bound) → IsFirst rest s behind → bind_fault s ≡ None → x ≡ bound s → new ≡ old ++ (statement_text s ++ codes "\n")
+pub with_text_so : (rest behind old new : List ℕ) (s : Statement Path) (x : Bound) → IsFirst rest s behind → answer s ≡ Ok x → new ≡ old ++ (statement_text s ++ codes "\n")
     → (f : IsFirstBound rest x behind) × (new ≡ old ++ (statement_text f.statement ++ codes "\n"))
-with_text_so rest behind old new s x h sound is grown =
-    (record { statement = s; is_first = h; taken = ap (λ (f : Option BindKind). unless_fault f (bound s)) sound ∙ ap Ok (sym is) }, grown)
+with_text_so rest behind old new s x h taken grown = (bound_first rest behind s x h taken, grown)
 
 -- the text of a file that was read whole
 pub accepted_text_so : (name : List ℕ) (s s' : ShelfSide) (file text : List ℕ) → Holds name s s' file → AcceptsWithText file text → AcceptedWithText name s s' text

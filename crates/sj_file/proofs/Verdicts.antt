@@ -27,12 +27,12 @@ use Rattle.sj_bound.specs.View.{bound_of}
 use Rattle.sj_bound.specs.declared.bound.Bound.{Bound as BoundHeld}
 use Rattle.sj_bind.specs.declared.refusal.BindRefusal.{BindRefusal}
 use Rattle.sj_bind.specs.declared.refusal.BindRefusal.TheVariants as bind
-use Rattle.sj_file.specs.Verdict.{unless_fault, before_others, judged, IsVerdict, Accepts, Refuses}
+use Rattle.sj_file.specs.Verdict.{unless_fault, answer, before_others, judged, IsVerdict, Accepts, Refuses}
 use Rattle.sj_file.specs.declared.job.FileRefusal.{FileRefusal}
 use Rattle.sj_file.specs.declared.job.FileRefusal.TheVariants.{Refused, Memory}
 use Rattle.sj_file.specs.declared.verdict.NextBound.{NextBound}
 use Rattle.sj_file.specs.declared.verdict.NextBound.TheVariants as next
-use Rattle.sj_file.specs.Refusals.{refusal_of, AcceptsSoMany, IsRefused, IsVerdictFrom, IsFirstBound, IsNextBound}
+use Rattle.sj_file.specs.Refusals.{refusal_of, AcceptsSoMany, IsRefused, IsVerdictFrom, IsFirstBound, IsBoundAs, IsNextBound}
 
 -- ---- a file has one verdict
 
@@ -136,29 +136,33 @@ refused_counted file rest count refusal t d = one_refused file rest t.taken (cou
 pub no_tree : (k : ℕ) (rest : List ℕ) (kind : FileKind) → RefusesFirst rest kind → IsVerdictFrom k rest (Err (k, kind))
 no_tree k rest kind h = record { statements = []; refusal = Some (k, kind); read = h k; is = refl }
 
-pub rule_broken : (k : ℕ) (rest behind : List ℕ) (s : Statement Path) (why : BindKind) → IsFirst rest s behind → bind_fault s ≡ Some why → IsVerdictFrom k rest (Err (k, Bind why))
-rule_broken k rest behind s why h broken =
+rule_broken : (k : ℕ) (rest behind : List ℕ) (s : Statement Path) (kind : FileKind) → IsFirst rest s behind → answer s ≡ Err kind → IsVerdictFrom k rest (Err (k, kind))
+rule_broken k rest behind s kind h broken =
     let o = some_script (suc k) (pieces (lexed behind)).statements (pieces (lexed behind)).ending in
     record {
       statements = s ∷ o.0;
       refusal = o.1;
       read = first_read k rest behind s o.0 o.1 h o.2;
-      is = sym (ap (λ (f : Option BindKind). before_others k (unless_fault f (bound s)) (judged (k + 1) o.0 o.1)) broken);
+      is = sym (ap (λ (a : Result Bound FileKind). before_others k a (judged (k + 1) o.0 o.1)) broken);
     }
 
-pub taken_so : (rest behind : List ℕ) (s : Statement Path) (x : Bound) → IsFirst rest s behind → bind_fault s ≡ None → x ≡ bound s → IsFirstBound rest x behind
-taken_so rest behind s x h sound is = record {
-  statement = s;
-  is_first = h;
-  taken = ap (λ (f : Option BindKind). unless_fault f (bound s)) sound ∙ ap Ok (sym is);
-}
+pub unbound : (k : ℕ) (rest behind : List ℕ) (s : Statement Path) (refusal : FileRefusal) → IsFirst rest s behind → IsBoundAs k s (Err refusal) → IsNextBound k rest (Err refusal)
+unbound k rest behind s (Refused n kind) h b = (b.0, rule_broken k rest behind s kind h b.1)
+unbound k rest behind s Memory h b = tt
+
+pub bound_first : (rest behind : List ℕ) (s : Statement Path) (x : Bound) → IsFirst rest s behind → answer s ≡ Ok x → IsFirstBound rest x behind
+bound_first rest behind s x h taken = record { statement = s; is_first = h; taken = taken }
+
+-- what the rules of binding say of one statement
+pub answered : (s : Statement Path) (x : Bound) → bind_fault s ≡ None → x ≡ bound s → answer s ≡ Ok x
+answered s x sound is = ap (λ (f : Option BindKind). unless_fault f (bound s)) sound ∙ ap Ok (sym is)
+
+pub refused_by_rule : (s : Statement Path) (x : BindRefusal) (why : BindKind) → x ≡ bind.Kind why → Binds s (Err x) → answer s ≡ Err (Bind why)
+refused_by_rule s x why e h = ap (λ (f : Option BindKind). unless_fault f (bound s)) (subst (λ (y : BindRefusal). Binds s (Err y)) e h)
 
 -- the same of what a call gave
 pub first_so : (rest : List ℕ) (x : NextStatement) (s : StatementHeld) (behind : Bor (List ℕ)) → x ≡ tree.Statement s behind → IsNext rest (Ok x) → IsFirst rest (statement_of s) behind.now
 first_so rest x s behind e h = subst (λ (y : NextStatement). IsNext rest (Ok y)) e h
-
-pub broken_so : (s : Statement Path) (x : BindRefusal) (why : BindKind) → x ≡ bind.Kind why → Binds s (Err x) → bind_fault s ≡ Some why
-broken_so s x why e h = subst (λ (y : BindRefusal). Binds s (Err y)) e h
 
 pub refused_so : (k : ℕ) (rest : List ℕ) (x : RefusedTree) (y : FileRefusal) → y ≡ refusal_of k x → IsNext rest (Err x) → IsNextBound k rest (Err y)
 refused_so k rest x y e h = subst (λ (z : FileRefusal). IsNextBound k rest (Err z)) (sym e) (go x h)

@@ -11,6 +11,7 @@ use Rattle.sj_sql_text.specs.Statements.{statement_text, lines_text}
 use Rattle.sj_bound.specs.Bound as b
 use Rattle.sj_bound.specs.Sound.{IsSound}
 use Rattle.sj_bound.specs.View.{bound_of}
+use Rattle.sj_bound.specs.declared.bound.Bound.{Bound as BoundHeld}
 use Rattle.sj_file.specs.declared.job.FileRefusal.{FileRefusal}
 use Rattle.sj_file.specs.declared.job.FileRefusal.TheVariants.{Refused, Memory}
 use Rattle.sj_file.specs.declared.verdict.NextBound.{NextBound}
@@ -36,6 +37,12 @@ pub record IsFirstBound (rest : List ℕ) (x : b.Bound) (behind : List ℕ) : Ty
 abbrev pub refusal_of : ℕ → RefusedTree → FileRefusal
 refusal_of k (tree.For kind) = Refused k kind
 refusal_of k tree.Memory = Memory
+
+-- statement k is bound so, or it breaks a rule; being out of memory says nothing of it
+abbrev pub IsBoundAs : ℕ → Statement Path → Result BoundHeld FileRefusal → Type 0
+IsBoundAs k s (Ok x) = (answer s ≡ Ok (bound_of x)) × IsSound (bound_of x)
+IsBoundAs k s (Err (Refused n kind)) = (n ≡ k) × (answer s ≡ Err kind)
+IsBoundAs k s (Err Memory) = Unit {0}
 
 -- its first statement, which has number k, is bound so, or there is none, or it is refused so; being out of memory says nothing of it
 abbrev pub IsNextBound : ℕ → List ℕ → Result NextBound FileRefusal → Type 0

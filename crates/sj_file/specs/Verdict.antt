@@ -7,6 +7,7 @@ use Rattle.sj_sql_grammar.specs.declared.refusal.FileKind.{FileKind}
 use Rattle.sj_sql_grammar.specs.declared.refusal.FileKind.TheVariants.{Bind}
 use Rattle.sj_sql_grammar.specs.Tree.{Statement}
 use Rattle.sj_sql_grammar.specs.Answers.{IsFile}
+use Rattle.sj_sql_text.specs.Statements.{lines_text}
 use Rattle.sj_bound.specs.Bound.{Bound}
 use Rattle.sj_bind.specs.Meaning.{bound}
 use Rattle.sj_bind.specs.Rules.{bind_fault}
@@ -49,6 +50,11 @@ IsReadAs file statements = IsFile (lexed file) statements None
 -- the file is accepted, and its statements are bound so
 abbrev pub Accepts : List ℕ → List Bound → Type 0
 Accepts file statements = IsVerdict file (Ok statements)
+
+-- the text, as a file, is accepted with these statements, and is its own canonical text
+pub record IsCanonicalOf (statements : List Bound) (text : List ℕ) : Type 0 where
+  pub accepted : Accepts text statements
+  pub own : (read : List (Statement Path)) → IsReadAs text read → lines_text read ≡ text
 
 -- statement k is the first that is refused, and for this reason
 abbrev pub Refuses : List ℕ → ℕ → FileKind → Type 0

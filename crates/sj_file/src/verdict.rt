@@ -6,7 +6,8 @@ ghost use Rattle.sj_bound.specs.View.{bound_of};
 ghost use Rattle.sj_sql_grammar.specs.Answers.{max_file};
 ghost use Rattle.sj_file.specs.Job.{AreSound, statement_limit};
 ghost use Rattle.sj_file.specs.Verdict.{Accepts};
-ghost use Rattle.sj_file.specs.Refusals.{AcceptsSoMany, AcceptsWithText, IsNextBound, IsNextWithText, IsRefused, refusal_of};
+ghost use Rattle.sj_bind.specs.Bindable.{IsBindable};
+ghost use Rattle.sj_file.specs.Refusals.{AcceptsSoMany, AcceptsWithText, IsBoundAs, IsNextBound, IsNextWithText, IsRefused, refusal_of};
 
 use crate::job::FileRefusal;
 use sj_base::{Bytes, Memory};
@@ -34,18 +35,27 @@ fn refusal_of(number: u32, refused: Refused) -> FileRefusal
     }
 }
 
+/// A statement as it is bound, where it has this number.
+fn bound_as(alloc: Global, statement: Statement, number: u32) -> Result<Bound, FileRefusal>
+    requires { IsBindable (statement_of statement) }
+    ensures { IsBoundAs number (statement_of statement) result }
+{
+    match bind(alloc, statement) {
+        Ok(bound) => Ok(bound),
+        Err(BindRefusal::Kind(why)) => Err(FileRefusal::Refused(number, FileKind::Bind(why))),
+        Err(BindRefusal::Memory) => Err(FileRefusal::Memory),
+    }
+}
+
 /// The first statement of what is left of a file as it is bound, where it has this number.
 fn next_bound<'a>(alloc: Global, rest: &'a [u8], number: u32) -> Result<NextBound<'a>, FileRefusal>
     ensures { IsNextBound number rest.now result }
 {
     match next_statement(alloc, rest) {
-        Ok(NextStatement::Statement(statement, behind)) => match bind(alloc, statement) {
-            Ok(bound) => Ok(NextBound::Statement(bound, behind)),
-            Err(BindRefusal::Kind(why)) => {
-                Err(FileRefusal::Refused(number, FileKind::Bind(why)))
-            }
-            Err(BindRefusal::Memory) => Err(FileRefusal::Memory),
-        },
+        Ok(NextStatement::Statement(statement, behind)) => {
+            let bound = bound_as(alloc, statement, number)?;
+            Ok(NextBound::Statement(bound, behind))
+        }
         Ok(NextStatement::End) => Ok(NextBound::End),
         Err(refused) => Err(refusal_of(number, refused)),
     }
@@ -102,13 +112,8 @@ fn next_with_text<'a>(
                 Ok(()) => {}
                 Err(Memory) => return Err(FileRefusal::Memory),
             }
-            match bind(alloc, statement) {
-                Ok(bound) => Ok(NextBound::Statement(bound, behind)),
-                Err(BindRefusal::Kind(why)) => {
-                    Err(FileRefusal::Refused(number, FileKind::Bind(why)))
-                }
-                Err(BindRefusal::Memory) => Err(FileRefusal::Memory),
-            }
+            let bound = bound_as(alloc, statement, number)?;
+            Ok(NextBound::Statement(bound, behind))
         }
         Ok(NextStatement::End) => Ok(NextBound::End),
         Err(refused) => Err(refusal_of(number, refused)),

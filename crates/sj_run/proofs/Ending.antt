@@ -26,13 +26,14 @@ use Rattle.sj_file.specs.Verdict.{Accepts, IsReadAs, Refuses}
 use Rattle.sj_file.specs.Conditions.{IfRuns, IfChecks, IfGenerates, IfShows, IfNames, IfAccepted, IfRead, IsOrMemory}
 use Rattle.sj_file.proofs.Verdicts.{one_accepted, not_both}
 use Rattle.sj_file.proofs.ShownFiles.{by_some, no_name, past_limit, long_file, left_of, no_file, accepted_as, accepted_read, accepted_short, refused_as, for_run, for_check, for_generated, for_show}
+use Rattle.sj_file.proofs.ShownAgain.{canonical}
 use Rattle.sj_file.proofs.Unaccepted.{only_memory, this_refusal, too_long_alone, absent_alone}
 use Rattle.sj_stream.specs.Input.{InputSide}
 use Rattle.sj_stream.specs.LineJob.{LineJob, output, whole_output, allowed}
 use Rattle.sj_run.specs.Output.{job}
 use Rattle.sj_stream.specs.Stream.{IsPrefix, IsWhy, Streamed, IsFrontOf, WroteLeast, WroteWhole, StepsWithin, TookMost}
 use Rattle.sj_run.specs.Summary.{summary_text}
-use Rattle.sj_run.specs.Ran.{Moment, accepted_text, Tells, RanGenerated, Does, Idle, Did, RanOver, Ran, IsBefore}
+use Rattle.sj_run.specs.Ran.{Moment, accepted_text, WroteCanonical, Tells, RanGenerated, Does, Idle, Did, RanOver, Ran, IsBefore}
 use Rattle.sj_stream.proofs.Steps.{raised_none}
 use Rattle.sj_stream.proofs.Streaming.{whole_output-append, output-end, prefix_trans, consumes_none, told, streamed_front}
 
@@ -326,6 +327,21 @@ pub ran_show_front : (f : Option Form) (b a : Moment) (status : Status) → Ran 
 ran_show_front f b a status r =
     on_show f b a status (λ T. IsFrontOf (lines_text T) b.out a.out) r
     (λ T name idle. idle_front (lines_text T) b.out a.out idle.out) (λ T t. tells_front (lines_text T) b.out a.out status t)
+
+-- what was shown, as a file
+pub ran_shown_again : (f : Option Form) (b a : Moment) (status : Status) → Ran f b a status → status ≡ Done
+    → IfShows f b.shelf.files (λ file. IfAccepted file (λ K. WroteCanonical K b.out a.out))
+ran_shown_again f b a status r so =
+    for_show f b.shelf.files (λ file. IfAccepted file (λ K. WroteCanonical K b.out a.out))
+    (λ name file is shown K accepts. go name file K shown accepts (subst (λ (x : Option Form). Ran x b a Done) is (subst (Ran f b a) so r)))
+  where
+    go : (name file : List ℕ) (K : List Bound) → file_shown b.shelf.files (Some name) ≡ Some file → Accepts file K → RanOver (showing name) (Some name) b a Done → WroteCanonical K b.out a.out
+    go name file K shown accepts (inl idle) = absurd idle.why
+    go name file K shown accepts (inr d) =
+        let same = one_accepted file d.statements K (accepted_as name b.shelf a.shelf d.statements file shown d.accepted) accepts in
+        let text = lines_text d.accepted.accepted.statements in
+        let wrote : WroteCanonical d.statements b.out a.out = record { text = text; grew = d.does.1.0; canonical = canonical d.accepted.file d.statements d.accepted.accepted } in
+        subst (λ (k : List Bound). WroteCanonical k b.out a.out) same wrote
 
 pub ran_show_completes : (f : Option Form) (b a : Moment) (status : Status) → Ran f b a status → (Rose b.shelf.faults a.shelf.faults → ⊥) → (Rose b.out.faults a.out.faults → ⊥)
     → IfShows f b.shelf.files (λ file. length file ≤ max_file → IfAccepted file (λ K. IsOrMemory status Done))

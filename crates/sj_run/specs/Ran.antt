@@ -16,6 +16,7 @@ use Rattle.sj_file.specs.declared.status.Status.{Status}
 use Rattle.sj_file.specs.declared.status.Status.TheVariants.{Done, Usage, Refused, ShelfFault, ReadFault, WriteFault, Memory, InputLimit, FileTooLong}
 use Rattle.sj_file.specs.File.{ShelfSide, shelf_at, Form, running, checking, generating, showing, named_in}
 use Rattle.sj_file.specs.Accepted.{Accepted, IsUnaccepted}
+use Rattle.sj_file.specs.Verdict.{IsCanonicalOf}
 use Rattle.sj_stream.specs.Input.{InputSide, input_at}
 use Rattle.sj_stream.specs.LineJob.{allowed}
 use Rattle.sj_run.specs.Output.{job}
@@ -38,6 +39,12 @@ moment shelf input out = record { shelf = shelf; input = input; out = out }
 -- by what they tell and count
 abbrev pub moment_at : {H I O : Type 0} → shelves.Ghosts H → sources.Ghosts I → sinks.Ghosts O → H → I → ℕ → O → Moment
 moment_at h i o shelf input steps out = moment (shelf_at h shelf) (input_at i input steps) (out_at o out)
+
+-- a text was written that is a canonical file of these statements
+pub record WroteCanonical (statements : List Bound) (to to' : OutputSide) : Type 0 where
+  pub text : List ℕ
+  pub grew : Grew to to' text
+  pub canonical : IsCanonicalOf statements text
 
 -- ---- what is done with the statements of a file
 

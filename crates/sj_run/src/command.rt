@@ -14,7 +14,7 @@ ghost use Rattle.sj_file.specs.Conditions.{IfRuns, IfChecks, IfGenerates, IfShow
 ghost use Rattle.sj_file.specs.Verdict.{Refuses};
 ghost use Rattle.sj_sql_text.specs.Statements.{lines_text};
 ghost use Rattle.sj_stream.specs.Input.{input_at};
-ghost use Rattle.sj_run.specs.Ran.{Ran, out_at, moment_at, IsBefore, accepted_text};
+ghost use Rattle.sj_run.specs.Ran.{Ran, WroteCanonical, out_at, moment_at, IsBefore, accepted_text};
 ghost use Rattle.sj_run.specs.Summary.{summary_text};
 ghost use Rattle.sj_run.specs.Notes.{Noted, note_of};
 ghost use Rattle.sj_stream.specs.LineJob.{output, allowed};
@@ -148,6 +148,10 @@ pub fn run<H: Shelf, I: Source, O: Sink, N: Sink>(
     // However it ended, what was written is a front of that.
     ensures show_front { IfShows (command words.now) (H.files shelf.old) (λ file. IfRead file (λ statements.
         IsFrontOf (lines_text statements) (out_at O.Sink out.old) (out_at O.Sink out.new))) }
+    // What was shown is itself a file, which is accepted with the same statements and is its own canonical text.
+    ensures shown_again { result ≡ Status.Done →
+        IfShows (command words.now) (H.files shelf.old) (λ file. IfAccepted file (λ statements.
+        WroteCanonical statements (out_at O.Sink out.old) (out_at O.Sink out.new))) }
     // It leaves the input and the counter as they were.
     ensures show_reads_nothing { IfSome (file_to_show (command words.now)) (λ _. (input.new ≡ input.old) × (steps.new ≡ steps.old)) }
 

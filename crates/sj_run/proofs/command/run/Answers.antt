@@ -43,6 +43,9 @@ returns-clause-shown g c = ending.ran_shown _ _ _ _ c.answer-status.ensures.ran
 pub returns-clause-show_front : goal.returns-clause-show_front
 returns-clause-show_front g c = ending.ran_show_front _ _ _ _ c.answer-status.ensures.ran
 
+pub returns-clause-shown_again : goal.returns-clause-shown_again
+returns-clause-shown_again g c = ending.ran_shown_again _ _ _ _ c.answer-status.ensures.ran
+
 pub returns-clause-show_completes : goal.returns-clause-show_completes
 returns-clause-show_completes g c = ending.ran_show_completes _ _ _ _ c.answer-status.ensures.ran
 
