@@ -44,3 +44,15 @@ pub mod NumberTexts
 pub mod Breaking
 -- for the lemmas on printable pieces
 pub mod Inner
+-- for the lemmas of `AcceptedFiles`
+pub mod LexicalTokens
+-- for the lemmas of `CanonicalFiles`
+pub mod FollowedPieces
+-- for the lemmas of `AcceptedFiles`
+pub mod CanonicalFiles
+-- for the lemmas of `AcceptedFiles`
+pub mod Utf8Texts
+-- for `tokens_accepted`, and for the lemmas of `AcceptedFiles`
+pub mod AcceptedTokens
+-- for `read_back` and `same_text_same_tree`
+pub mod AcceptedFiles

@@ -20,5 +20,5 @@ mod statement;
 mod table;
 mod value;
 
-pub use law::{text_breaks, tokens_accepted, tokens_spell};
+pub use law::{read_back, same_text_same_tree, text_breaks, tokens_accepted, tokens_spell};
 pub use statement::statement_text;
