@@ -1,4 +1,4 @@
--- A canonical text has the tokens of its statements, and ends with a semicolon and a line end.
+-- A canonical text breaks into the tokens of its statements, each of which a semicolon ends.
 use Rattle.std.proofs.Common.{◌≡◌, ℕ, Bool, true, false, cond, ◌==◌, List, [], ◌∷◌, ◌++◌, map, ℤ, refl, sym, ap, subst, ◌∙◌, append_assoc, append-nil}
 use Rattle.std.specs.Bool.{⊤}
 use Rattle.std.specs.List.{AllByRecursion}
