@@ -91,7 +91,7 @@ planned_hold : {ts a rest : Tokens} {xs : Columns PathText} {p : PlanTree} → I
 planned_hold d q =
     let x = columns_hold d in
     let y = plan_holds q in
-    record { needs = λ n fit. and_needs (x.needs n fit) (y.needs n (columns_open d n fit) (x.keeps n fit)); keeps = λ n fit. y.keeps.fits n (x.keeps n fit) }
+    record { needs = λ n fit. and_needs (x.needs n fit) (y.needs n (columns_open d n fit) (x.keeps n fit)); keeps = λ n fit. y.keeps.fits n (x.keeps n fit); lexical = λ q. y.keeps.lexical (x.lexical q) }
 
 front_needs : (x : Encoding) (p : Path) (name : Option (List ℕ)) (variables : List Passed) → Needs 0 (λ ps. on.document_on x (Comma ∷ on.path_on p (on.path_name_on name (on.passing_on variables ps))))
 front_needs x p name variables =
