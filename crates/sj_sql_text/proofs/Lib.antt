@@ -42,5 +42,7 @@ pub mod QuotedTexts
 pub mod NumberTexts
 -- for `text_breaks`
 pub mod Breaking
--- for the lemmas on printable pieces
+-- for the lemmas of `Room`, `PrintedPhrases` and `PrintedPlans`
 pub mod Inner
+-- for the lemmas of `PrintedPlans`
+pub mod PrintedPhrases

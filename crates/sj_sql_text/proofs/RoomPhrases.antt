@@ -95,7 +95,7 @@ pub meant_keeps : {A : Type 0} (f : Keyword → Option A) (ts : Tokens) → If (
 meant_keeps f (k.Word v text ∷ ts) = given (f v) _ (λ a h. here (word_kept v text ts))
 meant_keeps f _ = nothing
 
-skipped : (v : Keyword) (ts : Tokens) → Keeps ts (skip_word v ts)
+pub skipped : (v : Keyword) (ts : Tokens) → Keeps ts (skip_word v ts)
 skipped v ts = go (word v ts) (word_keeps v ts)
   where
     go : (o : Option Tokens) → If (Keeps ts) o → Keeps ts (if_some o (λ rest. rest) ts)
