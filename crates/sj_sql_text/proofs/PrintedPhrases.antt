@@ -1,7 +1,8 @@
 -- The pieces of phrases that the tokens of a file spell are inner ones.
-use Rattle.std.proofs.Common.{◌≡◌, ◌≢◌, ℕ, zero, suc, ◌<◌, ◌%◌, Bool, true, false, ◌&&◌, nat_lt, nat_le, List, [], ◌∷◌, codes, ℤ, pos, negsuc, neg_ℤ, unsigned_abs, Option, Some, None, refl, sym, subst, arith, nat_tests, IsUtf8}
+use Rattle.std.proofs.Common.{◌≡◌, ◌≢◌, ℕ, zero, suc, ◌<◌, ◌%◌, Bool, true, false, ◌&&◌, nat_lt, nat_le, List, [], ◌∷◌, codes, ℤ, pos, negsuc, neg_ℤ, unsigned_abs, Option, Some, None, refl, sym, subst, arith, IsUtf8}
 use Rattle.std.specs.Bool.{⊤}
 use Rattle.std.specs.List.{list_all}
+use Rattle.std.proofs.lemmas.Bool.Decides.{nat_tests}
 use Rattle.std.proofs.lemmas.Str.{IsUtf8-append, IsUtf8-nil}
 use Rattle.sj_decimal.specs.Limits.{max_digits, magnitude_limit}
 use Rattle.sj_decimal.specs.Normal.{IsDecimal}
@@ -42,17 +43,16 @@ use Rattle.sj_sql_grammar.specs.declared.clauses.Quotes.TheVariants as quotes
 use Rattle.sj_sql_grammar.specs.declared.clauses.QueryClauses.{QueryClauses}
 use Rattle.sj_sql_grammar.specs.declared.clauses.IsJsonCall.{IsJsonCall}
 use Rattle.sj_sql_grammar.specs.Tree.{PathText, Written, OfName, Common}
-use Rattle.sj_sql_grammar.specs.Phrases.{Tokens, Phrase, word, string_at, number_at, name_at, meant, skip_word, constant_of, negated, literal_at, max_varchar, type_at, passed_at, cause_at, on_at, returning_at, value_action_of, value_action_at, value_clause_at, alias_at, path_name_at, path_at, nested_path_at}
+use Rattle.sj_sql_grammar.specs.Phrases.{Tokens, Phrase, if_some, word, string_at, number_at, name_at, meant, skip_word, constant_of, negated, literal_at, max_varchar, type_at, passed_at, cause_at, returning_at, value_action_of, value_action_at, value_clause_at, alias_at, path_name_at, path_at, nested_path_at}
 use Rattle.sj_sql_grammar.specs.Grammar as g
 use Rattle.sj_sql_grammar.specs.Grammar.{IsOptional, IsList, IsPassed, IsPassing}
 use Rattle.sj_sql_grammar.specs.Answers.{or_root, path_of}
-use Rattle.sj_sql_grammar.proofs.ReadTokens.{If, nothing, here, then, given, either, chosen, weaken}
+use Rattle.sj_sql_grammar.proofs.ReadTokens.{If, nothing, here, then, given, either, chosen}
 use Rattle.sj_sql_text.specs.Pieces.{Piece, Name, String, Number, Comma, Pieces}
 use Rattle.sj_sql_text.specs.Phrases as on
 use Rattle.sj_sql_text.specs.Printable.{is_word}
 use Rattle.sj_sql_text.proofs.Inner.{AreLexical, IsInner, Prints, and_prints}
 use Rattle.sj_sql_text.proofs.ReadPhrases.{IsWithin, type_read, returning_read}
-use Rattle.sj_sql_text.proofs.Room.{Keeps}
 use Rattle.sj_sql_text.proofs.RoomPhrases.{word_keeps, comma_keeps, skipped, passed_keeps, literal_keeps}
 
 -- ---- pieces
@@ -101,7 +101,7 @@ alias_prints ts q = then (word w.As ts) _ (word_keeps w.As ts) (λ a e. name_pri
 
 pub path_name_prints : (ts : Tokens) → AreLexical ts → If (λ x. Prints (on.path_name_on x.0)) (path_name_at ts)
 unfolding path_name_at
-path_name_prints ts q = then (alias_at ts) _ (alias_prints ts q) (λ n e. here (record { inner = λ ps p. (refl, e, p) }))
+path_name_prints ts q = then (alias_at ts) _ (alias_prints ts q) (λ n e. here (record { inner = λ ps p. (refl, (e, p)) }))
 
 pub optional_path_name : {ts rest : Tokens} {name : Option (List ℕ)} → IsOptional path_name_at None ts name rest → AreLexical ts → Prints (on.path_name_on name)
 optional_path_name {ts = ts} o q = optional_prints (λ n. Prints (on.path_name_on n)) nothing_prints (path_name_prints ts q) o
@@ -176,13 +176,16 @@ constant_prints w.False = here (word_prints (codes "FALSE") refl)
 constant_prints w.Null = here (word_prints (codes "NULL") refl)
 constant_prints _ = nothing
 
+plain_literal_prints : (ts : Tokens) → AreLexical ts → If (λ x. Prints (on.literal_on x.0)) (if_some (number_at ts) (λ d. Some (l.Num d.0, d.1)) (meant constant_of ts))
+plain_literal_prints ts q = either (number_at ts) _ _ (λ d h. here (piece_prints (Number d.0) ((number_decimal ts q).holds d h))) (λ _. meant_prints constant_of constant_prints ts)
+
 pub literal_prints : (ts : Tokens) → AreLexical ts → If (λ x. Prints (on.literal_on x.0)) (literal_at ts)
 unfolding literal_at
 literal_prints [] q = nothing
 literal_prints (k.String s ∷ ts) q = here (piece_prints (String s) q.0)
 literal_prints (k.Plus ∷ ts) q = then _ _ (number_decimal ts q.1) (λ d e. here (piece_prints (Number d.0) e))
 literal_prints (k.Minus ∷ ts) q = then _ _ (number_decimal ts q.1) (λ d e. here (piece_prints (Number (negated d.0)) (negated_decimal d.0 e)))
-literal_prints (t ∷ ts) q = either (number_at (t ∷ ts)) _ _ (λ d h. here (piece_prints (Number d.0) ((number_decimal (t ∷ ts) q).holds d h))) (λ _. meant_prints constant_of constant_prints (t ∷ ts))
+literal_prints (t ∷ ts) q = plain_literal_prints (t ∷ ts) q
 
 pub passed_prints : (ts : Tokens) → AreLexical ts → If (λ x. Prints (on.passed_on x.0)) (passed_at ts)
 unfolding passed_at
@@ -216,9 +219,9 @@ decimals_count p s h = grind (arith, nat_tests)
 
 within_prints : (ty : TypeName) → IsWithin ty → Prints (on.type_on ty)
 within_prints (Known sql.Varchar) h = word_prints (codes "VARCHAR") refl
-within_prints (Known (sql.VarcharMax n)) h = record { inner = λ ps p. (refl, varchar_count n h.is, tt, p) }
+within_prints (Known (sql.VarcharMax n)) h = record { inner = λ ps p. (refl, (varchar_count n h.is, (tt, p))) }
 within_prints (Known sql.Numeric) h = word_prints (codes "NUMERIC") refl
-within_prints (Known (sql.NumericFixed d s)) h = record { inner = λ ps p. (refl, digits_count d s h.is, tt, decimals_count d s h.is, tt, p) }
+within_prints (Known (sql.NumericFixed d s)) h = record { inner = λ ps p. (refl, (digits_count d s h.is, (tt, (decimals_count d s h.is, (tt, p))))) }
 within_prints (Known sql.Integer) h = word_prints (codes "INTEGER") refl
 within_prints (Known sql.Bigint) h = word_prints (codes "BIGINT") refl
 within_prints (Known sql.Boolean) h = word_prints (codes "BOOLEAN") refl
@@ -233,42 +236,42 @@ returning_prints {ty = ty} o = and_prints (word_prints (codes "RETURNING") refl)
 
 -- ---- clauses with a literal
 
-value_action_prints : (v : Keyword) → If (λ x. Prints (on.value_action_on x)) (value_action_of v)
-value_action_prints w.Error = here (word_prints (codes "ERROR") refl)
-value_action_prints w.Null = here (word_prints (codes "NULL") refl)
-value_action_prints _ = nothing
+value_word_prints : (v : Keyword) → If (λ x. Prints (on.value_action_on x)) (value_action_of v)
+value_word_prints w.Error = here (word_prints (codes "ERROR") refl)
+value_word_prints w.Null = here (word_prints (codes "NULL") refl)
+value_word_prints _ = nothing
 
-default_prints : (ts : Tokens) → AreLexical ts → If (λ x. Prints (on.value_action_on x.0)) (value_action_at ts)
-default_prints ts q =
+value_action_prints : (ts : Tokens) → AreLexical ts → If (λ x. Prints (on.value_action_on x.0)) (value_action_at ts)
+value_action_prints ts q =
     either (word w.Default ts) _ _
     (λ a h. then (literal_at a) _ (literal_prints a (((word_keeps w.Default ts).holds a h).lexical q)) (λ v e. here (and_prints (word_prints (codes "DEFAULT") refl) e)))
-    (λ _. meant_prints value_action_of value_action_prints ts)
+    (λ _. meant_prints value_action_of value_word_prints ts)
 
 pub value_clause_prints : (cause : Keyword) (ts : Tokens) → AreLexical ts → If (λ x. Prints (on.value_action_on x.0)) (value_clause_at cause ts)
 unfolding value_clause_at
-value_clause_prints cause ts q = then (value_action_at ts) _ (default_prints ts q) (λ a e. given (cause_at cause a.1) _ (λ rest _. here e))
+value_clause_prints cause ts q = then (value_action_at ts) _ (value_action_prints ts q) (λ a e. given (cause_at cause a.1) _ (λ rest _. here e))
 
-pub optional_value_clause : {cause : Keyword} {ts rest : Tokens} {x : ValueDo} → IsOptional (value_clause_at cause) on_value.Null ts x rest → AreLexical ts → Prints (on.value_action_on x)
-optional_value_clause {cause = cause} {ts = ts} o q = optional_prints (λ y. Prints (on.value_action_on y)) (word_prints (codes "NULL") refl) (value_clause_prints cause ts q) o
+pub optional_value_clause : (cause : Keyword) {ts rest : Tokens} {x : ValueDo} → IsOptional (value_clause_at cause) on_value.Null ts x rest → AreLexical ts → Prints (on.value_action_on x)
+optional_value_clause cause {ts = ts} o q = optional_prints (λ y. Prints (on.value_action_on y)) (word_prints (codes "NULL") refl) (value_clause_prints cause ts q) o
 
 on_empty_prints : Prints on.on_empty
-on_empty_prints = record { inner = λ ps p. (refl, refl, p) }
+on_empty_prints = record { inner = λ ps p. (refl, (refl, p)) }
 
 on_error_prints : Prints on.on_error
-on_error_prints = record { inner = λ ps p. (refl, refl, p) }
+on_error_prints = record { inner = λ ps p. (refl, (refl, p)) }
 
-pub value_clauses_print : {empty error : ValueDo} → Prints (on.value_action_on empty) → Prints (on.value_action_on error) → Prints (on.value_clauses_on empty error)
-value_clauses_print x y = and_prints x (and_prints on_empty_prints (and_prints y on_error_prints))
+pub value_clauses_print : (empty error : ValueDo) → Prints (on.value_action_on empty) → Prints (on.value_action_on error) → Prints (on.value_clauses_on empty error)
+value_clauses_print a b x y = and_prints x (and_prints on_empty_prints (and_prints y on_error_prints))
 
 -- ---- the document
 
 pub document_prints : (x : Encoding) → Prints (on.document_on x)
 document_prints Read = word_prints (codes "doc") refl
-document_prints Refused = record { inner = λ ps p. (refl, refl, refl, refl, refl, p) }
+document_prints Refused = record { inner = λ ps p. (refl, (refl, (refl, (refl, (refl, p))))) }
 
 pub encoding_prints : (x : Encoding) → Prints (on.encoding_on x)
 encoding_prints Read = nothing_prints
-encoding_prints Refused = record { inner = λ ps p. (refl, refl, p) }
+encoding_prints Refused = record { inner = λ ps p. (refl, (refl, p)) }
 
 pub common_prints : (c : Common Path) → IsInner (String (path_text c.path)) → Prints (on.passing_on c.passing) → Prints (on.common_on c)
 common_prints c h x = and_prints (document_prints c.encoding) (and_prints (piece_prints Comma tt) (and_prints (piece_prints (String (path_text c.path)) h) x))
@@ -276,26 +279,26 @@ common_prints c h x = and_prints (document_prints c.encoding) (and_prints (piece
 -- ---- other clauses
 
 pub exists_clause_prints : (x : ExistsAction) → Prints (on.exists_clause_on x)
-exists_clause_prints on_exists.True = record { inner = λ ps p. (refl, refl, refl, p) }
-exists_clause_prints on_exists.False = record { inner = λ ps p. (refl, refl, refl, p) }
-exists_clause_prints on_exists.Unknown = record { inner = λ ps p. (refl, refl, refl, p) }
-exists_clause_prints on_exists.Error = record { inner = λ ps p. (refl, refl, refl, p) }
+exists_clause_prints on_exists.True = record { inner = λ ps p. (refl, (refl, (refl, p))) }
+exists_clause_prints on_exists.False = record { inner = λ ps p. (refl, (refl, (refl, p))) }
+exists_clause_prints on_exists.Unknown = record { inner = λ ps p. (refl, (refl, (refl, p))) }
+exists_clause_prints on_exists.Error = record { inner = λ ps p. (refl, (refl, (refl, p))) }
 
 pub wrapper_prints : (x : Wrapper) → Prints (on.wrapper_on x)
-wrapper_prints wrapper.Without = record { inner = λ ps p. (refl, refl, p) }
-wrapper_prints wrapper.Conditional = record { inner = λ ps p. (refl, refl, refl, p) }
-wrapper_prints wrapper.Unconditional = record { inner = λ ps p. (refl, refl, refl, p) }
+wrapper_prints wrapper.Without = record { inner = λ ps p. (refl, (refl, p)) }
+wrapper_prints wrapper.Conditional = record { inner = λ ps p. (refl, (refl, (refl, p))) }
+wrapper_prints wrapper.Unconditional = record { inner = λ ps p. (refl, (refl, (refl, p))) }
 
 pub quotes_print : (x : Quotes) → Prints (on.quotes_on x)
 quotes_print quotes.Absent = nothing_prints
-quotes_print quotes.Keep = record { inner = λ ps p. (refl, refl, p) }
-quotes_print quotes.Omit = record { inner = λ ps p. (refl, refl, p) }
+quotes_print quotes.Keep = record { inner = λ ps p. (refl, (refl, p)) }
+quotes_print quotes.Omit = record { inner = λ ps p. (refl, (refl, p)) }
 
 pub query_action_prints : (x : QueryAction) → Prints (on.query_action_on x)
 query_action_prints on_query.Error = word_prints (codes "ERROR") refl
 query_action_prints on_query.Null = word_prints (codes "NULL") refl
-query_action_prints on_query.EmptyArray = record { inner = λ ps p. (refl, refl, p) }
-query_action_prints on_query.EmptyObject = record { inner = λ ps p. (refl, refl, p) }
+query_action_prints on_query.EmptyArray = record { inner = λ ps p. (refl, (refl, p)) }
+query_action_prints on_query.EmptyObject = record { inner = λ ps p. (refl, (refl, p)) }
 
 pub query_clauses_print : (c : QueryClauses) → Prints (on.query_clauses_on c)
 query_clauses_print c =
@@ -303,12 +306,12 @@ query_clauses_print c =
     (and_prints (query_action_prints c.on_empty) (and_prints on_empty_prints (and_prints (query_action_prints c.on_error) on_error_prints))))
 
 pub unique_prints : (x : Bool) → Prints (on.unique_on x)
-unique_prints true = record { inner = λ ps p. (refl, refl, refl, p) }
-unique_prints false = record { inner = λ ps p. (refl, refl, refl, p) }
+unique_prints true = record { inner = λ ps p. (refl, (refl, (refl, p))) }
+unique_prints false = record { inner = λ ps p. (refl, (refl, (refl, p))) }
 
 pub nulls_print : (x : Nulls) → Prints (on.nulls_on x)
-nulls_print nulls.Null = record { inner = λ ps p. (refl, refl, refl, p) }
-nulls_print nulls.Absent = record { inner = λ ps p. (refl, refl, refl, p) }
+nulls_print nulls.Null = record { inner = λ ps p. (refl, (refl, (refl, p))) }
+nulls_print nulls.Absent = record { inner = λ ps p. (refl, (refl, (refl, p))) }
 
 pub not_prints : (x : Bool) → Prints (on.not_on x)
 not_prints true = word_prints (codes "NOT") refl
@@ -326,5 +329,5 @@ is_json_prints c =
     (and_prints (word_prints (codes "JSON") refl) (and_prints (kind_prints c.kind) (unique_prints c.unique)))))
 
 pub table_clause_prints : (x : TableAction) → Prints (on.table_clause_on x)
-table_clause_prints on_table.Empty = record { inner = λ ps p. (refl, refl, refl, p) }
-table_clause_prints on_table.Error = record { inner = λ ps p. (refl, refl, refl, p) }
+table_clause_prints on_table.Empty = record { inner = λ ps p. (refl, (refl, (refl, p))) }
+table_clause_prints on_table.Error = record { inner = λ ps p. (refl, (refl, (refl, p))) }
