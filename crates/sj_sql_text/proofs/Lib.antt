@@ -46,3 +46,5 @@ pub mod Breaking
 pub mod Inner
 -- for the lemmas of `PrintedPlans`
 pub mod PrintedPhrases
+-- for the pieces of tables
+pub mod PrintedPlans
