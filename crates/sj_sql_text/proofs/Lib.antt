@@ -29,11 +29,11 @@ pub mod Room
 pub mod RoomPhrases
 -- for the lemmas of `RoomTables`
 pub mod RoomPlans
--- for the lemmas of `RoomTables` and `RoomStatements`
+-- for the lemmas of `RoomTables`, `RoomStatements`, `PrintedValues` and `PrintedTables`
 pub mod RoomValues
--- for the lemmas of `RoomStatements`
+-- for the lemmas of `RoomStatements` and `PrintedTables`
 pub mod RoomTables
--- for `tokens_accepted`
+-- for `tokens_accepted` and the lemmas of `PrintedStatements`
 pub mod RoomStatements
 -- for the lemmas of `QuotedTexts`, `NumberTexts` and `Breaking`
 pub mod Lexes
@@ -42,9 +42,15 @@ pub mod QuotedTexts
 pub mod NumberTexts
 -- for `text_breaks`
 pub mod Breaking
--- for the lemmas of `Room`, `PrintedPhrases` and `PrintedPlans`
+-- for the lemmas of `Room`, `PrintedPhrases`, `PrintedPlans`, `PrintedValues`, `PrintedTables` and `PrintedStatements`
 pub mod Inner
--- for the lemmas of `PrintedPlans`
+-- for the lemmas of `PrintedPlans`, `PrintedValues`, `PrintedTables` and `PrintedStatements`
 pub mod PrintedPhrases
--- for the pieces of tables
+-- for the lemmas of `PrintedTables`
 pub mod PrintedPlans
+-- for the lemmas of `PrintedTables` and `PrintedStatements`
+pub mod PrintedValues
+-- for the lemmas of `PrintedStatements`
+pub mod PrintedTables
+-- for `statement_prints`
+pub mod PrintedStatements
