@@ -9,7 +9,7 @@ use Rattle.sj_sql_token.specs.declared.token.Token.TheVariants as k
 use Rattle.sj_sql_token.specs.Tokens.{Lexed, end, next, piece_at, lexed_behind, lexed}
 use Rattle.sj_sql_grammar.specs.Tree.{Statement}
 use Rattle.sj_sql_grammar.specs.Phrases.{Tokens, negated}
-use Rattle.sj_sql_grammar.specs.Answers.{Ending, closed, Pieces as FilePieces, before, pieces}
+use Rattle.sj_sql_grammar.specs.Answers.{closed, Pieces as FilePieces, before, pieces}
 use Rattle.sj_sql_text.specs.Pieces.{Piece, Word, Call, Name, String, Number, Count, Open, Close, Comma, Star, Semicolon, Pieces}
 use Rattle.sj_sql_text.specs.Statements.{body_on, statement_on, statement_text, lines_text}
 use Rattle.sj_sql_text.specs.Tokens.{unsigned, piece_on, tokens_of}

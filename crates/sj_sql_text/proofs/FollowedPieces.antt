@@ -3,7 +3,6 @@ use Rattle.std.proofs.Common.{◌≡◌, ℕ, Bool, true, false, List, [], ◌�
 use Rattle.sj_path_tree.specs.declared.parts.Literal.{Literal}
 use Rattle.sj_path_tree.specs.declared.parts.Literal.TheVariants as l
 use Rattle.sj_path_tree.specs.Tree.{Path}
-use Rattle.sj_value.specs.declared.types.SqlType.{SqlType}
 use Rattle.sj_value.specs.declared.types.SqlType.TheVariants as sql
 use Rattle.sj_value.specs.declared.clauses.Wrapper.{Wrapper}
 use Rattle.sj_value.specs.declared.clauses.Wrapper.TheVariants as wrapper
@@ -20,7 +19,7 @@ use Rattle.sj_value.specs.declared.clauses.JsonKind.TheVariants as json
 use Rattle.sj_sql_grammar.specs.declared.clauses.Encoding.{Encoding}
 use Rattle.sj_sql_grammar.specs.declared.clauses.Encoding.TheVariants.{Read, Refused}
 use Rattle.sj_sql_grammar.specs.declared.clauses.TypeName.{TypeName}
-use Rattle.sj_sql_grammar.specs.declared.clauses.TypeName.TheVariants.{Known, Approximate, Datetime}
+use Rattle.sj_sql_grammar.specs.declared.clauses.TypeName.TheVariants.{Known}
 use Rattle.sj_sql_grammar.specs.declared.clauses.Passed.{Passed}
 use Rattle.sj_sql_grammar.specs.declared.clauses.ValueDo.{ValueDo}
 use Rattle.sj_sql_grammar.specs.declared.clauses.ValueDo.TheVariants as on_value

@@ -1,10 +1,10 @@
 -- What a file breaks into are lexical tokens.
-use Rattle.std.proofs.Common.{◌≡◌, ◌≢◌, ℕ, zero, suc, ◌<◌, Bool, true, false, cond, ◌&&◌, ℤ, List, [], ◌∷◌, ◌++◌, Option, Some, None, refl, sym, ap, subst, ◌∙◌, arith, append_assoc, IsUtf8}
+use Rattle.std.proofs.Common.{◌≡◌, ◌≢◌, ℕ, zero, suc, ◌<◌, Bool, true, false, cond, ◌&&◌, ℤ, List, [], ◌∷◌, ◌++◌, Some, None, refl, sym, ap, subst, ◌∙◌, arith, append_assoc, IsUtf8}
 use Rattle.std.specs.Bool.{⊤}
 use Rattle.std.specs.List.{AllPass, AllByRecursion, list_all}
 use Rattle.std.specs.Str.{is_utf8}
 use Rattle.std.proofs.lemmas.Str.{IsUtf8-append, IsUtf8-from_is_utf8}
-use Rattle.sj_base.specs.ByteClasses.{is_letter, is_word_byte}
+use Rattle.sj_base.specs.ByteClasses.{is_word_byte}
 use Rattle.sj_decimal.specs.Exact.{is_exact}
 use Rattle.sj_decimal.specs.Normal.{normal, IsDecimal}
 use Rattle.sj_decimal.proofs.Exactness.{exact_is}
@@ -21,7 +21,6 @@ use Rattle.sj_sql_token.specs.Forms.{PieceForm, IsSign, IsInside, HasForm, numbe
 use Rattle.sj_sql_token.proofs.Longest.{token_longest}
 use Rattle.sj_sql_grammar.specs.Phrases.{Tokens}
 use Rattle.sj_sql_grammar.specs.Answers.{Ending, before, pieces}
-use Rattle.sj_sql_text.specs.Printable.{is_word}
 use Rattle.sj_sql_text.proofs.Inner.{IsLexical, AreLexical}
 use Rattle.sj_sql_text.proofs.QuotedTexts.{cut}
 

@@ -1,5 +1,5 @@
 -- The text of printable pieces is in UTF-8.
-use Rattle.std.proofs.Common.{◌≡◌, ℕ, zero, suc, ◌+◌, ◌/◌, ◌^◌, ◌<◌, Bool, true, false, cond, ◌||◌, List, [], ◌∷◌, ◌++◌, decimal, unsigned_abs, ℤ, codes, subst, ap, ◌∙◌, refl, arith, append-nil, div-le_self, IsUtf8}
+use Rattle.std.proofs.Common.{ℕ, zero, suc, ◌/◌, ◌^◌, ◌<◌, Bool, true, false, cond, ◌||◌, List, [], ◌∷◌, ◌++◌, decimal, unsigned_abs, ℤ, codes, arith, div-le_self, IsUtf8}
 use Rattle.std.specs.Fmt.{sign_text}
 use Rattle.std.specs.List.{AllByRecursion}
 use Rattle.std.proofs.lemmas.Fmt.{IsAscii-decimal_wide}
