@@ -37,7 +37,7 @@ pub fn text_breaks()
 /// it is in UTF-8.
 ///
 /// A file has the statements before the first one that is refused: `select 1 as one; select` has one statement, whose
-/// canonical text `SELECT 1;` is accepted.
+/// canonical text `SELECT 1;` is accepted. A canonical text may be longer than the file, and so than a file may be.
 pub fn read_back()
     ensures statement { (file : List ℕ) (s : Statement Path) → IsStatementOf file s → IsFile (lexed (statement_text s)) (s ∷ []) None }
     ensures file { (file : List ℕ) (ss : List (Statement Path)) (refusal : Option (ℕ × FileKind))
