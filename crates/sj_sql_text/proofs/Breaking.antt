@@ -27,7 +27,7 @@ piece_reads Star h = sign false 42 k.Star (λ rest. refl)
 piece_reads Semicolon h = sign false 59 k.Semicolon (λ rest. refl)
 
 -- the tokens of a piece stand before the others
-tokens_behind : (p : Piece) (ts : Tokens) (rest : Lexed) → followed_by (piece_on p ts) rest ≡ followed_by (piece_on p []) (followed_by ts rest)
+pub tokens_behind : (p : Piece) (ts : Tokens) (rest : Lexed) → followed_by (piece_on p ts) rest ≡ followed_by (piece_on p []) (followed_by ts rest)
 tokens_behind (Number d) ts rest = go (is_negative d.0)
   where
     go : (x : Bool) → followed_by (cond x (k.Minus ∷ unsigned (negated d) ∷ ts) (unsigned d ∷ ts)) rest ≡ followed_by (cond x (k.Minus ∷ unsigned (negated d) ∷ []) (unsigned d ∷ [])) (followed_by ts rest)

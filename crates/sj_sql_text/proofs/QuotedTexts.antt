@@ -54,7 +54,7 @@ doubled_some m (b ∷ bs) some = go (b == m)
 -- ---- it is a text
 
 -- a text is cut at an ASCII byte
-cut : (front : List ℕ) (b : ℕ) (bs : List ℕ) → b < 128 → IsUtf8 (front ++ (b ∷ bs)) → IsUtf8 front × IsUtf8 bs
+pub cut : (front : List ℕ) (b : ℕ) (bs : List ℕ) → b < 128 → IsUtf8 (front ++ (b ∷ bs)) → IsUtf8 front × IsUtf8 bs
 cut front b bs low u =
     let here : get_or (front ++ (b ∷ bs)) (length front) 0 ≡ b = get_or_at front b bs 0 (length front) refl in
     let at : IsCharBoundary (front ++ (b ∷ bs)) (length front) =
@@ -64,7 +64,7 @@ cut front b bs low u =
       IsUtf8-drop (b ∷ bs) 1 behind (IsCharBoundary-after_ascii (b ∷ bs) 0 behind (omega arith) low),
     )
 
-doubled_behind : (m : ℕ) → m < 128 → (text front : List ℕ) → IsUtf8 (front ++ text) → IsUtf8 (front ++ doubled m text)
+pub doubled_behind : (m : ℕ) → m < 128 → (text front : List ℕ) → IsUtf8 (front ++ text) → IsUtf8 (front ++ doubled m text)
 doubled_behind m low [] front u = u
 doubled_behind m low (b ∷ bs) front u = go (b == m) refl (doubled_behind m low bs)
   where

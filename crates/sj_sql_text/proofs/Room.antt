@@ -10,6 +10,7 @@ use Rattle.sj_sql_grammar.specs.Grammar.{is_open, is_close, IsTooDeep}
 use Rattle.sj_sql_grammar.proofs.ReadTokens.{If, nothing, here}
 use Rattle.sj_sql_text.specs.Pieces.{Open, Close, Call, Pieces}
 use Rattle.sj_sql_text.specs.Tokens.{tokens_of}
+use Rattle.sj_sql_text.proofs.Inner.{AreLexical}
 
 abbrev pub Opened : (ℕ → Type 0) → ℕ → Type 0
 Opened P zero = ⊥
@@ -62,32 +63,35 @@ shallow ts fit x = let c = tally_is is_close (take x.0 ts) in let o = tally_is i
 
 -- ---- what tokens leave
 
--- the tokens in front close what they open
+-- The tokens in front close what they open. Those behind are of a file if all are.
 pub record Keeps (ts rest : Tokens) : Type 0 where
   pub fits : (d : ℕ) → Fits ts d → Fits rest d
+  pub lexical : AreLexical ts → AreLexical rest
 
 pub record Opens (ts rest : Tokens) : Type 0 where
   pub fits : (d : ℕ) → Fits ts d → Opened (Fits rest) d
+  pub lexical : AreLexical ts → AreLexical rest
 
 pub record Closes (ts rest : Tokens) : Type 0 where
   pub fits : (d : ℕ) → Fits ts d → Fits rest (suc d)
+  pub lexical : AreLexical ts → AreLexical rest
 
 pub stays : (ts : Tokens) → Keeps ts ts
-stays ts = record { fits = λ d h. h }
+stays ts = record { fits = λ d h. h; lexical = λ x. x }
 
 pub and_keeps : {a b c : Tokens} → Keeps a b → Keeps b c → Keeps a c
-and_keeps x y = record { fits = λ d h. y.fits d (x.fits d h) }
+and_keeps x y = record { fits = λ d h. y.fits d (x.fits d h); lexical = λ q. y.lexical (x.lexical q) }
 
 pub opens : (ts : Tokens) → If (Opens ts) (open_at ts)
-opens (k.Open ∷ ts) = here (record { fits = λ d h. h })
+opens (k.Open ∷ ts) = here (record { fits = λ d h. h; lexical = λ x. x.1 })
 opens _ = nothing
 
 pub closes : (ts : Tokens) → If (Closes ts) (close_at ts)
-closes (k.Close ∷ ts) = here (record { fits = λ d h. h })
+closes (k.Close ∷ ts) = here (record { fits = λ d h. h; lexical = λ x. x.1 })
 closes _ = nothing
 
 pub enclosed_keep : {a b c rest : Tokens} → Opens a b → Keeps b c → Closes c rest → Keeps a rest
-enclosed_keep {a} {b} {c} {rest} o x z = record { fits = go }
+enclosed_keep {a} {b} {c} {rest} o x z = record { fits = go; lexical = λ q. z.lexical (x.lexical (o.lexical q)) }
   where
     go : (d : ℕ) → Fits a d → Fits rest d
     go zero h = absurd (o.fits zero h)
@@ -121,29 +125,33 @@ enclosed_need {n} {f} x = record { fits = go }
 pub record Holds (ts : Tokens) (f : Pieces → Pieces) (rest : Tokens) : Type 0 where
   pub needs : (d : ℕ) → Fits ts d → Needs d f
   pub keeps : (d : ℕ) → Fits ts d → Fits rest d
+  pub lexical : AreLexical ts → AreLexical rest
+
+pub kept : {ts rest : Tokens} {f : Pieces → Pieces} → Holds ts f rest → Keeps ts rest
+kept x = record { fits = x.keeps; lexical = x.lexical }
 
 pub plain : {ts rest : Tokens} {f : Pieces → Pieces} → Needs 0 f → Keeps ts rest → Holds ts f rest
-plain x y = record { needs = λ d h. with_more (omega arith) x; keeps = y.fits }
+plain x y = record { needs = λ d h. with_more (omega arith) x; keeps = y.fits; lexical = y.lexical }
 
 pub behind : {ts a rest : Tokens} {f : Pieces → Pieces} → Keeps ts a → Holds a f rest → Holds ts f rest
-behind x y = record { needs = λ d h. y.needs d (x.fits d h); keeps = λ d h. y.keeps d (x.fits d h) }
+behind x y = record { needs = λ d h. y.needs d (x.fits d h); keeps = λ d h. y.keeps d (x.fits d h); lexical = λ q. y.lexical (x.lexical q) }
 
 pub before : {ts a rest : Tokens} {f : Pieces → Pieces} → Holds ts f a → Keeps a rest → Holds ts f rest
-before x y = record { needs = x.needs; keeps = λ d h. y.fits d (x.keeps d h) }
+before x y = record { needs = x.needs; keeps = λ d h. y.fits d (x.keeps d h); lexical = λ q. y.lexical (x.lexical q) }
 
 pub joined : {a b c : Tokens} {f h : Pieces → Pieces} → Holds a f b → Holds b h c → Holds a (λ ps. f (h ps)) c
-joined x y = record { needs = λ d fit. and_needs (x.needs d fit) (y.needs d (x.keeps d fit)); keeps = λ d fit. y.keeps d (x.keeps d fit) }
+joined x y = record { needs = λ d fit. and_needs (x.needs d fit) (y.needs d (x.keeps d fit)); keeps = λ d fit. y.keeps d (x.keeps d fit); lexical = λ q. y.lexical (x.lexical q) }
 
 -- pieces that need room for one stand for tokens in parentheses
 pub by_parentheses : {a b c rest : Tokens} {f : Pieces → Pieces} → Needs 1 f → Opens a b → Keeps b c → Closes c rest → Holds a f rest
-by_parentheses {a} {b} {c} {rest} {f} n o x z = record { needs = go; keeps = (enclosed_keep o x z).fits }
+by_parentheses {a} {b} {c} {rest} {f} n o x z = record { needs = go; keeps = (enclosed_keep o x z).fits; lexical = (enclosed_keep o x z).lexical }
   where
     go : (d : ℕ) → Fits a d → Needs d f
     go zero h = absurd (o.fits zero h)
     go (suc d) h = with_more (omega arith) n
 
 pub in_parentheses : {a b c rest : Tokens} {f : Pieces → Pieces} → Opens a b → Holds b f c → Closes c rest → Holds a (λ ps. Open ∷ f (Close ∷ ps)) rest
-in_parentheses {a} {b} {c} {rest} {f} o x z = record { needs = go; keeps = (enclosed_keep o (record { fits = x.keeps }) z).fits }
+in_parentheses {a} {b} {c} {rest} {f} o x z = record { needs = go; keeps = (enclosed_keep o (kept x) z).fits; lexical = (enclosed_keep o (kept x) z).lexical }
   where
     go : (d : ℕ) → Fits a d → Needs d (λ ps. Open ∷ f (Close ∷ ps))
     go zero h = absurd (o.fits zero h)
@@ -151,7 +159,7 @@ in_parentheses {a} {b} {c} {rest} {f} o x z = record { needs = go; keeps = (encl
 
 -- and without the parentheses
 pub within : {a b c rest : Tokens} {f : Pieces → Pieces} → Opens a b → Holds b f c → Closes c rest → Holds a f rest
-within {a} {b} {c} {rest} {f} o x z = record { needs = go; keeps = (enclosed_keep o (record { fits = x.keeps }) z).fits }
+within {a} {b} {c} {rest} {f} o x z = record { needs = go; keeps = (enclosed_keep o (kept x) z).fits; lexical = (enclosed_keep o (kept x) z).lexical }
   where
     go : (d : ℕ) → Fits a d → Needs d f
     go zero h = absurd (o.fits zero h)
@@ -160,4 +168,4 @@ within {a} {b} {c} {rest} {f} o x z = record { needs = go; keeps = (enclosed_kee
 pub called : {ts a b c rest : Tokens} {f : Pieces → Pieces} (name : List ℕ) → Keeps ts a → Opens a b → Holds b f c → Closes c rest → Holds ts (λ ps. Call name ∷ f (Close ∷ ps)) rest
 called {f = f} name w o x z =
     let inner : Holds _ (λ ps. Open ∷ f (Close ∷ ps)) _ = behind w (in_parentheses o x z) in
-    record { needs = λ d h. record { fits = (inner.needs d h).fits }; keeps = inner.keeps }
+    record { needs = λ d h. record { fits = (inner.needs d h).fits }; keeps = inner.keeps; lexical = inner.lexical }

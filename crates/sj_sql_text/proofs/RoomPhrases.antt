@@ -45,46 +45,46 @@ use Rattle.sj_sql_text.proofs.Room.{Fits, Keeps, stays, and_keeps, opens, closes
 -- ---- single tokens
 
 pub word_keeps : (v : Keyword) (ts : Tokens) → If (Keeps ts) (word v ts)
-word_keeps v ts = record { holds = λ rest e. said (λ x. Keeps x rest) v ts rest e (λ text. record { fits = λ d h. h }) }
+word_keeps v ts = record { holds = λ rest e. said (λ x. Keeps x rest) v ts rest e (λ text. record { fits = λ d h. h; lexical = λ x. x.1 }) }
 
 pub comma_keeps : (ts : Tokens) → If (Keeps ts) (comma_at ts)
-comma_keeps (k.Comma ∷ ts) = here (record { fits = λ d h. h })
+comma_keeps (k.Comma ∷ ts) = here (record { fits = λ d h. h; lexical = λ x. x.1 })
 comma_keeps _ = nothing
 
 pub colon_keeps : (ts : Tokens) → If (Keeps ts) (colon_at ts)
-colon_keeps (k.Colon ∷ ts) = here (record { fits = λ d h. h })
+colon_keeps (k.Colon ∷ ts) = here (record { fits = λ d h. h; lexical = λ x. x.1 })
 colon_keeps _ = nothing
 
 pub star_keeps : (ts : Tokens) → If (Keeps ts) (star_at ts)
-star_keeps (k.Star ∷ ts) = here (record { fits = λ d h. h })
+star_keeps (k.Star ∷ ts) = here (record { fits = λ d h. h; lexical = λ x. x.1 })
 star_keeps _ = nothing
 
 abbrev pub Over : {A : Type 0} → Tokens → A × Tokens → Type 0
 Over ts x = Keeps ts x.1
 
 pub string_keeps : (ts : Tokens) → If (Over ts) (string_at ts)
-string_keeps (k.String s ∷ ts) = here (record { fits = λ d h. h })
+string_keeps (k.String s ∷ ts) = here (record { fits = λ d h. h; lexical = λ x. x.1 })
 string_keeps _ = nothing
 
 count_keeps : (ts : Tokens) → If (Over ts) (count_at ts)
-count_keeps (k.Whole d ∷ ts) = here (record { fits = λ d h. h })
+count_keeps (k.Whole d ∷ ts) = here (record { fits = λ d h. h; lexical = λ x. x.1 })
 count_keeps _ = nothing
 
 number_keeps : (ts : Tokens) → If (Over ts) (number_at ts)
-number_keeps (k.Whole d ∷ ts) = here (record { fits = λ d h. h })
-number_keeps (k.Fraction d ∷ ts) = here (record { fits = λ d h. h })
+number_keeps (k.Whole d ∷ ts) = here (record { fits = λ d h. h; lexical = λ x. x.1 })
+number_keeps (k.Fraction d ∷ ts) = here (record { fits = λ d h. h; lexical = λ x. x.1 })
 number_keeps _ = nothing
 
 pub name_keeps : (ts : Tokens) → If (Over ts) (name_at ts)
-name_keeps (k.Quoted n ∷ ts) = here (record { fits = λ d h. h })
-name_keeps (k.Word v text ∷ ts) = chosen (is_reserved v) _ _ (λ _. nothing) (λ _. here (record { fits = λ d h. h }))
+name_keeps (k.Quoted n ∷ ts) = here (record { fits = λ d h. h; lexical = λ x. x.1 })
+name_keeps (k.Word v text ∷ ts) = chosen (is_reserved v) _ _ (λ _. nothing) (λ _. here (record { fits = λ d h. h; lexical = λ x. x.1 }))
 name_keeps _ = nothing
 
 quoted_keeps : (n : List ℕ) (ts : Tokens) → Keeps (k.Quoted n ∷ ts) ts
-quoted_keeps n ts = record { fits = λ d h. h }
+quoted_keeps n ts = record { fits = λ d h. h; lexical = λ x. x.1 }
 
 word_kept : (v : Keyword) (text : List ℕ) (ts : Tokens) → Keeps (k.Word v text ∷ ts) ts
-word_kept v text ts = record { fits = λ d h. h }
+word_kept v text ts = record { fits = λ d h. h; lexical = λ x. x.1 }
 
 pub doc_keeps : (ts : Tokens) → If (Keeps ts) (doc_at ts)
 doc_keeps (k.Quoted n ∷ ts) = chosen _ _ _ (λ _. here (quoted_keeps n ts)) (λ _. nothing)
@@ -95,7 +95,7 @@ pub meant_keeps : {A : Type 0} (f : Keyword → Option A) (ts : Tokens) → If (
 meant_keeps f (k.Word v text ∷ ts) = given (f v) _ (λ a h. here (word_kept v text ts))
 meant_keeps f _ = nothing
 
-skipped : (v : Keyword) (ts : Tokens) → Keeps ts (skip_word v ts)
+pub skipped : (v : Keyword) (ts : Tokens) → Keeps ts (skip_word v ts)
 skipped v ts = go (word v ts) (word_keeps v ts)
   where
     go : (o : Option Tokens) → If (Keeps ts) o → Keeps ts (if_some o (λ rest. rest) ts)
@@ -108,15 +108,15 @@ plain_literal_keeps : (ts : Tokens) → If (Over ts) (if_some (number_at ts) (λ
 plain_literal_keeps ts = either (number_at ts) _ _ (λ d h. here ((number_keeps ts).holds d h)) (λ _. meant_keeps constant_of ts)
 
 sign_kept : {ts rest : Tokens} → Keeps ts rest → Keeps (k.Plus ∷ ts) rest
-sign_kept x = record { fits = x.fits }
+sign_kept x = record { fits = x.fits; lexical = λ q. x.lexical q.1 }
 
 minus_kept : {ts rest : Tokens} → Keeps ts rest → Keeps (k.Minus ∷ ts) rest
-minus_kept x = record { fits = x.fits }
+minus_kept x = record { fits = x.fits; lexical = λ q. x.lexical q.1 }
 
 pub literal_keeps : (ts : Tokens) → If (Over ts) (literal_at ts)
 unfolding literal_at
 literal_keeps [] = nothing
-literal_keeps (k.String s ∷ ts) = here (record { fits = λ d h. h })
+literal_keeps (k.String s ∷ ts) = here (record { fits = λ d h. h; lexical = λ x. x.1 })
 literal_keeps (k.Plus ∷ ts) = then _ _ (number_keeps ts) (λ d e. here (sign_kept e))
 literal_keeps (k.Minus ∷ ts) = then _ _ (number_keeps ts) (λ d e. here (minus_kept e))
 literal_keeps (t ∷ ts) = plain_literal_keeps (t ∷ ts)

@@ -14,7 +14,7 @@ use Rattle.sj_sql_text.specs.Phrases as on
 use Rattle.sj_sql_text.specs.Plans.{is_name, leads_union, leads_cross, alone_or_enclosed, named_on, plan_on}
 use Rattle.sj_sql_text.specs.Tokens.{tokens_of}
 use Rattle.sj_sql_text.proofs.ReadPhrases.{IsDefault, default_read}
-use Rattle.sj_sql_text.proofs.Room.{Fits, Keeps, stays, and_keeps, opens, closes, enclosed_keep, Needs, needs_none, with_more, Holds, plain, joined, in_parentheses, within}
+use Rattle.sj_sql_text.proofs.Room.{Fits, Keeps, stays, and_keeps, opens, closes, enclosed_keep, Needs, needs_none, with_more, Holds, kept, plain, joined, in_parentheses, within}
 use Rattle.sj_sql_text.proofs.RoomPhrases.{word_keeps, name_keeps, default_keeps}
 
 apart : true ≡ false → ⊥
@@ -114,7 +114,7 @@ pub plan_holds : {ts rest : Tokens} {p : PlanTree} → IsPlan ts p rest → Hold
 plan_holds (g.named_plan {ts = ts} {a = a} {b = b} {c = c} {rest = rest} {p = p} h o d z few) =
     let x : Holds ts (plan_on (Named p)) rest =
     joined (plain (word_needs (codes "PLAN")) ((word_keeps w.Plan ts).holds a h)) (in_parentheses ((opens a).holds b o) (expr_holds d) ((closes c).holds rest z)) in
-    record { needs = λ d le fit. x.needs d fit; keeps = record { fits = x.keeps } }
+    record { needs = λ d le fit. x.needs d fit; keeps = kept x }
 plan_holds (g.default_plan {ts = ts} {a = a} {b = b} {c = c} {d = d} {rest = rest} {p = p} h e o q z) =
     default_holds p (default_read c d p q)
     (and_keeps ((word_keeps w.Plan ts).holds a h) (and_keeps ((word_keeps w.Default a).holds b e) (enclosed_keep ((opens b).holds c o) ((default_keeps c).holds (p, d) q) ((closes d).holds rest z))))

@@ -23,7 +23,7 @@ word_needs text = needs_none (λ d ps h. h)
 
 -- ---- values and items
 
-plain_item_holds : {ts rest : Tokens} {x : Value PathText} → IsPlainItem ts x rest → Holds ts (value_on (value_with finishing x)) rest
+pub plain_item_holds : {ts rest : Tokens} {x : Value PathText} → IsPlainItem ts x rest → Holds ts (value_on (value_with finishing x)) rest
 plain_item_holds (g.plain_item d o) = before (value_holds d) (over_keeps room.alias_keeps o)
 
 other_plain : {ts rest : Tokens} {xs : List (Value PathText)} → IsList IsPlainItem ts xs rest → (λ ps. Comma ∷ on.listed value_on (plain_with finishing xs) ps) ≡ on.each_behind value_on (plain_with finishing xs)
@@ -42,14 +42,14 @@ row_item_holds (g.object_agg {ts = ts} {a = a} {b = b} {e = e} {rest = rest} {n 
     called (codes "JSON_OBJECTAGG") ((word_keeps w.JsonObjectAgg ts).holds a h) ((opens a).holds b o)
     (joined (member_holds d) (joined (plain (room.nulls_need n) (optional_keeps room.nulls_keeps nulls)) (plain (room.unique_needs u) (optional_keeps room.unique_keeps unique)))) ((closes e).holds rest z)
 
-listed_item_holds : {ts rest : Tokens} {x : Item PathText} → IsListedItem ts x rest → Holds ts (item_on (item_with finishing x)) rest
+pub listed_item_holds : {ts rest : Tokens} {x : Item PathText} → IsListedItem ts x rest → Holds ts (item_on (item_with finishing x)) rest
 listed_item_holds (g.listed_item d o) = before (row_item_holds d) (over_keeps room.alias_keeps o)
 
 other_items : {ts rest : Tokens} {xs : List (Item PathText)} → IsList IsListedItem ts xs rest → (λ ps. Comma ∷ on.listed item_on (items_with finishing xs) ps) ≡ on.each_behind item_on (items_with finishing xs)
 other_items (g.last d) = refl
 other_items (g.more d c q) = refl
 
-items_hold : {ts rest : Tokens} {xs : List (Item PathText)} → IsList IsListedItem ts xs rest → Holds ts (on.listed item_on (items_with finishing xs)) rest
+pub items_hold : {ts rest : Tokens} {xs : List (Item PathText)} → IsList IsListedItem ts xs rest → Holds ts (on.listed item_on (items_with finishing xs)) rest
 items_hold (g.last d) = listed_item_holds d
 items_hold (g.more {a = a} {rest = rest} d c q) = joined (listed_item_holds d) (subst (λ (f : Pieces → Pieces). Holds a f rest) (other_items q) (behind_comma c (items_hold q)))
 

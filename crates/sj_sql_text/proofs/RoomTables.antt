@@ -55,7 +55,7 @@ values_need : (p : Path) (empty error : ValueDo) → Needs 0 (λ ps. column_path
 values_need p empty error = and_needs (column_path_needs p) (room.value_clauses_need empty error)
 
 mutual
-  column_holds : {ts rest : Tokens} {x : ColumnOf PathText} → IsColumn ts x rest → Holds ts (column_on (column_with finishing x)) rest
+  pub column_holds : {ts rest : Tokens} {x : ColumnOf PathText} → IsColumn ts x rest → Holds ts (column_on (column_with finishing x)) rest
   column_holds (g.ordinality {ts = ts} {a = a} {b = b} {rest = rest} {name = n} h f o) =
       plain (ordinality_needs n) (and_keeps ((name_keeps ts).holds (n, a) h) (and_keeps ((word_keeps w.For a).holds b f) ((word_keeps w.Ordinality b).holds rest o)))
   column_holds (g.regular {ts = ts} {a = a} {b = b} {name = n} {ty = ty} {path = path} {empty = empty} {error = error} h t p e r) =
@@ -71,7 +71,7 @@ mutual
       joined (plain (nested_needs (path_of path) name) (and_keeps ((word_keeps w.Nested ts).holds a h) (and_keeps ((room.nested_path_keeps a).holds (path, b) p) (optional_keeps room.path_name_keeps n))))
       (columns_hold d)
 
-  columns_hold : {ts rest : Tokens} {xs : Columns PathText} → IsColumns ts xs rest → Holds ts (columns_on (columns_with finishing xs)) rest
+  pub columns_hold : {ts rest : Tokens} {xs : Columns PathText} → IsColumns ts xs rest → Holds ts (columns_on (columns_with finishing xs)) rest
   columns_hold (g.columns {ts = ts} {a = a} {b = b} {c = c} {rest = rest} h o d z) =
       joined (plain (word_needs (codes "COLUMNS")) ((word_keeps w.Columns ts).holds a h)) (in_parentheses ((opens a).holds b o) (column_list_holds d) ((closes c).holds rest z))
 
@@ -91,7 +91,7 @@ planned_hold : {ts a rest : Tokens} {xs : Columns PathText} {p : PlanTree} → I
 planned_hold d q =
     let x = columns_hold d in
     let y = plan_holds q in
-    record { needs = λ n fit. and_needs (x.needs n fit) (y.needs n (columns_open d n fit) (x.keeps n fit)); keeps = λ n fit. y.keeps.fits n (x.keeps n fit) }
+    record { needs = λ n fit. and_needs (x.needs n fit) (y.needs n (columns_open d n fit) (x.keeps n fit)); keeps = λ n fit. y.keeps.fits n (x.keeps n fit); lexical = λ q. y.keeps.lexical (x.lexical q) }
 
 front_needs : (x : Encoding) (p : Path) (name : Option (List ℕ)) (variables : List Passed) → Needs 0 (λ ps. on.document_on x (Comma ∷ on.path_on p (on.path_name_on name (on.passing_on variables ps))))
 front_needs x p name variables =

@@ -52,7 +52,7 @@ pub variables_keep : {ts rest : Tokens} {xs : List Passed} → IsPassing ts xs r
 variables_keep (g.nothing {ts = ts}) = stays ts
 variables_keep (g.variables {ts = ts} {a = a} h d) = and_keeps ((word_keeps w.Passing ts).holds a h) (list_keeps d)
 
-common_holds : {ts rest : Tokens} {x : Common PathText} → IsCommon ts x rest → Holds ts (on.common_on (common_with finishing x)) rest
+pub common_holds : {ts rest : Tokens} {x : Common PathText} → IsCommon ts x rest → Holds ts (on.common_on (common_with finishing x)) rest
 common_holds (g.common {a = a} {b = b} {c = c} {x = x} {path = path} {variables = variables} d h s v) =
     plain (room.common_needs (common_with finishing (record { encoding = x; path = Written path; passing = variables }))) (and_keeps (document_keeps d) (and_keeps ((comma_keeps a).holds b h) (and_keeps ((string_keeps b).holds (path, c) s) (variables_keep v))))
 
@@ -61,7 +61,7 @@ exists_holds (g.exists_call {ts = ts} {a = a} {b = b} {d = d} {rest = rest} {e =
     called (codes "JSON_EXISTS") ((word_keeps w.JsonExists ts).holds a h) ((opens a).holds b o)
     (joined (common_holds c) (plain (room.exists_clause_needs action) (optional_keeps room.exists_clause_keeps e))) ((closes d).holds rest z)
 
-returned_holds : {ts rest : Tokens} {ty : TypeName} → IsOptional returning_at (Known sql.Varchar) ts ty rest → Holds ts (λ ps. on.word (codes "RETURNING") (on.type_on ty ps)) rest
+pub returned_holds : {ts rest : Tokens} {ty : TypeName} → IsOptional returning_at (Known sql.Varchar) ts ty rest → Holds ts (λ ps. on.word (codes "RETURNING") (on.type_on ty ps)) rest
 returned_holds {ts} {rest} {ty} (g.there h) = (room.returning_holds ts).holds (ty, rest) h
 returned_holds {ts} g.absent = plain (needs_none (λ d ps h. h)) (stays ts)
 
