@@ -6,7 +6,7 @@ use Rattle.sj_sql_grammar.specs.declared.refusal.FileKind.{FileKind}
 use Rattle.sj_sql_grammar.specs.Tree.{Statement}
 use Rattle.sj_sql_grammar.proofs.Scripts.{one_file}
 use Rattle.sj_sql_text.specs.Statements.{lines_text}
-use Rattle.sj_sql_text.proofs.CanonicalFiles.{file_read_back}
+use Rattle.sj_sql_text.proofs.AcceptedFiles.{file_back}
 use Rattle.sj_bound.specs.Bound.{Bound}
 use Rattle.sj_file.specs.Verdict.{answer, before_others, judged, Accepts, IsReadAs, IsCanonicalOf}
 
@@ -23,7 +23,7 @@ no_refusal k (s ∷ ss) refusal K e = go (answer s) (judged (k + 1) ss refusal) 
 
 pub canonical : (file : List ℕ) (K : List Bound) (a : Accepts file K) → IsCanonicalOf K (lines_text a.statements)
 canonical file K a =
-    let again : IsReadAs (lines_text a.statements) a.statements = file_read_back file a.statements a.refusal a.read in
+    let again : IsReadAs (lines_text a.statements) a.statements = file_back file a.statements a.refusal a.read in
     record {
       accepted = record { statements = a.statements; refusal = None; read = again; is = a.is ∙ ap (judged 1 a.statements) (no_refusal 1 a.statements a.refusal K a.is) };
       own = λ read r. ap lines_text (one_file (lexed (lines_text a.statements)) read a.statements None None r again).0;
