@@ -14,12 +14,13 @@ use Rattle.sj_file.specs.Verdict.{answer, before_others, judged, Accepts, IsRead
 no_refusal : (k : ℕ) (ss : List (Statement Path)) (refusal : Option (ℕ × FileKind)) (K : List Bound) → Ok K ≡ judged k ss refusal → refusal ≡ None
 no_refusal k [] None K e = refl
 no_refusal k [] (Some x) K e = absurd (cc e)
-no_refusal k (s ∷ ss) refusal K e = go (answer s) (judged (k + 1) ss refusal) refl e
+no_refusal k (s ∷ ss) refusal K e = go (answer s) (judged (k + 1) ss refusal) (λ xs is. no_refusal (k + 1) ss refusal xs (sym is)) refl e
   where
-    go : (a : Result Bound FileKind) (others : Result (List Bound) (ℕ × FileKind)) → judged (k + 1) ss refusal ≡ others → Ok K ≡ before_others k a others → refusal ≡ None
-    go (Err kind) others is e = absurd (cc e)
-    go (Ok x) (Err y) is e = absurd (cc e)
-    go (Ok x) (Ok xs) is e = no_refusal (k + 1) ss refusal xs (sym is)
+    go : (a : Result Bound FileKind) (others : Result (List Bound) (ℕ × FileKind)) → ((xs : List Bound) → judged (k + 1) ss refusal ≡ Ok xs → refusal ≡ None) → judged (k + 1) ss refusal ≡ others
+        → Ok K ≡ before_others k a others → refusal ≡ None
+    go (Err kind) others behind is e = absurd (cc e)
+    go (Ok x) (Err y) behind is e = absurd (cc e)
+    go (Ok x) (Ok xs) behind is e = behind xs is
 
 pub canonical : (file : List ℕ) (K : List Bound) (a : Accepts file K) → IsCanonicalOf K (lines_text a.statements)
 canonical file K a =

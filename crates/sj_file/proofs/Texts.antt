@@ -1,5 +1,5 @@
 -- Taking the statements of a file one after the other, with their canonical text.
-use Rattle.std.proofs.Common.{◌≡◌, ℕ, suc, ◌+◌, List, [], ◌∷◌, ◌++◌, length, Bor, Option, None, Result, Ok, Err, codes, refl, sym, ◌∙◌, ap, subst, arith, add-one, append_assoc, length-append}
+use Rattle.std.proofs.Common.{◌≡◌, ℕ, suc, ◌+◌, List, [], ◌∷◌, ◌++◌, length, Bor, None, Result, Ok, Err, codes, refl, sym, ◌∙◌, ap, subst, arith, add-one, append_assoc, length-append}
 use Rattle.std.proofs.lemmas.List.{append-nil}
 use Rattle.sj_path_tree.specs.Tree.{Path}
 use Rattle.sj_bound.specs.Bound.{Bound}
@@ -12,7 +12,6 @@ use Rattle.sj_sql_grammar.specs.Answers.{closed}
 use Rattle.sj_sql_grammar.proofs.Scripts.{one_file}
 use Rattle.sj_sql.specs.File.{EndsBy, IsFirst, IsLeft}
 use Rattle.sj_sql.proofs.Files.{first_read, none_read}
-use Rattle.sj_bind.specs.Meaning.{bound}
 use Rattle.sj_sql_text.specs.Statements.{statement_text, lines_text}
 use Rattle.sj_file.specs.File.{ShelfSide, Holds}
 use Rattle.sj_file.specs.Accepted.{AcceptedWithText}
@@ -21,7 +20,7 @@ use Rattle.sj_file.specs.declared.job.FileRefusal.{FileRefusal}
 use Rattle.sj_file.specs.declared.verdict.NextBound.{NextBound}
 use Rattle.sj_file.specs.declared.verdict.NextBound.TheVariants as next
 use Rattle.sj_file.specs.Refusals.{AcceptsWithText, IsRefused, IsVerdictFrom, IsFirstBound, IsNextBound, IsNextWithText}
-use Rattle.sj_file.proofs.Verdicts.{with_front, front_none, front_more, IsTakenTo, one_refused, bound_first}
+use Rattle.sj_file.proofs.Verdicts.{with_front, front_none, front_more, IsTakenTo, one_refused}
 
 -- These statements were taken from the front of the file and bound so, and this is left.
 pub record IsReadTo (file : List ℕ) (trees : List (Statement Path)) (taken : List Bound) (rest : List ℕ) : Type 0 where
@@ -125,7 +124,7 @@ read_as file K a trees read = (one_file (lexed file) trees a.statements None a.r
 -- a statement that is bound so, with its text
 pub with_text_so : (rest behind old new : List ℕ) (s : Statement Path) (x : Bound) → IsFirst rest s behind → answer s ≡ Ok x → new ≡ old ++ (statement_text s ++ codes "\n")
     → (f : IsFirstBound rest x behind) × (new ≡ old ++ (statement_text f.statement ++ codes "\n"))
-with_text_so rest behind old new s x h taken grown = (bound_first rest behind s x h taken, grown)
+with_text_so rest behind old new s x h taken grown = (record { statement = s; is_first = h; taken = taken }, grown)
 
 -- the text of a file that was read whole
 pub accepted_text_so : (name : List ℕ) (s s' : ShelfSide) (file text : List ℕ) → Holds name s s' file → AcceptsWithText file text → AcceptedWithText name s s' text

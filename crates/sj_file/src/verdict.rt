@@ -53,8 +53,10 @@ fn next_bound<'a>(alloc: Global, rest: &'a [u8], number: u32) -> Result<NextBoun
 {
     match next_statement(alloc, rest) {
         Ok(NextStatement::Statement(statement, behind)) => {
-            let bound = bound_as(alloc, statement, number)?;
-            Ok(NextBound::Statement(bound, behind))
+            match bound_as(alloc, statement, number) {
+                Ok(bound) => Ok(NextBound::Statement(bound, behind)),
+                Err(refusal) => Err(refusal),
+            }
         }
         Ok(NextStatement::End) => Ok(NextBound::End),
         Err(refused) => Err(refusal_of(number, refused)),
@@ -112,8 +114,10 @@ fn next_with_text<'a>(
                 Ok(()) => {}
                 Err(Memory) => return Err(FileRefusal::Memory),
             }
-            let bound = bound_as(alloc, statement, number)?;
-            Ok(NextBound::Statement(bound, behind))
+            match bound_as(alloc, statement, number) {
+                Ok(bound) => Ok(NextBound::Statement(bound, behind)),
+                Err(refusal) => Err(refusal),
+            }
         }
         Ok(NextStatement::End) => Ok(NextBound::End),
         Err(refused) => Err(refusal_of(number, refused)),
