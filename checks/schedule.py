@@ -14,7 +14,7 @@ MINUTES = {  # of processor time: three quarters of what each took where six to 
     "sj_cursor": 12.4, "sj_bind": 8.5, "sj_sql": 7.4, "sj_path": 6.0, "sj_select_list": 5.6, "sj_sql_phrase": 4.7, "sj_select": 4.6, "sj_table": 4.0, "sj_run": 3.3,
     "sj_func": 3.1, "sj_read": 2.8, "sj_plain_path": 2.2, "sj_doc": 2.1, "sj_build": 1.9, "sj_decimal": 1.8, "sj_walk": 1.8, "sj_text": 1.8, "sj_rows": 1.8, "sj_path_token": 1.6,
     "sj_path_text": 1.5, "sj_sql_token": 1.5, "sj_sql_grammar": 1.5, "sj_item": 1.5, "sqljson": 1.4, "sj_value": 1.1, "sj_sql_tree": 1.0, "sj_bound": 0.8, "sj_method": 0.8, "sj_base": 0.8,
-    "sj_path_grammar": 0.6, "sj_page": 0.5, "sj_fault_free": 0.5, "sj_generated": 0.4, "sj_stream": 0.4, "sj_step": 0.4, "sj_json": 0.3,
+    "sj_path_grammar": 0.6, "sj_page": 0.5, "sj_fault_free": 0.5, "sj_generated": 0.4, "sj_stream": 0.4, "sj_batch": 0.4, "sj_step": 0.4, "sj_json": 0.3,
 }
 MINUTES_OF_OTHERS = 1.4
 NEARLY = 2  # minutes: a chain that is shorter by less is as long as the longest

@@ -4,9 +4,9 @@ ghost use Rattle.sj_bound.specs.View.{bound_of};
 ghost use Rattle.sj_file.specs.Job.{AreSound};
 ghost use Rattle.sj_run.specs.Batch.{bounds_in};
 
-use crate::batch::{Batch, LINES_TOGETHER, Lengths, ReadLine};
 use crate::rows::rows_of;
 use sj_base::{Memory, push};
+use sj_batch::{Batch, LINES_TOGETHER, Lengths, ReadLine};
 use sj_bound::Bound;
 use sj_select::RowsOf;
 use std::alloc::Global;

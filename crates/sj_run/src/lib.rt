@@ -7,7 +7,6 @@
 //! run has written when it ends, for every cut of the input, why it ended, and how many steps it took.
 #![tactic(auto)]
 
-mod batch;
 mod check;
 mod command;
 mod generate;

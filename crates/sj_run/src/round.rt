@@ -10,9 +10,9 @@ ghost use Rattle.sj_run.specs.Batch.{bounds_in};
 ghost use Rattle.sj_run.specs.Output.{line_job};
 ghost use Rattle.sj_run.specs.Round.{Does};
 
-use crate::batch::{Batch, Batches, Behind};
 use crate::kept::KeptRows;
 use crate::rows::print_batch;
+use sj_batch::{Batch, Batches, Behind};
 use sj_file::Job;
 use sj_outside::Sink;
 use sj_page::Stop;

@@ -9,9 +9,9 @@ ghost use Rattle.sj_stream.specs.Out.{state_at, SameLoans};
 ghost use Rattle.sj_run.specs.Output.{rows_given, rows_print, prints, cost_given, cost, asked_from};
 ghost use Rattle.sj_run.specs.Batch.{line_read, batch_asked, bounds_in};
 
-use crate::batch::{Batch, ReadLine, Reading};
 use crate::kept::KeptRows;
 use sj_base::{Memory, Steps, push};
+use sj_batch::{Batch, ReadLine, Reading};
 use sj_bound::Bound;
 use sj_file::Job;
 use sj_outside::Sink;

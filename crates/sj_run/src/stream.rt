@@ -9,10 +9,10 @@ ghost use Rattle.sj_stream.specs.Stream.{Streamed};
 ghost use Rattle.sj_run.specs.Output.{line_job};
 ghost use Rattle.sj_run.specs.Ran.{out_at};
 
-use crate::batch::{Batches, ReadLine};
 use crate::kept::{KeptRows, new_places};
 use crate::round::Round;
 use sj_base::{Memory, Steps};
+use sj_batch::{Batches, ReadLine};
 use sj_file::{Job, MAX_PIECE, Status};
 use sj_outside::{Sink, Source};
 use sj_page::Page;

@@ -2,9 +2,10 @@ use Rattle.std.proofs.Common.{◌∙◌, refl, subst, arith}
 use Rattle.sj_page.proofs.Printing.{printing_starts, printing_more, printing_done, printing_stops, printing_memory}
 use Rattle.sj_file.specs.Job.{job_of}
 use Rattle.sj_stream.proofs.Loans.{loans_stay, loans_on}
-use Rattle.sj_run.specs.declared.batch.Behind.{Behind}
-use Rattle.sj_run.specs.Batch.{ReadOn}
-use Rattle.sj_run.proofs.Batches.{waiting_prints, waiting_cost, none_waits, drained_more}
+use Rattle.sj_batch.specs.declared.batch.Behind.{Behind}
+use Rattle.sj_batch.specs.Batch.{ReadOn}
+use Rattle.sj_batch.proofs.WaitingLines.{drained_more}
+use Rattle.sj_run.proofs.Batches.{waiting_prints, waiting_cost, none_waits}
 use Rattle.sj_run.proofs.Turns.{cost_step, cost_stop}
 use Rattle.sj_run.proofs.round.read_and_print.Goals as goal
 

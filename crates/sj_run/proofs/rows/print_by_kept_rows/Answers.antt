@@ -2,7 +2,7 @@ use Rattle.std.proofs.Common.{◌≡◌, ◌≤◌, ◌∙◌, ℕ, ap, subst, a
 use Rattle.sj_base.specs.Count.{raised}
 use Rattle.sj_bound.specs.Bound.{Bound}
 use Rattle.sj_page.proofs.Printing.{prints_same}
-use Rattle.sj_run.specs.declared.batch.ReadLine.{ReadLine}
+use Rattle.sj_batch.specs.declared.batch.ReadLine.{ReadLine}
 use Rattle.sj_run.specs.Batch.{batch_asked, bounds_in}
 use Rattle.sj_run.specs.Output.{prints, cost}
 use Rattle.sj_run.proofs.Batches.{rows_kept}

@@ -1,5 +1,5 @@
 use Rattle.std.proofs.Common.{length}
-use Rattle.sj_run.proofs.batch.Batch.clear.Given as goal
+use Rattle.sj_batch.proofs.batch.Batch.clear.Given as goal
 
 abbrev pub invariant-loop-line : goal.invariant-loop-line
 invariant-loop-line l = Unit {0}

@@ -2,8 +2,8 @@ use Rattle.std.proofs.Common.{sym, ap, subst}
 use Rattle.sj_json.proofs.Documents.{document_gives, document_refused}
 use Rattle.sj_read.specs.LinesRead.{IsReadAs}
 use Rattle.sj_read.specs.declared.line.LineRead.TheVariants.{Json, NotJson}
-use Rattle.sj_run.specs.Batch.{reading}
-use Rattle.sj_run.proofs.batch.reading_of.Goals as goal
+use Rattle.sj_batch.specs.Batch.{reading}
+use Rattle.sj_batch.proofs.batch.reading_of.Goals as goal
 
 pub returns-in-Ok-Json : goal.returns-in-Ok-Json
 returns-in-Ok-Json c =

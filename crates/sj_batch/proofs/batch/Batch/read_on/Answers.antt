@@ -1,6 +1,6 @@
 use Rattle.std.proofs.Common.{◌<◌, arith, length}
-use Rattle.sj_run.proofs.Batches.{read_some}
-use Rattle.sj_run.proofs.batch.Batch.read_on.Goals as goal
+use Rattle.sj_batch.proofs.WaitingLines.{read_some}
+use Rattle.sj_batch.proofs.batch.Batch.read_on.Goals as goal
 
 pub returns : goal.returns
 returns c =

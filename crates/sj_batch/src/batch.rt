@@ -2,7 +2,7 @@
 ghost use Rattle.std.specs.Prelude.{◌≡◌, ◌+◌, ◌++◌, ◌∷◌, [], false, Some, OnOk, IfOk};
 ghost use Rattle.sj_rows.specs.Line.{line_seen};
 ghost use Rattle.sj_json.specs.Document.{document};
-ghost use Rattle.sj_run.specs.Batch.{reading, read_line, ReadOn};
+ghost use Rattle.sj_batch.specs.Batch.{reading, read_line, ReadOn};
 
 use sj_base::{Memory, push};
 use sj_doc::{Doc, DocBuilder};
@@ -13,21 +13,21 @@ use std::alloc::Global;
 
 /// How many lines are read before their rows are made: the cursors of the statements, which are made for the documents
 /// that are there, serve all of them.
-pub(crate) const LINES_TOGETHER: usize = 64;
+pub const LINES_TOGETHER: usize = 64;
 
 /// How many bytes a small piece of the input has at most, and a short line.
 const SMALL: usize = 2048;
 
 /// A line that is not blank, with its number.
 #[derive(Drop)]
-pub(crate) struct ReadLine {
-    pub(crate) number: u64,
-    pub(crate) reading: Reading,
+pub struct ReadLine {
+    pub number: u64,
+    pub reading: Reading,
 }
 
 impl ReadLine {
     /// No line, in a place for one.
-    pub(crate) fn none() -> ReadLine {
+    pub fn none() -> ReadLine {
         ReadLine {
             number: 0,
             reading: Reading::NotJson,
@@ -37,7 +37,7 @@ impl ReadLine {
 
 /// What a line was read as.
 #[derive(Drop)]
-pub(crate) enum Reading {
+pub enum Reading {
     NotJson,
     /// Some object has two equal keys, and keys are to be unique.
     Repeated(Doc),
@@ -56,14 +56,14 @@ impl Reading {
 
 /// Whether lines may wait behind those that were read.
 #[derive(Clone, Copy)]
-pub(crate) enum Behind {
+pub enum Behind {
     Nothing,
     Perhaps,
 }
 
 /// How long the lines of a batch are.
 #[derive(Clone, Copy)]
-pub(crate) enum Lengths {
+pub enum Lengths {
     /// All that were read are short, so their documents and all spare memory are small.
     Short,
     /// Some may be long.
@@ -72,9 +72,9 @@ pub(crate) enum Lengths {
 
 /// The lines that were read last, and the memory of earlier ones, which the next ones take.
 #[derive(Drop)]
-pub(crate) struct Batch {
-    pub(crate) lines: Vec<ReadLine>,
-    pub(crate) lengths: Lengths,
+pub struct Batch {
+    pub lines: Vec<ReadLine>,
+    pub lengths: Lengths,
     spare: Vec<DocBuilder>,
     // for the texts of strings with escapes
     buffer: Vec<u8>,
@@ -95,15 +95,15 @@ impl Batch {
 
     /// The lines that were read last. The caller may exchange them: the next ones are read in place of whatever stands
     /// there.
-    pub(crate) fn lines_mut(&mut self) -> &mut [ReadLine]
+    pub fn lines_mut(&mut self) -> &mut [ReadLine]
         ensures { result.now ≡ self.old.lines.items }
     {
         self.lines.as_mut_slice()
     }
 
-    #[tactic(auto, using(crate::proofs::Batches::read_none, crate::proofs::Batches::read_next, crate::proofs::Batches::read_all, crate::proofs::Batches::read_some))]
+    #[tactic(auto, using(crate::proofs::WaitingLines::read_none, crate::proofs::WaitingLines::read_next, crate::proofs::WaitingLines::read_all, crate::proofs::WaitingLines::read_some))]
     /// Reads the next of the lines that wait, in place of those that were read before.
-    pub(crate) fn read_on(
+    pub fn read_on(
         &mut self,
         alloc: Global,
         keys: Keys,
@@ -164,14 +164,14 @@ impl Batch {
 
 /// The lines of small pieces of the input, and those of others. The memory of small pieces stays small.
 #[derive(Drop)]
-pub(crate) struct Batches {
+pub struct Batches {
     small: Batch,
     large: Batch,
 }
 
 impl Batches {
     /// None. They take no memory.
-    pub(crate) fn new(alloc: Global) -> Batches {
+    pub fn new(alloc: Global) -> Batches {
         Batches {
             small: Batch::new(alloc, Lengths::Short),
             large: Batch::new(alloc, Lengths::Any),
@@ -180,7 +180,7 @@ impl Batches {
 
     /// The batch for the lines that end in a piece of so many bytes. Where a small piece had the end of a long line, the memory is
     /// given back before the next one.
-    pub(crate) fn of_piece(&mut self, alloc: Global, length: usize) -> &mut Batch {
+    pub fn of_piece(&mut self, alloc: Global, length: usize) -> &mut Batch {
         if length > SMALL {
             return &mut self.large;
         }
@@ -216,7 +216,7 @@ fn reading_of(
 }
 
 /// A document as a line whose keys are to be unique or not.
-#[tactic(auto, using(crate::proofs::Batches::judged_unique, crate::proofs::Batches::judged_repeated))]
+#[tactic(auto, using(crate::proofs::WaitingLines::judged_unique, crate::proofs::WaitingLines::judged_repeated))]
 fn judged(alloc: Global, keys: Keys, doc: Doc) -> Result<Reading, Memory>
     ensures { IfOk result (λ r. r ≡ reading keys (Some doc)) }
 {

@@ -1,6 +1,6 @@
 use Rattle.std.proofs.Common.{length}
-use Rattle.sj_run.specs.Batch.{ReadFront}
-use Rattle.sj_run.proofs.batch.Batch.read_on.Given as goal
+use Rattle.sj_batch.specs.Batch.{ReadFront}
+use Rattle.sj_batch.proofs.batch.Batch.read_on.Given as goal
 
 -- the lines that were read so far
 abbrev pub invariant-loop-alloc : goal.invariant-loop-alloc

@@ -1,0 +1,2 @@
+-- for `Batch::read_on` and `judged`, and for those who take the lines
+pub mod WaitingLines
