@@ -2,7 +2,7 @@
 ghost use Rattle.std.specs.Prelude.{◌≡◌, ◌<◌, ◌++◌, ◌∷◌, [], List, ℕ, All, length, slice_index_or, OnOk, OnErr};
 ghost use Rattle.indexmap.specs.IndexMap.{values};
 ghost use Rattle.sj_text.specs.Prefixes.{AppendsPrefix};
-ghost use Rattle.sj_group.specs.Grouping.{Row, IsRow, grouped};
+ghost use Rattle.sj_group.specs.Grouping.{Row, IsRow, key_of, grouped};
 ghost use Rattle.sj_group.specs.Held.{held_groups, shown, IsHeld, StandsForRows};
 
 use crate::aggregate::Aggregate;
@@ -22,8 +22,10 @@ use std::marker::Model;
 pub struct Groups {
     alloc: Global,
     aggregate: Aggregate,
-    // each group by the field of its rows' first value
+    // each group by its key, the field of its rows' first value
     groups: IndexMap<Vec<u8>, Group>,
+    // the key of the row that comes; its room is kept from one row to the next
+    key: Bytes,
 }
 
 impl Drop for Groups {
@@ -32,6 +34,7 @@ impl Drop for Groups {
             alloc: _alloc,
             aggregate: _aggregate,
             groups: _groups,
+            key: _key,
         } = self;
     }
 }
@@ -58,6 +61,7 @@ impl Groups {
             alloc,
             aggregate,
             groups: IndexMap::new(alloc),
+            key: Bytes::new(alloc),
         }
     }
 
@@ -71,7 +75,15 @@ impl Groups {
         ensures aggregate { self.new.aggregate ≡ self.old.aggregate }
         ensures err { OnErr result (self.new ≡ self.old) }
     {
-        add_row(self.alloc, self.aggregate, &mut self.groups, row)
+        self.key.truncate(0);
+        field_text(&mut self.key, &row[0])?;
+        add_row(
+            self.alloc,
+            self.aggregate,
+            &mut self.groups,
+            self.key.as_slice(),
+            row,
+        )
     }
 
     /// How many groups there are.
@@ -97,26 +109,27 @@ impl Groups {
     }
 }
 
-// Adds a row to its group, which begins with it where its key is new.
+// Adds a row with this key to its group, which begins with it where the key is new. A new group is whole before it is put
+// behind the others, so that no refusal leaves a part of it.
 fn add_row(
     alloc: Global,
     aggregate: Aggregate,
     groups: &mut IndexMap<Vec<u8>, Group>,
+    key: &[u8],
     row: &[SqlValue],
 ) -> Result<(), Memory>
+    requires key { key.now ≡ key_of row.now }
     requires row { IsRow aggregate row.now }
     requires held { All (IsHeld aggregate) (values groups.old) }
     ensures held { All (IsHeld aggregate) (values groups.new) }
     ensures stands { (rows : List Row) → StandsForRows rows (held_groups aggregate (shown groups.old)) → OnOk result (StandsForRows (rows ++ row.now ∷ []) (held_groups aggregate (shown groups.new))) }
     ensures err { OnErr result (shown groups.new ≡ shown groups.old) }
 {
-    let mut key = Bytes::new(alloc);
-    field_text(&mut key, &row[0])?;
-    match groups.get_mut(key.as_slice()) {
+    match groups.get_mut(key) {
         Some(group) => group.add(row),
         None => {
             let group = Group::first(alloc, aggregate, row)?;
-            groups.insert(key.into_vec(), group)?;
+            groups.insert(Vec::from_slice(alloc, key)?, group)?;
             Ok(())
         }
     }
