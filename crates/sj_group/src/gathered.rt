@@ -5,7 +5,6 @@ ghost use Rattle.sj_group.specs.Grouping.{Row, IsRow, aggregate_text};
 ghost use Rattle.sj_group.specs.Held.{aggregate_of, Gathers};
 
 use crate::aggregate::Aggregate;
-use crate::stand_in::{array_so_far, object_so_far};
 use sj_base::Memory;
 use sj_build::{ArrayAgg, BuildRefusal, ObjectAgg};
 use sj_value::{Nulls, SqlValue};
@@ -61,8 +60,8 @@ impl Gathered {
         ensures { (rows : List Row) → Gathers rows self.now → result.now ≡ so_far (aggregate_text (aggregate_of self.now)) rows }
     {
         match self {
-            Gathered::Array(array) => array_so_far(array),
-            Gathered::Object(object) => object_so_far(object),
+            Gathered::Array(array) => array.text(),
+            Gathered::Object(object) => object.text(),
         }
     }
 }
