@@ -5,25 +5,19 @@ use Rattle.sj_base.specs.declared.state.State.{State}
 use Rattle.sj_value.specs.declared.clauses.Nulls.TheVariants as nulls
 use Rattle.sj_value.specs.declared.value.SqlValue.{SqlValue}
 use Rattle.sj_value.specs.declared.value.SqlValue.TheVariants.{Null, Text, Json}
-use Rattle.sj_rows.specs.RowText.{field}
 use Rattle.sj_build.specs.declared.field.Field.{Field}
 use Rattle.sj_build.specs.Constructors.{text_of, key_kept, key_refusal, refusal, first_of, first_refusal, unless_refused, object_value, object_text}
 use Rattle.sj_build.specs.SoFar.{ObjectSoFar, StandsForFields}
 use Rattle.sj_build.proofs.Taken.{next_decides}
 use Rattle.sj_group.specs.declared.aggregate.Aggregate.{Aggregate}
-use Rattle.sj_group.specs.declared.aggregate.Aggregate.TheVariants.{Array, Object}
 use Rattle.sj_group.specs.declared.gathered.Gathered.{Gathered}
 use Rattle.sj_group.specs.declared.group.Group.{Group}
-use Rattle.sj_group.specs.Grouping.{Row, value_at, key_of, columns_of}
+use Rattle.sj_group.specs.Grouping.{Row, value_at, columns_of}
 use Rattle.sj_group.specs.Held.{Gathers, IsGroupOf}
 
--- the first values of a row
+-- a value of a row, by its place
 pub value_is : (aggregate : Aggregate) (row : Row) (place : ℕ) (value : SqlValue) → length row ≡ columns_of aggregate → place < columns_of aggregate → value ≡ get_or row place value → value ≡ value_at place row
 value_is aggregate row place value columns within is = is ∙ get_or_default row place value Null (omega (arith, columns, within))
-
-pub key_is : (aggregate : Aggregate) (row : Row) (value : SqlValue) → length row ≡ columns_of aggregate → value ≡ get_or row 0 value → field value ≡ key_of row
-key_is Array row value columns is = ap field (value_is Array row 0 value columns (omega arith) is)
-key_is Object row value columns is = ap field (value_is Object row 0 value columns (omega arith) is)
 
 -- a number that stops at the greatest, and one more
 stops : (n top : ℕ) → min (min n top + 1) top ≡ min (n + 1) top

@@ -10,7 +10,7 @@ use crate::group::Group;
 use crate::text::entry_text;
 use indexmap::IndexMap;
 use sj_base::{Bytes, Memory};
-use crate::stand_in::field_text;
+use sj_rows::field_text;
 use sj_value::SqlValue;
 use std::alloc::Global;
 use std::marker::Model;

@@ -15,7 +15,6 @@ mod aggregate;
 mod gathered;
 mod group;
 mod groups;
-mod stand_in;
 mod text;
 
 pub use aggregate::Aggregate;

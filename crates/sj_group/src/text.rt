@@ -5,7 +5,7 @@ ghost use Rattle.sj_group.specs.Grouping as spec;
 
 use itoa::Buffer;
 use sj_base::{Bytes, Memory};
-use crate::stand_in::escaped_text;
+use sj_rows::escaped_text;
 
 // Appends `G`, the key, the number of rows and the text that was gathered of them, with TABs between them, and LF. The key
 // is a field already.
