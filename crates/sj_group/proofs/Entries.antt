@@ -1,5 +1,5 @@
 -- The entries of the groups, as one row more comes.
-use Rattle.std.proofs.Common.{◌≡◌, ℕ, Bool, true, false, cond, ◌||◌, List, [], ◌∷◌, ◌++◌, map, Option, Some, None, Result, Ok, Err, OnOk, OnErr, is_some, unwrap_or, refl, sym, ap, subst, ◌∙◌, All}
+use Rattle.std.proofs.Common.{◌≡◌, ℕ, Bool, true, false, cond, ◌||◌, List, [], ◌∷◌, ◌++◌, map, Some, None, Result, Ok, Err, OnOk, OnErr, is_some, unwrap_or, refl, sym, ap, subst, ◌∙◌, All}
 use Rattle.std.proofs.lemmas.List.{map-append}
 use Rattle.std.proofs.lemmas.List.Elements.{All-from_recursion, recursion_from_All, All-map, All-push}
 use Rattle.std.proofs.lemmas.Map.{NonePasses, none_passes_from_lookup}

@@ -1,10 +1,10 @@
 -- A group and its rows, as one row more comes.
-use Rattle.std.proofs.Common.{◌≡◌, ℕ, ◌+◌, ◌-◌, ◌≤◌, ◌<◌, ◌^◌, min, inl, inr, List, [], ◌∷◌, ◌++◌, length, map, Bool, true, false, Option, Some, None, Ok, Err, refl, sym, ap, subst, ◌∙◌, arith, get_or}
-use Rattle.std.proofs.lemmas.List.{get_or_default, length-append, map-append}
+use Rattle.std.proofs.Common.{◌≡◌, ℕ, ◌+◌, ◌-◌, ◌<◌, ◌^◌, min, List, [], ◌∷◌, ◌++◌, length, true, false, Some, None, Ok, Err, refl, sym, ap, ◌∙◌, arith, get_or}
+use Rattle.std.proofs.lemmas.List.{get_or_default, length-append}
 use Rattle.sj_base.specs.declared.state.State.{State}
 use Rattle.sj_value.specs.declared.clauses.Nulls.TheVariants as nulls
 use Rattle.sj_value.specs.declared.value.SqlValue.{SqlValue}
-use Rattle.sj_value.specs.declared.value.SqlValue.TheVariants.{Null, Text, Json}
+use Rattle.sj_value.specs.declared.value.SqlValue.TheVariants.{Null, Json}
 use Rattle.sj_build.specs.declared.field.Field.{Field}
 use Rattle.sj_build.specs.Constructors.{text_of, key_kept, key_refusal, refusal, first_of, first_refusal, unless_refused, object_value, object_text}
 use Rattle.sj_build.specs.SoFar.{ObjectSoFar, StandsForFields}

@@ -1,5 +1,5 @@
 -- ROWS GATHERED BY THE FIELD OF THEIR FIRST VALUE, of a whole list of rows.
-use Rattle.std.specs.Prelude.{◌≡◌, ◌<◌, ◌^◌, ◌-◌, ℕ, min, List, [], ◌∷◌, ◌++◌, map, filter, length, slice_index_or, All, Bool, true, not, codes, decimal}
+use Rattle.std.specs.Prelude.{◌≡◌, ◌^◌, ◌-◌, ℕ, min, List, [], ◌∷◌, ◌++◌, map, filter, length, slice_index_or, All, Bool, true, not, codes, decimal}
 use Rattle.std.specs.Str.{bytes_eq}
 use Rattle.sj_value.specs.Values.{IsPrintable}
 use Rattle.sj_value.specs.declared.clauses.Nulls.TheVariants as nulls

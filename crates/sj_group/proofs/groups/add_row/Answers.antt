@@ -1,4 +1,4 @@
-use Rattle.std.proofs.Common.{◌≡◌, List, ℕ, ◌∷◌, [], ◌++◌, IfSome, Some, None, All, sym, ap, subst, ◌∙◌}
+use Rattle.std.proofs.Common.{◌≡◌, ◌∷◌, [], IfSome, Some, All, sym, ap, subst, ◌∙◌}
 use Rattle.std.proofs.lemmas.List.Elements.{All-push}
 use Rattle.std.proofs.lemmas.List.{map-append}
 use Rattle.std.proofs.lemmas.Map.Steps.{set_value_same}
@@ -7,8 +7,8 @@ use Rattle.std.proofs.lemmas.Result.{on_ok_weaker, on_err_weaker}
 use Rattle.std.specs.Map.{lookup, set_value, values_of}
 use Rattle.std.specs.Str.{bytes_eq}
 use Rattle.indexmap.specs.IndexMap.{insert_entry}
-use Rattle.sj_group.specs.Grouping.{key_of, rows_of}
-use Rattle.sj_group.specs.Held.{IsHeld, IsGroupOf, shown_entries}
+use Rattle.sj_group.specs.Grouping.{rows_of}
+use Rattle.sj_group.specs.Held.{IsHeld, shown_entries}
 use Rattle.sj_group.proofs.Entries.{has_key, each_held, its_group, came_again, came_first, held_on, put_last}
 use Rattle.sj_group.proofs.groups.add_row.Goals as goal
 

@@ -1,11 +1,9 @@
-use Rattle.std.proofs.Common.{◌≡◌, map, ◌++◌, ◌∷◌, [], Some, Err, sym, ap, ◌∙◌, subst, arith}
-use Rattle.sj_value.specs.declared.value.SqlValue.TheVariants.{Text}
+use Rattle.std.proofs.Common.{◌≡◌, map, ◌++◌, ◌∷◌, [], Some, ap, ◌∙◌, subst, arith}
 use Rattle.sj_build.specs.declared.field.Field.{Field}
 use Rattle.sj_build.specs.Constructors.{text_of, object_value}
 use Rattle.sj_build.specs.Answers.{RefusesAs}
 use Rattle.sj_group.specs.declared.aggregate.Aggregate.TheVariants as aggregates
-use Rattle.sj_group.specs.declared.gathered.Gathered.TheVariants.{Object}
-use Rattle.sj_group.specs.Grouping.{IsRow, IsText, member_of}
+use Rattle.sj_group.specs.Grouping.{IsRow, member_of}
 use Rattle.sj_group.specs.Held.{aggregate_of, Gathers}
 use Rattle.sj_group.proofs.Growth.{value_is, not_refused}
 use Rattle.sj_group.proofs.gathered.Gathered.add.Goals as goal
