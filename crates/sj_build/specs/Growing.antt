@@ -1,5 +1,5 @@
 -- Texts that grow by one element after another.
-use Rattle.std.specs.Prelude.{◌≡◌, ℕ, List, [], ◌∷◌, ◌++◌, codes}
+use Rattle.std.specs.Prelude.{◌≡◌, ℕ, List, [], ◌∷◌, ◌++◌}
 use Rattle.sj_text.specs.declared.place.Place.{Place}
 use Rattle.sj_text.specs.declared.place.Place.TheVariants.{First, Later}
 

@@ -35,8 +35,8 @@ impl Model for ArrayAgg {
 }
 
 impl ArrayAgg {
-    ghost use Rattle.sj_build.specs.Constructors.{array_aggregate};
-    ghost use Rattle.sj_build.specs.SoFar.{StandsForValues};
+    ghost use Rattle.sj_build.specs.Constructors.{array_text, array_aggregate};
+    ghost use Rattle.sj_build.specs.SoFar.{so_far, StandsForValues};
 
     /// Nothing was added. It takes no memory; `alloc` serves the calls that add.
     pub fn new(alloc: Global, nulls: Nulls) -> ArrayAgg
@@ -70,6 +70,13 @@ impl ArrayAgg {
         take_bracket(&mut self.text, end);
         self.place = Place::Later;
         Ok(())
+    }
+
+    /// Lends the text of the array of the values that were added so far. It is empty where none was.
+    pub fn text(&self) -> &[u8]
+        ensures { (values : List SqlValue) → StandsForValues values self.now → result.now ≡ so_far (array_text self.now.nulls) values }
+    {
+        self.text.as_slice()
     }
 
     /// The array of the values that were added, or NULL where none was. It takes no memory.

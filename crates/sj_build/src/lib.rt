@@ -6,7 +6,7 @@
 //! an object that may not be equal.
 //!
 //! [`json_array`] and [`json_object`] take a whole list. [`ArrayAgg`] and [`ObjectAgg`] take it piece by piece, and
-//! keep the text of what was added. It promises that each gives exactly the value of its definition
+//! keep the text of what was added, which they also lend. It promises that each gives exactly the value of its definition
 //! (`specs/Constructors.antt`) over the whole list, and refuses a member exactly where the definition does. Each takes
 //! one pass, and time linear in the texts that it makes.
 #![tactic(auto)]

@@ -60,8 +60,8 @@ impl Model for ObjectAgg {
 }
 
 impl ObjectAgg {
-    ghost use Rattle.sj_build.specs.Constructors.{object_value, object_aggregate};
-    ghost use Rattle.sj_build.specs.SoFar.{StandsForFields};
+    ghost use Rattle.sj_build.specs.Constructors.{object_text, object_value, object_aggregate};
+    ghost use Rattle.sj_build.specs.SoFar.{so_far, StandsForFields};
 
     /// Nothing was added. It takes no memory; `alloc` serves the calls that add. With `unique`, which is WITH UNIQUE
     /// KEYS, no two members that are kept may have equal keys.
@@ -116,6 +116,13 @@ impl ObjectAgg {
         take_bracket(&mut self.text, end);
         self.place = Place::Later;
         Ok(())
+    }
+
+    /// Lends the text of the object of the members that were added so far. It is empty where none was.
+    pub fn text(&self) -> &[u8]
+        ensures { (fields : List Field) → StandsForFields fields self.now → result.now ≡ so_far (object_text self.now.nulls) fields }
+    {
+        self.text.as_slice()
     }
 
     /// The object of the members that were added, or NULL where none was. It takes no memory.

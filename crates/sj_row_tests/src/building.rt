@@ -38,6 +38,16 @@ fn shown(value: &SqlValue) -> &str {
     }
 }
 
+/// The text that an object lends, or NULL where it has none.
+fn lent(object: &ObjectAgg) -> &str {
+    let text = object.text();
+    if text.is_empty() {
+        "NULL"
+    } else {
+        str::from_utf8(text).unwrap_or("no text")
+    }
+}
+
 /// Members, each with what becomes of it, and behind the bar the object.
 const MEMBERS: &str =
     r#"NULL=TRUE 22004;a=NULL added;a=TRUE added;a=FALSE 22030;a=NULL added;NULL=NULL 22004;b=FALSE added;b=TRUE 22030;a=x 22030;c=x added | {"a":true,"b":false,"c":"x"}
@@ -57,11 +67,12 @@ fn expect_members(
     Ok(())
 }
 
-/// Adds the members of a line to an object, and compares what it then is.
+/// Adds the members of a line to an object, and compares the text that it lends then and what it is at the end.
 fn expect_object(rt: &impl Abort, alloc: Global, line: &str) -> Result<(), Fail> {
     let (members, want) = line.split_once(" | ").ok_or("no object")?;
     let mut object = ObjectAgg::new(alloc, Nulls::Absent, true);
     expect_members(rt, alloc, &mut object, members)?;
+    expect(rt, lent(&object), want, members);
     expect(rt, shown(&object.finish()), want, members);
     Ok(())
 }
