@@ -3,10 +3,10 @@
 ghost use Rattle.std.specs.Prelude.{◌≡◌, false, is_err, IfOk};
 ghost use Rattle.sj_value.specs.Casts.{GivesCast};
 ghost use Rattle.sj_value.specs.Types.{IsCastType};
-ghost use Rattle.sj_bound.specs.Sound as sound;
 ghost use Rattle.sj_bind.specs.Clauses as spec;
 
 use sj_base::{Memory, boxed};
+use sj_bound::is_text_type;
 use sj_item::{Exact, Item};
 use sj_path_tree::Literal;
 use sj_sql_grammar::{QueryClauses, Quotes, TypeName, ValueDo};
@@ -32,19 +32,6 @@ pub fn names_text(ty: TypeName) -> bool
     match ty {
         TypeName::Known(ty) => is_text_type(ty),
         TypeName::Approximate | TypeName::Datetime => false,
-    }
-}
-
-fn is_text_type(ty: SqlType) -> bool
-    ensures { result ≡ sound.is_text_type ty }
-{
-    match ty {
-        SqlType::Varchar | SqlType::VarcharMax(_) => true,
-        SqlType::Numeric
-        | SqlType::NumericFixed(_, _)
-        | SqlType::Integer
-        | SqlType::Bigint
-        | SqlType::Boolean => false,
     }
 }
 

@@ -1,4 +1,4 @@
--- for `Bound::width`
+-- for `Bound`
 pub mod ViewLists
 -- for what makes or reads a value with a list in it, in crates above
 pub mod Rows

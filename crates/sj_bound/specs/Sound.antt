@@ -74,6 +74,12 @@ module _ (columns : List BoundColumn) where
   IsKey (Object _ _ unique) = ⊥
   IsKey (Array _ _) = ⊥
 
+  -- an item that is a single value, and a key
+  abbrev pub IsKeyItem : Item → Type 0
+  IsKeyItem (Single x) = IsKey x
+  IsKeyItem (ArrayAgg x _) = ⊥
+  IsKeyItem (ObjectAgg key x _ unique) = ⊥
+
   abbrev mutual
     pub IsSoundValue : Value → Type 0
     IsSoundValue (Lit x) = Unit {0}
@@ -97,6 +103,10 @@ module _ (columns : List BoundColumn) where
   IsSoundItem (Single x) = IsSoundValue x
   IsSoundItem (ArrayAgg x _) = IsSoundValue x
   IsSoundItem (ObjectAgg key x _ unique) = IsKey key × IsSoundValue key × IsSoundValue x
+
+-- the statement has an item of this number, from 0, and it is a key
+abbrev pub HasKeyAt : Bound → ℕ → Type 0
+HasKeyAt b number = IsSomeAnd (slice_get b.items number) (IsKeyItem (columns_of b.table))
 
 abbrev pub is_aggregate : Item → Bool
 is_aggregate (Single x) = false

@@ -6,6 +6,7 @@
 //! gives it up by one call. A derived one is laid open, with all variants, at each place where a holder may return
 //! early, and each crate proves it once more.
 
+use crate::key::is_key_item;
 use sj_path_tree::{Literal, Path, Vars};
 use sj_sql_grammar::IsJsonCall;
 use sj_sql_tree::Seq;
@@ -29,8 +30,9 @@ impl Drop for Bound {
 }
 
 impl Bound {
-    ghost use Rattle.std.specs.Prelude.{◌≡◌, length};
-    ghost use Rattle.sj_bound.specs.View.{bound_of};
+    ghost use Rattle.std.specs.Prelude.{◌≡◌, ◌↔◌, IsTrue, length};
+    ghost use Rattle.sj_bound.specs.Sound as sound;
+    ghost use Rattle.sj_bound.specs.View.{bound_of, columns_of};
 
     /// How many fields a row has: as many as the SELECT list has items, where each column is counted in the place of `*`.
     ///
@@ -39,6 +41,27 @@ impl Bound {
         ensures { result ≡ length (bound_of self.now).items }
     {
         self.items.len()
+    }
+
+    /// Whether the item of this number, counted from 0, is a single value that is a key: a string literal, NULL, a column of
+    /// a text type or a JSON_VALUE of a text type. No aggregate is one, and behind the last item there is none.
+    pub fn is_key(&self, number: u32) -> bool
+        ensures { IsTrue result ↔ sound.HasKeyAt (bound_of self.now) number }
+    {
+        match self.items.get(number) {
+            Some(item) => is_key_item(item, self.columns()),
+            None => false,
+        }
+    }
+
+    // The columns of its table, and none without one.
+    fn columns(&self) -> &[BoundColumn]
+        ensures { columns_of result.now ≡ sound.columns_of (bound_of self.now).table }
+    {
+        match &self.table {
+            Some(table) => table.columns.as_slice(),
+            None => &[],
+        }
     }
 }
 

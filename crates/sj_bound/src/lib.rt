@@ -7,5 +7,7 @@
 #![tactic(auto)]
 
 mod bound;
+mod key;
 
 pub use bound::{Bound, BoundColumn, BoundItem, BoundMember, BoundPath, BoundTable, BoundValue};
+pub use key::is_text_type;

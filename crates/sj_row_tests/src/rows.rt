@@ -3,9 +3,10 @@
 ghost use Rattle.std.specs.Prelude.{◌≡◌, ◌+◌, ◌≤◌, false, length, OnOk};
 ghost use Rattle.sj_rows.specs.Lines.{max_input};
 
-use super::cases::expect_count;
-use sj_base::{Bytes, State};
-use sj_rows::{Line, Lines, RowHead, end_row, error_text};
+use super::cases::{expect, expect_count};
+use sj_base::{Bytes, State, Text};
+use sj_rows::{Line, Lines, RowHead, end_row, error_text, field_text};
+use sj_value::SqlValue;
 use std::alloc::Global;
 use std::process::Abort;
 use std::test::Fail;
@@ -160,4 +161,27 @@ fn a_head_is_kept_from_row_to_row(rt: HostRuntime) -> Result<(), Fail> {
     let want =
         b"18446744073709551614\t2\tR\n18446744073709551615\t2\tR\n18446744073709551615\t2\tR\n0\t2\tR\n".as_slice();
     expect_heads(&rt, alloc, &rows, want)
+}
+
+/// Appends the field of a text, and compares it.
+fn expect_field(rt: &impl Abort, alloc: Global, text: &str, want: &str) -> Result<(), Fail> {
+    let value = SqlValue::Text(Text::from_str(alloc, text)?);
+    let mut out = Bytes::new(alloc);
+    field_text(&mut out, &value)?;
+    let found = str::from_utf8(out.as_slice()).unwrap_or("no text");
+    expect(rt, found, want, text);
+    Ok(())
+}
+
+#[test]
+fn a_field_alone_has_escapes(rt: HostRuntime) -> Result<(), Fail> {
+    for (text, want) in [
+        ("", ""),
+        ("a b", "a b"),
+        ("\\N", "\\\\N"),
+        ("\t\r\nx", "\\t\\r\\nx"),
+    ] {
+        expect_field(&rt, rt.alloc(), text, want)?;
+    }
+    Ok(())
 }

@@ -5,7 +5,7 @@ ghost use Rattle.sj_decimal.specs.Text.{decimal_text};
 ghost use Rattle.sj_text.specs.Prefixes.{AppendsPrefix};
 ghost use Rattle.sj_text.specs.Windows.{most_short};
 ghost use Rattle.sj_value.specs.Values.{IsPrintable};
-ghost use Rattle.sj_rows.specs.RowText.{has_escape, escaped_byte, escaped, number_field, tabbed, Extends};
+ghost use Rattle.sj_rows.specs.RowText.{has_escape, escaped_byte, escaped, number_field, field, tabbed, Extends};
 
 use crate::plain::{escapes_in_16, plain_end};
 use itoa::write_digits;
@@ -100,7 +100,7 @@ fn tabbed_runs(out: &mut Bytes, bytes: &[u8]) -> Result<(), Memory>
     ensures err { OnErr result (AppendsPrefix out.old (codes "\t" ++ escaped bytes.now) out.new) }
 {
     out.push(b"\t")?;
-    push_escaped(out, bytes)
+    escaped_text(out, bytes)
 }
 
 /// Room for a TAB and the digits of a whole number of 64 bits.
@@ -144,6 +144,8 @@ fn tabbed_whole(out: &mut Bytes, whole: u64) -> Result<(), Memory>
     push_front(out, &field[tab..tab + MAX_WHOLE], MAX_WHOLE - tab)
 }
 
+// It comes in place, so that a number of a row takes no call more.
+#[inline(always)]
 fn number_text(out: &mut Bytes, number: Decimal, places: u32) -> Result<(), Memory>
     requires { IsPrintable (SqlValue.Num number places) }
     ensures ok { OnOk result (out.new ≡ out.old ++ number_field number places) }
@@ -155,8 +157,31 @@ fn number_text(out: &mut Bytes, number: Decimal, places: u32) -> Result<(), Memo
     out.push(number.text_places(places).as_str().as_bytes())
 }
 
-// Appends the bytes of a text, each run of bytes that stand for themselves at once.
-fn push_escaped(out: &mut Bytes, bytes: &[u8]) -> Result<(), Memory>
+/// Appends the field of a value, as a row has it behind a TAB ([`tabbed_text`]).
+///
+/// # Errors
+/// `Memory` where memory ran out. `out` has then grown by a first part of it.
+pub fn field_text(out: &mut Bytes, value: &SqlValue) -> Result<(), Memory>
+    requires { IsPrintable value.now }
+    ensures ok { OnOk result (out.new ≡ out.old ++ field value.now) }
+    ensures err { OnErr result (AppendsPrefix out.old (field value.now) out.new) }
+{
+    match value {
+        SqlValue::Null => out.push(b"\\N"),
+        SqlValue::Text(text) => escaped_text(out, text.as_str().as_bytes()),
+        SqlValue::Num(number, places) => number_text(out, *number, *places),
+        SqlValue::Bool(true) => out.push(b"TRUE"),
+        SqlValue::Bool(false) => out.push(b"FALSE"),
+        SqlValue::Json(text) => escaped_text(out, text.as_slice()),
+    }
+}
+
+/// Appends the bytes of a text or of a JSON value as a field has them, with escapes. Each run of bytes that stand for
+/// themselves comes at once.
+///
+/// # Errors
+/// `Memory` where memory ran out. `out` has then grown by a first part of them.
+pub fn escaped_text(out: &mut Bytes, bytes: &[u8]) -> Result<(), Memory>
     ensures ok { OnOk result (out.new ≡ out.old ++ escaped bytes.now) }
     ensures err { OnErr result (AppendsPrefix out.old (escaped bytes.now) out.new) }
 {
@@ -201,7 +226,7 @@ fn escape_anew(alloc: Global, out: &mut Bytes, from: usize) -> Result<(), Memory
     let mut plain = Bytes::new(alloc);
     plain.push(&out.as_slice()[from..])?;
     out.truncate(from);
-    push_escaped(out, plain.as_slice())
+    escaped_text(out, plain.as_slice())
 }
 
 // How many bytes stand for themselves before the first that does not.

@@ -1,5 +1,5 @@
-//! The plan of a table over the numbers of its paths, and its EXISTS columns, from statements that are read from texts. The
-//! rules that a statement keeps are in `checks/rows/rules.txt`.
+//! The plan of a table over the numbers of its paths, its EXISTS columns, and the items of a list that are keys, from
+//! statements that are read from texts. The rules that a statement keeps are in `checks/rows/rules.txt`.
 mod tables;
 
 use super::cases::expect;
@@ -107,6 +107,50 @@ fn rows_are_as_wide_as_their_list(rt: HostRuntime) -> Result<(), Fail> {
     ] {
         let bound = bound(rt.alloc(), file)?;
         assert!(rt; bound.width() == want, "{file}");
+    }
+    Ok(())
+}
+
+/// The numbers of the items that are keys.
+fn keys_of(alloc: Global, bound: &Bound) -> Result<String, AllocError> {
+    let mut all = String::new(alloc);
+    for number in 0..bound.width() {
+        if bound.is_key(number) {
+            let shown = format!(in alloc; "{number} ")?;
+            all.push_str(shown.as_str())?;
+        }
+    }
+    Ok(all)
+}
+
+#[test]
+fn keys_are_single_texts(rt: HostRuntime) -> Result<(), Fail> {
+    for (file, want) in [
+        ("SELECT 'a', NULL, 1, TRUE;", "0 1"),
+        (
+            "SELECT JSON_VALUE(doc, '$.a' RETURNING VARCHAR(9)), JSON_VALUE(doc, '$.a' RETURNING INT), JSON_ARRAY('a');",
+            "0",
+        ),
+        (
+            "SELECT JSON_VALUE(doc, '$.a'), JSON_QUERY(doc, '$.a'), JSON_EXISTS(doc, '$.a'), doc IS JSON;",
+            "0",
+        ),
+        (
+            "SELECT * FROM JSON_TABLE(doc, '$' COLUMNS (a FOR ORDINALITY, b INT, c VARCHAR FORMAT JSON, d BOOLEAN EXISTS, e VARCHAR));",
+            "4",
+        ),
+        (
+            "SELECT b, a FROM JSON_TABLE(doc, '$' COLUMNS (a INT, b VARCHAR(9)));",
+            "0",
+        ),
+        (
+            "SELECT JSON_ARRAYAGG(a) FROM JSON_TABLE(doc, '$' COLUMNS (a VARCHAR));",
+            "",
+        ),
+    ] {
+        let bound = bound(rt.alloc(), file)?;
+        let keys = keys_of(rt.alloc(), &bound)?;
+        expect(&rt, keys.as_str().trim_end(), want, file);
     }
     Ok(())
 }

@@ -3,7 +3,7 @@ use Rattle.std.specs.List.{flat_map}
 use Rattle.sj_rows.specs.RowText.{escaped_byte}
 use Rattle.sj_text.proofs.Appends.{at_error, grows_to, stays}
 use Rattle.sj_text.proofs.PlainRuns.{after_run}
-use Rattle.sj_rows.proofs.field.push_escaped.Goals as goal
+use Rattle.sj_rows.proofs.field.escaped_text.Goals as goal
 
 pub returns-in_err-push_escape-in-Some-clause-err :
     goal.returns-in_err-push_escape-in-Some-clause-err
