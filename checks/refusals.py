@@ -62,6 +62,8 @@ USED_NO_MORE = {
     ("LinesOf::finish", "self"): "the run is over",
     ("PrintsLines::print_lines", "self"): "the run is over",
     ("PrintsLines::print_lines", "lines"): "the run is over",
+    ("Batch::read_on", "self"): "the run is over",
+    ("Batch::read_on", "waiting"): "the run is over",
 }
 INTRODUCTION = """# What a refused call leaves
 
@@ -267,7 +269,8 @@ def left_by(call, argument):
 def changed_without_memory(call):
     """The arguments, but for the counter, that may be something else where such a call is out of memory."""
     wants = call.refusal == "Memory" or call.refusal.endswith("Refusal")
-    return [argument for argument in call.mutable if wants and argument != "steps" and left_by(call, argument) == BY_CLAUSES]
+    used = [argument for argument in call.mutable if argument != "steps" and (call.name, argument) not in USED_NO_MORE]
+    return [argument for argument in used if wants and left_by(call, argument) == BY_CLAUSES]
 
 
 def page_of(calls):

@@ -101,8 +101,11 @@ impl Batch {
         self.lines.as_mut_slice()
     }
 
-    #[tactic(auto, using(crate::proofs::WaitingLines::read_none, crate::proofs::WaitingLines::read_next, crate::proofs::WaitingLines::read_all, crate::proofs::WaitingLines::read_some))]
     /// Reads the next of the lines that wait, in place of those that were read before.
+    ///
+    /// # Errors
+    /// [`Memory`] where memory runs out. The batch and the lines that wait are then used no more.
+    #[tactic(auto, using(crate::proofs::WaitingLines::read_none, crate::proofs::WaitingLines::read_next, crate::proofs::WaitingLines::read_all, crate::proofs::WaitingLines::read_some))]
     pub fn read_on(
         &mut self,
         alloc: Global,
