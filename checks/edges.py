@@ -18,7 +18,7 @@ from checks import streams
 from checks.answers import accepted, refusal
 from checks.program import CLOSED, Ended, difference, front_problem
 
-USAGE = b"usage: sqljson run [--unique-keys] FILE | check FILE | selfrun N FILE | show FILE\n"
+USAGE = b"usage: sqljson run [--unique-keys] FILE | check FILE | selfrun N FILE | show FILE | group FILE\n"
 UNREADABLE = Ended(3, note=b"statement file cannot be read\n")
 TOO_LONG = Ended(8, note=b"statement file too long\n")
 MEMBER = b"SELECT JSON_EXISTS(doc, 'lax $.a');\n"

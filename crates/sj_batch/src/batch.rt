@@ -2,13 +2,16 @@
 ghost use Rattle.std.specs.Prelude.{◌≡◌, ◌+◌, ◌++◌, ◌∷◌, [], false, Some, OnOk, IfOk};
 ghost use Rattle.sj_rows.specs.Line.{line_seen};
 ghost use Rattle.sj_json.specs.Document.{document};
+ghost use Rattle.sj_select_list.specs.Line.{line_of};
 ghost use Rattle.sj_batch.specs.Batch.{reading, read_line, ReadOn};
+ghost use Rattle.sj_batch.specs.Seen.{line_read};
 
 use sj_base::{Memory, push};
 use sj_doc::{Doc, DocBuilder};
 use sj_file::Keys;
 use sj_read::{LineRead, read_over};
 use sj_rows::{Line, Lines, is_blank};
+use sj_select_list::LineDoc;
 use std::alloc::Global;
 
 /// How many lines are read before their rows are made: the cursors of the statements, which are made for the documents
@@ -45,6 +48,17 @@ pub enum Reading {
 }
 
 impl Reading {
+    /// The line, as statements see it.
+    pub fn line(&self) -> LineDoc<'_>
+        ensures { line_of result ≡ line_read self.now }
+    {
+        match self {
+            Reading::NotJson => LineDoc::NotJson,
+            Reading::Repeated(doc) => LineDoc::Repeated(doc),
+            Reading::Json(doc) => LineDoc::Json(doc),
+        }
+    }
+
     /// The document, whose memory may be taken again.
     fn into_doc(self) -> Option<Doc> {
         match self {

@@ -24,20 +24,24 @@ AcceptedSoMany name old new count = (statements : List Bound) × Accepted name o
 abbrev pub AcceptedWithText : List ℕ → ShelfSide → ShelfSide → List ℕ → Type 0
 AcceptedWithText name old new text = (statements : List Bound) × (a : Accepted name old new statements) × (text ≡ lines_text a.accepted.statements)
 
--- this file was read whole, and statement k is refused
-pub record RefusedFile (name : List ℕ) (old new : ShelfSide) (k : ℕ) (kind : FileKind) : Type 0 where
+-- this file was read whole, and statement k is refused, by what is said of refusals
+pub record RefusedFile (refuses : List ℕ → ℕ → FileKind → Type 0) (name : List ℕ) (old new : ShelfSide) (k : ℕ) (kind : FileKind) : Type 0 where
   pub file : List ℕ
   pub holds : Holds name old new file
-  pub refused : Refuses file k kind
+  pub refused : refuses file k kind
+
+-- why no file was taken, by what is said of refusals
+abbrev pub IsUntaken : (List ℕ → ℕ → FileKind → Type 0) → List ℕ → ShelfSide → ShelfSide → Status → Type 0
+IsUntaken refuses name old new ShelfFault = Rose old.faults new.faults × (IsTrue old.quiet → HasFile old.files name → ⊥)
+IsUntaken refuses name old new FileTooLong = IsTooLong old.files name new.left × (new.faults ≡ old.faults)
+IsUntaken refuses name old new (Refused k kind) = RefusedFile refuses name old new k kind
+IsUntaken refuses name old new Memory = new.faults ≡ old.faults
+IsUntaken refuses name old new Done = ⊥
+IsUntaken refuses name old new Usage = ⊥
+IsUntaken refuses name old new ReadFault = ⊥
+IsUntaken refuses name old new WriteFault = ⊥
+IsUntaken refuses name old new InputLimit = ⊥
 
 -- why no file was accepted
 abbrev pub IsUnaccepted : List ℕ → ShelfSide → ShelfSide → Status → Type 0
-IsUnaccepted name old new ShelfFault = Rose old.faults new.faults × (IsTrue old.quiet → HasFile old.files name → ⊥)
-IsUnaccepted name old new FileTooLong = IsTooLong old.files name new.left × (new.faults ≡ old.faults)
-IsUnaccepted name old new (Refused k kind) = RefusedFile name old new k kind
-IsUnaccepted name old new Memory = new.faults ≡ old.faults
-IsUnaccepted name old new Done = ⊥
-IsUnaccepted name old new Usage = ⊥
-IsUnaccepted name old new ReadFault = ⊥
-IsUnaccepted name old new WriteFault = ⊥
-IsUnaccepted name old new InputLimit = ⊥
+IsUnaccepted = IsUntaken Refuses

@@ -20,12 +20,13 @@ abbrev pub is_file_name : List ℕ → Bool
 is_file_name [] = false
 is_file_name (x ∷ name) = not (x == 45)
 
--- what the words ask for: the statements of a file are run over the input, or checked, or run over so many generated lines, or shown
+-- what the words ask for: the statements of a file are run over the input, or checked, or run over so many generated lines, or shown, or grouped over the input
 pub data Form : Type 0 where
   running : (keys : Keys) (name : List ℕ) → Form
   checking : (name : List ℕ) → Form
   generating : (number : ℕ) (name : List ℕ) → Form
   showing : (name : List ℕ) → Form
+  grouping : (name : List ℕ) → Form
 
 -- ---- a number of lines: one to six decimal digits
 
@@ -44,13 +45,14 @@ number_of word = if is_number word then Some (number_from 0 word) else None
 
 -- ---- the words
 
--- `run FILE`, `check FILE` and `show FILE`
+-- `run FILE`, `check FILE`, `show FILE` and `group FILE`
 abbrev pub form_of : List ℕ → List ℕ → Option Form
 form_of word name =
     if is_file_name name
     then (if bytes_eq word (codes "run") then Some (running Any name)
     else (if bytes_eq word (codes "check") then Some (checking name)
-    else (if bytes_eq word (codes "show") then Some (showing name) else None)))
+    else (if bytes_eq word (codes "show") then Some (showing name)
+    else (if bytes_eq word (codes "group") then Some (grouping name) else None))))
     else None
 
 abbrev pub generating_as : List ℕ → Option ℕ → Option Form
@@ -82,6 +84,7 @@ form_value (f.Run keys name) = running keys name.now
 form_value (f.Check name) = checking name.now
 form_value (f.Generated number name) = generating number name.now
 form_value (f.Show name) = showing name.now
+form_value (f.Group name) = grouping name.now
 
 -- a number of lines has six digits at most
 abbrev pub IsWithin : declared.Form → Type 0
@@ -89,6 +92,7 @@ IsWithin (f.Run keys name) = Unit {0}
 IsWithin (f.Check name) = Unit {0}
 IsWithin (f.Generated number name) = number ≤ most_lines
 IsWithin (f.Show name) = Unit {0}
+IsWithin (f.Group name) = Unit {0}
 
 -- ---- the file that is named
 
@@ -98,6 +102,7 @@ named_in (running keys name) = Some name
 named_in (checking name) = Some name
 named_in (generating number name) = Some name
 named_in (showing name) = Some name
+named_in (grouping name) = Some name
 
 abbrev pub file_named : Option Form → Option (List ℕ)
 file_named None = None
@@ -110,6 +115,7 @@ file_run (Some (running keys name)) = Some name
 file_run (Some (checking name)) = None
 file_run (Some (generating number name)) = None
 file_run (Some (showing name)) = None
+file_run (Some (grouping name)) = None
 
 -- whether the keys of a line's objects are to be unique
 abbrev pub keys_run : Option Form → Keys
@@ -118,6 +124,7 @@ keys_run (Some (running keys name)) = keys
 keys_run (Some (checking name)) = Any
 keys_run (Some (generating number name)) = Any
 keys_run (Some (showing name)) = Any
+keys_run (Some (grouping name)) = Any
 
 -- where its statements are checked
 abbrev pub file_checked : Option Form → Option (List ℕ)
@@ -126,6 +133,7 @@ file_checked (Some (running keys name)) = None
 file_checked (Some (checking name)) = Some name
 file_checked (Some (generating number name)) = None
 file_checked (Some (showing name)) = None
+file_checked (Some (grouping name)) = None
 
 -- where they are run over generated lines, and how many
 abbrev pub file_generated : Option Form → Option (List ℕ)
@@ -134,6 +142,7 @@ file_generated (Some (running keys name)) = None
 file_generated (Some (checking name)) = None
 file_generated (Some (generating number name)) = Some name
 file_generated (Some (showing name)) = None
+file_generated (Some (grouping name)) = None
 
 abbrev pub lines_generated : Option Form → ℕ
 lines_generated None = 0
@@ -141,6 +150,7 @@ lines_generated (Some (running keys name)) = 0
 lines_generated (Some (checking name)) = 0
 lines_generated (Some (generating number name)) = number
 lines_generated (Some (showing name)) = 0
+lines_generated (Some (grouping name)) = 0
 
 -- where they are shown
 abbrev pub file_to_show : Option Form → Option (List ℕ)
@@ -149,6 +159,16 @@ file_to_show (Some (running keys name)) = None
 file_to_show (Some (checking name)) = None
 file_to_show (Some (generating number name)) = None
 file_to_show (Some (showing name)) = Some name
+file_to_show (Some (grouping name)) = None
+
+-- where they are grouped
+abbrev pub file_to_group : Option Form → Option (List ℕ)
+file_to_group None = None
+file_to_group (Some (running keys name)) = None
+file_to_group (Some (checking name)) = None
+file_to_group (Some (generating number name)) = None
+file_to_group (Some (showing name)) = None
+file_to_group (Some (grouping name)) = Some name
 
 -- the shelf as it is seen at one moment
 pub record ShelfSide : Type 0 where

@@ -6,3 +6,4 @@ pub mod Conditions
 pub mod Job
 pub mod Piece
 pub mod StatusNumbers
+pub mod ToGroup

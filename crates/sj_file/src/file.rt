@@ -31,6 +31,8 @@ pub enum Form<'a> {
     Generated(u32, &'a str),
     /// `show FILE`: the canonical text of its statements is written.
     Show(&'a str),
+    /// `group FILE`: the rows of its one statement are gathered over the input.
+    Group(&'a str),
 }
 
 /// What the words ask for, or nothing if they are of none of the forms. The words are those behind the name of the
@@ -61,6 +63,8 @@ fn form_of_two<'a>(word: &str, name: &'a str) -> Option<Form<'a>>
         Some(Form::Check(name))
     } else if word == "show" {
         Some(Form::Show(name))
+    } else if word == "group" {
+        Some(Form::Group(name))
     } else {
         None
     }

@@ -2,7 +2,7 @@
 ghost use Rattle.std.specs.Prelude.{◌≡◌, ◌<◌, ◌++◌, ◌∷◌, [], List, ℕ, All, length, slice_index_or, OnOk, OnErr};
 ghost use Rattle.indexmap.specs.IndexMap.{values};
 ghost use Rattle.sj_text.specs.Prefixes.{AppendsPrefix};
-ghost use Rattle.sj_group.specs.Grouping.{Row, IsRow, key_of, grouped};
+ghost use Rattle.sj_group.specs.Grouping.{Row, IsRow, columns_of, takes, key_of, grouped};
 ghost use Rattle.sj_group.specs.Held.{held_groups, shown, IsHeld, StandsForRows};
 
 use crate::aggregate::Aggregate;
@@ -63,6 +63,14 @@ impl Groups {
             groups: IndexMap::new(alloc),
             key: Bytes::new(alloc),
         }
+    }
+
+    /// Whether a row can be added: where an object is made, its second value is not NULL.
+    pub fn takes(&self, row: &[SqlValue]) -> bool
+        requires { length row.now ≡ columns_of self.now.aggregate }
+        ensures { result ≡ takes self.now.aggregate row.now }
+    {
+        self.aggregate.takes(row)
     }
 
     /// Adds a row at the end: two values, or three where an object is made, of which the second is then a text.

@@ -8,7 +8,8 @@
 //! on `sj_base` for bytes and the answer "out of memory", on `itoa` for whole numbers, and on `indexmap` for a map whose
 //! keys keep their order. It promises that after each row the groups are exactly those of the definition
 //! (`specs/Grouping.antt`) over the whole list of the rows that were added, and that a row that is refused for want of
-//! memory changes nothing. A row takes time linear in its own texts, however many rows came before it.
+//! memory changes nothing. Where keys have different hashes, a row takes time linear in its own texts, however many rows came
+//! before it.
 #![tactic(auto)]
 
 mod aggregate;

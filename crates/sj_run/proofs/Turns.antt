@@ -17,7 +17,8 @@ use Rattle.sj_page.specs.Pages.{Print, PrintState, Prints, Stopped, nothing, fol
 use Rattle.sj_page.specs.declared.stop.Stop.{Stop}
 use Rattle.sj_page.specs.declared.stop.Stop.TheVariants.{Memory}
 use Rattle.sj_page.proofs.Printing.{Printing, print, same_print, nothing_before, printed_on, stopped_before, prints_more, prints_same, stopped_more, printing_starts, printing_more}
-use Rattle.sj_run.specs.Output.{rows_text, row_count, error_count, rows_given, rows_print, asked_from, prints, cost_given, cost}
+use Rattle.sj_run.specs.Output.{rows_text, row_count, error_count, rows_print, asked_from, prints, cost}
+use Rattle.sj_batch.specs.Seen.{rows_given, cost_given}
 
 -- ---- one answer
 

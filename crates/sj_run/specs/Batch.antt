@@ -2,18 +2,10 @@
 use Rattle.std.specs.Prelude.{List, [], ◌∷◌, ◌++◌, map}
 use Rattle.sj_bound.specs.Bound.{Bound}
 use Rattle.sj_bound.specs.View.{bound_of}
-use Rattle.sj_select_list.specs.Line.{Line, not_json, repeated, json}
 use Rattle.sj_select.specs.Seen.{Seen}
 use Rattle.sj_batch.specs.declared.batch.ReadLine.{ReadLine}
-use Rattle.sj_batch.specs.declared.batch.Reading.{Reading}
-use Rattle.sj_batch.specs.declared.batch.Reading.TheVariants as r
+use Rattle.sj_batch.specs.Seen.{line_read}
 use Rattle.sj_run.specs.Output.{Asked, asked_from}
-
--- a line that was read, as statements see it
-abbrev pub line_read : Reading → Line
-line_read r.NotJson = not_json
-line_read (r.Repeated t) = repeated t
-line_read (r.Json t) = json t
 
 -- what is asked of lines that were read
 abbrev pub batch_asked : List Bound → List ReadLine → List Asked

@@ -9,23 +9,24 @@ use Rattle.sj_sql_grammar.specs.Tree.{Statement}
 use Rattle.sj_sql_text.specs.Statements.{lines_text}
 use Rattle.sj_bound.specs.Bound.{Bound}
 use Rattle.sj_generated.specs.Lines.{generated}
-use Rattle.sj_page.specs.Sides.{OutputSide, output_side, Grew, joined}
+use Rattle.sj_page.specs.Sides.{OutputSide, Grew, joined}
 use Rattle.sj_page.specs.declared.page.Page.{Page}
 use Rattle.sj_file.specs.declared.job.Keys.TheVariants.{Any}
 use Rattle.sj_file.specs.declared.status.Status.{Status}
 use Rattle.sj_file.specs.declared.status.Status.TheVariants.{Done, Usage, Refused, ShelfFault, ReadFault, WriteFault, Memory, InputLimit, FileTooLong}
-use Rattle.sj_file.specs.File.{ShelfSide, shelf_at, Form, running, checking, generating, showing, named_in}
-use Rattle.sj_file.specs.Accepted.{Accepted, IsUnaccepted}
+use Rattle.sj_file.specs.File.{ShelfSide, shelf_at, Form, running, checking, generating, showing, grouping, named_in}
+use Rattle.sj_file.specs.Accepted.{Accepted, IsUntaken}
+use Rattle.sj_file.specs.ToGroup.{CanGroup, RefusesFor}
 use Rattle.sj_file.specs.Verdict.{IsCanonicalOf}
 use Rattle.sj_stream.specs.Input.{InputSide, input_at}
 use Rattle.sj_stream.specs.LineJob.{allowed}
+use Rattle.sj_stream.specs.Out.{out_at}
 use Rattle.sj_run.specs.Output.{job}
 use Rattle.sj_stream.specs.Stream.{Streamed, IsFrontOf}
+use Rattle.sj_stream.specs.Then.{StreamedThen}
+use Rattle.sj_group.specs.declared.aggregate.Aggregate.{Aggregate}
+use Rattle.sj_group_run.specs.GroupJob.{group_job}
 use Rattle.sj_run.specs.Summary.{summary_text}
-
--- the output as it is seen at one moment, by what a sink tells and counts
-abbrev pub out_at : {O : Type 0} → sinks.Ghosts O → O → OutputSide
-out_at tells out = output_side tells.taken tells.size tells.faults out
 
 -- the shelf, the input and the output at one moment
 pub record Moment : Type 0 where
@@ -70,18 +71,27 @@ pub record RanGenerated (number : ℕ) (statements : List Bound) (from from' : I
   pub faults : from'.faults ≡ from.faults
   pub costs : from'.steps ≤ raised from.steps (allowed (job Any statements) (generated number))
 
+-- the rows of the one statement were grouped
+pub record Grouped (statements : List Bound) (from from' : InputSide) (to to' : OutputSide) (status : Status) : Type 0 where
+  pub aggregate : Aggregate
+  pub statement : Bound
+  pub only : statements ≡ statement ∷ []
+  pub fits : CanGroup aggregate statement
+  pub streamed : StreamedThen (group_job aggregate statement) from from' to to' status
+
 -- WHAT A FORM DOES with the statements of an accepted file, as they are read and as they are bound, and how that ended
 abbrev pub Does : Form → List (Statement Path) → List Bound → InputSide → InputSide → OutputSide → OutputSide → Status → Type 0
 Does (running keys name) read statements from from' to to' status = (page : Page) × Streamed (job keys statements) from from' to (record { out = to'; page = page }) status
 Does (checking name) read statements from from' to to' status = (from' ≡ from) × Tells (accepted_text statements) to to' status
 Does (generating number name) read statements from from' to to' status = RanGenerated number statements from from' × Tells (summary_text number statements) to to' status
 Does (showing name) read statements from from' to to' status = (from' ≡ from) × Tells (lines_text read) to to' status
+Does (grouping name) read statements from from' to to' status = Grouped statements from from' to to' status
 
 -- ---- the whole
 
--- no file was accepted, and nothing was read or written
-pub record Idle (name : List ℕ) (before after : Moment) (status : Status) : Type 0 where
-  pub why : IsUnaccepted name before.shelf after.shelf status
+-- no file was taken for the form, and nothing was read or written
+pub record Idle (form : Form) (name : List ℕ) (before after : Moment) (status : Status) : Type 0 where
+  pub why : IsUntaken (RefusesFor form) name before.shelf after.shelf status
   pub input : after.input ≡ before.input
   pub out : after.out ≡ before.out
 
@@ -99,7 +109,7 @@ pub record DidWithout (form : Form) (before after : Moment) (status : Status) : 
 -- by the file that a form names, if it names one
 abbrev pub RanOver : Form → Option (List ℕ) → Moment → Moment → Status → Type 0
 RanOver form None before after status = DidWithout form before after status
-RanOver form (Some name) before after status = Idle name before after status ⊎ Did form name before after status
+RanOver form (Some name) before after status = Idle form name before after status ⊎ Did form name before after status
 
 -- A COMMAND: with words of one of the forms it does what the form says, and otherwise it is Usage and does nothing.
 abbrev pub Ran : Option Form → Moment → Moment → Status → Type 0

@@ -3,7 +3,8 @@ ghost use Rattle.std.specs.Prelude.{◌≡◌, ◌∷◌, [], Some, codes, decim
 ghost use Rattle.sj_page.specs.Sides.{Wrote, joined};
 ghost use Rattle.sj_file.specs.File.{checking, shelf_at};
 ghost use Rattle.sj_stream.specs.Input.{InputSide};
-ghost use Rattle.sj_run.specs.Ran.{IsBefore, Ran, moment, out_at};
+ghost use Rattle.sj_run.specs.Ran.{IsBefore, Ran, moment};
+ghost use Rattle.sj_stream.specs.Out.{out_at};
 
 use itoa::Buffer;
 use sj_file::{Status, accept_count};

@@ -14,7 +14,8 @@ ghost use Rattle.sj_file.specs.Conditions.{IfRuns, IfChecks, IfGenerates, IfShow
 ghost use Rattle.sj_file.specs.Verdict.{Refuses};
 ghost use Rattle.sj_sql_text.specs.Statements.{lines_text};
 ghost use Rattle.sj_stream.specs.Input.{input_at};
-ghost use Rattle.sj_run.specs.Ran.{Ran, WroteCanonical, out_at, moment_at, IsBefore, accepted_text};
+ghost use Rattle.sj_run.specs.Ran.{Ran, WroteCanonical, moment_at, IsBefore, accepted_text};
+ghost use Rattle.sj_stream.specs.Out.{out_at};
 ghost use Rattle.sj_run.specs.Summary.{summary_text};
 ghost use Rattle.sj_run.specs.Notes.{Noted, note_of};
 ghost use Rattle.sj_stream.specs.LineJob.{output, allowed};
@@ -23,6 +24,7 @@ ghost use Rattle.sj_stream.specs.Stream.{TookMost, IsFrontOf, WroteLeast, WroteW
 
 use crate::check::check_file;
 use crate::generate::run_generated;
+use crate::group::group_file;
 use crate::notes::tell;
 use crate::show::show_file;
 use crate::stream::stream;
@@ -63,6 +65,7 @@ fn run_file<H: Shelf, I: Source, O: Sink>(
 /// - `check FILE` tells how many statements of a file are accepted.
 /// - `selfrun N FILE` runs the statements over N generated lines, and tells how many rows and error rows they gave.
 /// - `show FILE` writes the canonical text of the statements of a file, each on a line.
+/// - `group FILE` gathers the rows of the one statement of a file over the input, and writes their groups.
 ///
 /// Example: the words `run f`, a file `f` with `SELECT JSON_EXISTS(doc, 'lax $.a.b');` and the line `{"a":{"b":null}}`
 /// write `1`, `1`, `R` and `TRUE`, with TABs between them (`sj_run_tests::faults::lines_in_any_cut`).
@@ -271,5 +274,6 @@ fn answer<H: Shelf, I: Source, O: Sink>(
             run_generated(alloc, number, name, shelf, out, steps)
         }
         Some(Form::Show(name)) => show_file(alloc, name, shelf, out),
+        Some(Form::Group(name)) => group_file(alloc, name, shelf, input, out, steps),
     }
 }

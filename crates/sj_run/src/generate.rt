@@ -4,7 +4,8 @@ ghost use Rattle.sj_generated.specs.Lines.{most_lines};
 ghost use Rattle.sj_page.specs.Sides.{Wrote};
 ghost use Rattle.sj_file.specs.File.{generating, shelf_at};
 ghost use Rattle.sj_run.specs.Summary.{counts_text};
-ghost use Rattle.sj_run.specs.Ran.{IsBefore, Ran, moment, out_at};
+ghost use Rattle.sj_run.specs.Ran.{IsBefore, Ran, moment};
+ghost use Rattle.sj_stream.specs.Out.{out_at};
 
 use crate::stream::stream;
 use itoa::Buffer;

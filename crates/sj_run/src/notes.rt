@@ -2,7 +2,7 @@
 ghost use Rattle.std.specs.Prelude.{◌≡◌, ◌≤◌, map, List, ℕ};
 ghost use Rattle.sj_page.specs.Sides.{Wrote};
 ghost use Rattle.sj_run.specs.Notes.{note_of, Noted};
-ghost use Rattle.sj_run.specs.Ran.{out_at};
+ghost use Rattle.sj_stream.specs.Out.{out_at};
 
 use itoa::Buffer;
 use sj_file::Status;
@@ -17,7 +17,7 @@ fn write_note<N: Sink>(notes: &mut N, status: Status) -> Result<(), Failed>
         Status::Done => write_all(notes, b""),
         Status::Usage => write_all(
             notes,
-            b"usage: sqljson run [--unique-keys] FILE | check FILE | selfrun N FILE | show FILE\n",
+            b"usage: sqljson run [--unique-keys] FILE | check FILE | selfrun N FILE | show FILE | group FILE\n",
         ),
         Status::Refused(k, kind) => {
             let mut buffer = Buffer::new();

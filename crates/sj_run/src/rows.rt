@@ -6,12 +6,13 @@ ghost use Rattle.sj_select_list.specs.Line.{line_of};
 ghost use Rattle.sj_page.specs.Pages.{print_state, Prints};
 ghost use Rattle.sj_file.specs.Job.{job_of, AreSound, IsReady, statement_limit};
 ghost use Rattle.sj_stream.specs.Out.{state_at, SameLoans};
-ghost use Rattle.sj_run.specs.Output.{rows_given, rows_print, prints, cost_given, cost, asked_from};
-ghost use Rattle.sj_run.specs.Batch.{line_read, batch_asked, bounds_in};
+ghost use Rattle.sj_run.specs.Output.{rows_print, prints, cost, asked_from};
+ghost use Rattle.sj_batch.specs.Seen.{rows_given, cost_given, line_read};
+ghost use Rattle.sj_run.specs.Batch.{batch_asked, bounds_in};
 
 use crate::kept::KeptRows;
 use sj_base::{Memory, Steps, push};
-use sj_batch::{Batch, ReadLine, Reading};
+use sj_batch::{Batch, ReadLine};
 use sj_bound::Bound;
 use sj_file::Job;
 use sj_outside::Sink;
@@ -20,17 +21,6 @@ use sj_select::{RowsOf, Turn};
 use sj_select_list::LineDoc;
 use sj_stream::Out;
 use std::alloc::Global;
-
-/// A line that was read, as statements see it.
-fn line_of_reading(reading: &Reading) -> LineDoc<'_>
-    ensures { line_of result ≡ line_read reading.now }
-{
-    match reading {
-        Reading::NotJson => LineDoc::NotJson,
-        Reading::Repeated(doc) => LineDoc::Repeated(doc),
-        Reading::Json(doc) => LineDoc::Json(doc),
-    }
-}
 
 /// The rows of each statement. They take the memory of their cursors here, and then go from line to line.
 pub(crate) fn rows_of<'a>(alloc: Global, statements: &'a [Bound]) -> Result<Vec<RowsOf<'a>>, Memory>
@@ -99,7 +89,7 @@ fn print_rows<'a, O: Sink>(
 {
     let mut number: u64 = 1;
     for statement in rows.iter_mut() {
-        let seen = line_of_reading(&line.reading);
+        let seen = line.reading.line();
         match print_statement(
             out,
             page,

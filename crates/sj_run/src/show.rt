@@ -2,7 +2,8 @@
 ghost use Rattle.std.specs.Prelude.{◌≡◌, Some};
 ghost use Rattle.sj_file.specs.File.{showing, shelf_at};
 ghost use Rattle.sj_stream.specs.Input.{InputSide};
-ghost use Rattle.sj_run.specs.Ran.{IsBefore, Ran, moment, out_at};
+ghost use Rattle.sj_run.specs.Ran.{IsBefore, Ran, moment};
+ghost use Rattle.sj_stream.specs.Out.{out_at};
 
 use sj_file::{Status, accept_text};
 use sj_outside::{Shelf, Sink};

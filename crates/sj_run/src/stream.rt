@@ -4,10 +4,9 @@ ghost use Rattle.sj_page.specs.Pages.{empty_page, print_state};
 ghost use Rattle.sj_file.specs.Job.{job_of, IsReady};
 ghost use Rattle.sj_file.specs.Piece.{max_piece};
 ghost use Rattle.sj_stream.specs.Input.{input_at};
-ghost use Rattle.sj_stream.specs.Out.{state_at, SameLoans};
+ghost use Rattle.sj_stream.specs.Out.{state_at, SameLoans, out_at};
 ghost use Rattle.sj_stream.specs.Stream.{Streamed};
 ghost use Rattle.sj_run.specs.Output.{line_job};
-ghost use Rattle.sj_run.specs.Ran.{out_at};
 
 use crate::kept::{KeptRows, new_places};
 use crate::round::Round;

@@ -6,3 +6,5 @@ pub mod Streaming
 pub mod Loans
 -- for `take_piece` and `finish` of `LinesOf`
 mod Feeding
+-- for crates above
+pub mod Then

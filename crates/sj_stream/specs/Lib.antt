@@ -3,3 +3,4 @@ pub mod Input
 pub mod Out
 pub mod Stream
 pub mod Splitting
+pub mod Then

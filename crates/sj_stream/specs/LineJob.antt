@@ -1,12 +1,13 @@
 -- What is printed for the lines of an input, whatever that is.
-use Rattle.std.specs.Prelude.{ℕ, ◌+◌, List, [], ◌∷◌, length, map, Option}
+use Rattle.std.specs.Prelude.{ℕ, ◌+◌, List, [], ◌∷◌, ◌++◌, length, map, Option}
 use Rattle.sj_rows.specs.Lines.{whole_from, whole_lines, open_part, last_line, lines, seen}
 use Rattle.sj_page.specs.Pages.{Print, nothing, followed_by}
 
--- A LINE JOB: what the line of this number prints, as it is seen, and how many steps that may take.
+-- A LINE JOB: what the line of this number prints, as it is seen, and how many steps that may take; and the text that comes behind all these lines.
 pub record LineJob : Type 0 where
   pub prints : ℕ → Option (List ℕ) → Print
   pub costs : ℕ → Option (List ℕ) → ℕ
+  pub behind : List (Option (List ℕ)) → List ℕ
 
 -- ---- lines, the first of which has this number
 
@@ -28,13 +29,21 @@ all_print job bytes = lines_print job 1 (map seen (lines bytes))
 abbrev pub whole_print : LineJob → List ℕ → Print
 whole_print job bytes = lines_print job 1 (map seen (whole_lines bytes))
 
--- THE OUTPUT: its text
+-- THE OUTPUT of the lines: its text
 abbrev pub output : LineJob → List ℕ → List ℕ
 output job bytes = (all_print job bytes).text
 
 -- that of the lines that end in LF
 abbrev pub whole_output : LineJob → List ℕ → List ℕ
 whole_output job bytes = (whole_print job bytes).text
+
+-- the text behind all lines
+abbrev pub text_behind : LineJob → List ℕ → List ℕ
+text_behind job bytes = job.behind (map seen (lines bytes))
+
+-- ALL THAT IS WRITTEN: the output of the lines, and then the text behind them
+abbrev pub whole_text : LineJob → List ℕ → List ℕ
+whole_text job bytes = output job bytes ++ text_behind job bytes
 
 -- THE ALLOWANCE: the sum of the steps over all lines
 abbrev pub allowed : LineJob → List ℕ → ℕ

@@ -1,7 +1,7 @@
 use Rattle.std.proofs.Common.{List, ℕ, sym, subst}
 use Rattle.sj_file.specs.File.{shelf_at}
 use Rattle.sj_file.specs.Accepted.{AcceptedWithText}
-use Rattle.sj_run.specs.Ran.{out_at}
+use Rattle.sj_stream.specs.Out.{out_at}
 use Rattle.sj_run.proofs.Telling.{show_done, show_cut}
 use Rattle.sj_run.proofs.show.show_file.Goals as goal
 

@@ -4,13 +4,12 @@ use Rattle.sj_page.specs.declared.page.Page.{Page}
 use Rattle.sj_file.specs.Job.{job_of}
 use Rattle.sj_stream.specs.Input.{input_at}
 use Rattle.sj_stream.specs.LineJob.{LineJob}
-use Rattle.sj_stream.specs.Out.{state_at}
+use Rattle.sj_stream.specs.Out.{state_at, out_at}
 use Rattle.sj_stream.specs.Stream.{GoesOn}
 use Rattle.sj_stream.proofs.Loans.{loans_stay, loans_on}
 use Rattle.sj_stream.proofs.Streaming.{starts, limit_reached, memory_ends}
 use Rattle.sj_run.specs.Batch.{bounds_in}
 use Rattle.sj_run.specs.Output.{line_job}
-use Rattle.sj_run.specs.Ran.{out_at}
 use Rattle.sj_run.specs.Round.{Does}
 use Rattle.sj_run.proofs.stream.stream_in.Goals as goal
 

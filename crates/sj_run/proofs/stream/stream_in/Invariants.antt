@@ -3,11 +3,10 @@ use Rattle.sj_rows.specs.Lines.{max_input}
 use Rattle.sj_file.specs.Job.{job_of}
 use Rattle.sj_file.specs.Piece.{max_piece}
 use Rattle.sj_stream.specs.Input.{input_at}
-use Rattle.sj_stream.specs.Out.{state_at, SameLoans}
+use Rattle.sj_stream.specs.Out.{state_at, SameLoans, out_at}
 use Rattle.sj_stream.specs.Splitting.{kept_of}
 use Rattle.sj_stream.specs.Stream.{GoesOn}
 use Rattle.sj_run.specs.Output.{line_job}
-use Rattle.sj_run.specs.Ran.{out_at}
 use Rattle.sj_run.proofs.stream.stream_in.Given as goal
 
 abbrev pub invariant-loop-taken : goal.invariant-loop-taken
