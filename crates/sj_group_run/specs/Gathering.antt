@@ -2,7 +2,7 @@
 use Rattle.std.specs.Prelude.{◌≡◌, ℕ, ◌+◌, List, [], ◌∷◌, ◌++◌, Option, Result, OnOk}
 use Rattle.sj_bound.specs.Bound.{Bound}
 use Rattle.sj_bound.specs.View.{bound_of}
-use Rattle.sj_table.specs.Series.{Series}
+use Rattle.sj_table.specs.Series.{Series, elements}
 use Rattle.sj_group.specs.declared.aggregate.Aggregate.{Aggregate}
 use Rattle.sj_group.specs.Grouping.{Row}
 use Rattle.sj_group.specs.Held.{HeldGroups, StandsForRows}
@@ -12,7 +12,7 @@ use Rattle.sj_file.specs.ToGroup.{IsReadyToGroup}
 use Rattle.sj_stream.specs.LineJob.{LineJob}
 use Rattle.sj_batch.specs.declared.batch.ReadLine.{ReadLine}
 use Rattle.sj_batch.specs.Seen.{line_read, rows_given, cost_given}
-use Rattle.sj_group_run.specs.Kept.{kept, rows_in, rows_kept}
+use Rattle.sj_group_run.specs.Kept.{kept, rows_kept}
 use Rattle.sj_group_run.specs.GroupJob.{errors_print, group_job}
 
 -- ---- lines that were read together
@@ -31,7 +31,7 @@ batch_cost s (line ∷ lines) = cost_given s (line_read line.reading) + batch_co
 
 abbrev pub batch_rows : Aggregate → Bound → List ReadLine → List Row
 batch_rows aggregate s [] = []
-batch_rows aggregate s (line ∷ lines) = rows_in (read_kept aggregate s line) ++ batch_rows aggregate s lines
+batch_rows aggregate s (line ∷ lines) = elements (read_kept aggregate s line) ++ batch_rows aggregate s lines
 
 -- ---- groups
 

@@ -1,9 +1,10 @@
 -- WHAT GROUPING WRITES: the error rows of all lines, and then the groups of all rows.
 use Rattle.std.specs.Prelude.{ℕ, List, if◌then◌else◌, Option, None, Some}
 use Rattle.std.specs.List.{list_all}
+use Rattle.sj_base.specs.declared.state.State.{State}
 use Rattle.sj_rows.specs.Lines.{is_blank_byte}
 use Rattle.sj_json.specs.Document.{document}
-use Rattle.sj_table.specs.Series.{Series, done, raises, more}
+use Rattle.sj_table.specs.Series.{Series, end_of}
 use Rattle.sj_bound.specs.Bound.{Bound}
 use Rattle.sj_group.specs.declared.aggregate.Aggregate.{Aggregate}
 use Rattle.sj_group.specs.Grouping.{Row, grouped}
@@ -16,11 +17,13 @@ use Rattle.sj_group_run.specs.Kept.{line_kept, rows_kept}
 
 -- ---- the lines
 
--- an error row for the state that ends the rows, if one does; its statement has number 1
+-- an error row for the state that is raised at its end, if one is; the statement has number 1
+abbrev pub end_print : ℕ → Option State → Print
+end_print number None = nothing
+end_print number (Some s) = error_print number 1 s
+
 abbrev pub errors_print : ℕ → Series Row → Print
-errors_print number done = nothing
-errors_print number (raises s) = error_print number 1 s
-errors_print number (more row rows) = errors_print number rows
+errors_print number rows = end_print number (end_of rows)
 
 -- the steps that the rows of a line may take
 abbrev pub line_cost : Bound → Option (List ℕ) → ℕ

@@ -1,10 +1,10 @@
 -- THE ROWS OF A LINE THAT ARE GATHERED, and the state that ends them.
-use Rattle.std.specs.Prelude.{ℕ, List, [], ◌∷◌, flat_map, if◌then◌else◌, Option, None, Some}
+use Rattle.std.specs.Prelude.{ℕ, List, flat_map, if◌then◌else◌, Option, None, Some}
 use Rattle.std.specs.List.{list_all}
 use Rattle.sj_base.specs.declared.state.State.TheVariants.{S22004}
 use Rattle.sj_rows.specs.Lines.{is_blank_byte}
 use Rattle.sj_json.specs.Document.{document}
-use Rattle.sj_table.specs.Series.{Series, done, raises, more}
+use Rattle.sj_table.specs.Series.{Series, done, raises, more, elements}
 use Rattle.sj_bound.specs.Bound.{Bound}
 use Rattle.sj_group.specs.declared.aggregate.Aggregate.{Aggregate}
 use Rattle.sj_group.specs.Grouping.{Row, takes}
@@ -17,12 +17,6 @@ kept aggregate done = done
 kept aggregate (raises s) = raises s
 kept aggregate (more row rows) = if takes aggregate row then more row (kept aggregate rows) else raises S22004
 
--- the rows before an end
-abbrev pub rows_in : Series Row → List Row
-rows_in done = []
-rows_in (raises s) = []
-rows_in (more row rows) = row ∷ rows_in rows
-
 -- of a line as it is seen: none of a blank line, and one that is too long is not JSON
 abbrev pub line_kept : Aggregate → Bound → Option (List ℕ) → Series Row
 line_kept aggregate s None = kept aggregate (rows_given s (line_as Any None))
@@ -30,4 +24,4 @@ line_kept aggregate s (Some line) = if list_all is_blank_byte line then done els
 
 -- of all these lines, in their order
 abbrev pub rows_kept : Aggregate → Bound → List (Option (List ℕ)) → List Row
-rows_kept aggregate s lines = flat_map (λ line. rows_in (line_kept aggregate s line)) lines
+rows_kept aggregate s lines = flat_map (λ line. elements (line_kept aggregate s line)) lines

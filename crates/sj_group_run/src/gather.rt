@@ -3,12 +3,12 @@ ghost use Rattle.std.specs.Prelude.{◌≡◌, ◌≤◌};
 ghost use Rattle.sj_base.specs.Count.{raised};
 ghost use Rattle.sj_bound.specs.Sound.{IsSound};
 ghost use Rattle.sj_bound.specs.View.{bound_of};
+ghost use Rattle.sj_table.specs.Series.{elements};
 ghost use Rattle.sj_page.specs.Pages.{print_state, Prints};
 ghost use Rattle.sj_file.specs.ToGroup.{CanGroup};
 ghost use Rattle.sj_stream.specs.Out.{state_at, SameLoans};
 ghost use Rattle.sj_batch.specs.Seen.{line_read, cost_given};
 ghost use Rattle.sj_group_run.specs.GroupJob.{errors_print};
-ghost use Rattle.sj_group_run.specs.Kept.{rows_in};
 ghost use Rattle.sj_group_run.specs.Gathering.{read_kept, batch_print, batch_cost, batch_rows, Gathered};
 
 use sj_base::{State, Steps};
@@ -45,7 +45,7 @@ fn gather_line<'a, O: Sink>(
     requires fits { CanGroup gatherer.old.groups.aggregate (bound_of rows.old.bound) }
     ensures prints { Prints (errors_print line.now.number (read_kept gatherer.old.groups.aggregate (bound_of rows.old.bound) line.now))
         (print_state O.taken O.size O.faults out.old page.old) (print_state O.taken O.size O.faults out.new page.new) result }
-    ensures gathered { Gathered (rows_in (read_kept gatherer.old.groups.aggregate (bound_of rows.old.bound) line.now)) gatherer.old.groups gatherer.new.groups result }
+    ensures gathered { Gathered (elements (read_kept gatherer.old.groups.aggregate (bound_of rows.old.bound) line.now)) gatherer.old.groups gatherer.new.groups result }
     ensures costs { steps.new ≤ raised steps.old (cost_given (bound_of rows.old.bound) (line_read line.now.reading)) }
     ensures bound { rows.new.bound ≡ rows.old.bound }
 {
