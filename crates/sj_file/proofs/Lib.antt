@@ -12,3 +12,5 @@ pub mod Unaccepted
 pub mod Texts
 -- for `canonical_file`, and for sj_run
 pub mod ShownAgain
+-- for `accept_to_group`, and for sj_run
+pub mod Grouped

@@ -8,11 +8,11 @@ use Rattle.sj_path_tree.specs.Tree.{Path}
 use Rattle.sj_sql_grammar.specs.Tree.{Statement}
 use Rattle.sj_bound.specs.Bound.{Bound}
 use Rattle.sj_file.specs.declared.job.Keys.{Keys}
-use Rattle.sj_file.specs.File.{ShelfSide, Form, running, checking, generating, showing, file_shown, IsFile, IsTooLong}
-use Rattle.sj_file.specs.Verdict.{Accepts, IsReadAs, Refuses}
+use Rattle.sj_file.specs.File.{ShelfSide, Form, running, checking, generating, showing, grouping, file_shown, IsFile, IsTooLong}
+use Rattle.sj_file.specs.Verdict.{Accepts, IsReadAs}
 use Rattle.sj_file.specs.Accepted.{Accepted, RefusedFile}
 use Rattle.sj_file.proofs.Texts.{read_as}
-use Rattle.sj_file.specs.Conditions.{IfRuns, IfChecks, IfGenerates, IfShows}
+use Rattle.sj_file.specs.Conditions.{IfRuns, IfChecks, IfGenerates, IfShows, IfGroups}
 
 pub by_some : {A : Type 0} (x : Option A) (P : A → Type 0) → ((y : A) → x ≡ Some y → P y) → IfSome x P
 by_some None P h = tt
@@ -79,9 +79,10 @@ accepted_read name s s' K file T shown a read =
 pub accepted_short : (name : List ℕ) (s s' : ShelfSide) (K : List Bound) (file : List ℕ) → file_shown s.files (Some name) ≡ Some file → Accepted name s s' K → length file ≤ max_file
 accepted_short name s s' K file shown a = subst (λ (f : List ℕ). length f ≤ max_file) (same_file s.files name file a.file shown a.holds.is) a.holds.short
 
-pub refused_as : (name : List ℕ) (s s' : ShelfSide) (k : ℕ) (kind : FileKind) (file : List ℕ) → file_shown s.files (Some name) ≡ Some file → RefusedFile name s s' k kind → (length file ≤ max_file) × Refuses file k kind
-refused_as name s s' k kind file shown r =
-    subst (λ (f : List ℕ). (length f ≤ max_file) × Refuses f k kind) (same_file s.files name file r.file shown r.holds.is) (r.holds.short, r.refused)
+pub refused_as : (refuses : List ℕ → ℕ → FileKind → Type 0) (name : List ℕ) (s s' : ShelfSide) (k : ℕ) (kind : FileKind) (file : List ℕ) → file_shown s.files (Some name) ≡ Some file → RefusedFile refuses name s s' k kind
+    → (length file ≤ max_file) × refuses file k kind
+refused_as refuses name s s' k kind file shown r =
+    subst (λ (f : List ℕ). (length f ≤ max_file) × refuses f k kind) (same_file s.files name file r.file shown r.holds.is) (r.holds.short, r.refused)
 
 -- ---- by the form
 
@@ -92,6 +93,7 @@ for_run (Some (running keys name)) files P h = by_some (file_shown files (Some n
 for_run (Some (checking name)) files P h = by_some (file_shown files None) _ (λ file shown. absurd (no_name files file shown))
 for_run (Some (generating number name)) files P h = by_some (file_shown files None) _ (λ file shown. absurd (no_name files file shown))
 for_run (Some (showing name)) files P h = by_some (file_shown files None) _ (λ file shown. absurd (no_name files file shown))
+for_run (Some (grouping name)) files P h = by_some (file_shown files None) _ (λ file shown. absurd (no_name files file shown))
 
 pub for_check : (f : Option Form) (files : Option Files) (P : List ℕ → Type 0) → ((name file : List ℕ) → f ≡ Some (checking name) → file_shown files (Some name) ≡ Some file → P file)
     → IfChecks f files P
@@ -100,6 +102,7 @@ for_check (Some (running keys name)) files P h = by_some (file_shown files None)
 for_check (Some (checking name)) files P h = by_some (file_shown files (Some name)) _ (λ file shown. h name file refl shown)
 for_check (Some (generating number name)) files P h = by_some (file_shown files None) _ (λ file shown. absurd (no_name files file shown))
 for_check (Some (showing name)) files P h = by_some (file_shown files None) _ (λ file shown. absurd (no_name files file shown))
+for_check (Some (grouping name)) files P h = by_some (file_shown files None) _ (λ file shown. absurd (no_name files file shown))
 
 pub for_generated : (f : Option Form) (files : Option Files) (P : ℕ → List ℕ → Type 0) → ((number : ℕ) (name file : List ℕ) → f ≡ Some (generating number name) → file_shown files (Some name) ≡ Some file → P number file)
     → IfGenerates f files P
@@ -108,6 +111,7 @@ for_generated (Some (running keys name)) files P h = by_some (file_shown files N
 for_generated (Some (checking name)) files P h = by_some (file_shown files None) _ (λ file shown. absurd (no_name files file shown))
 for_generated (Some (generating number name)) files P h = by_some (file_shown files (Some name)) _ (λ file shown. h number name file refl shown)
 for_generated (Some (showing name)) files P h = by_some (file_shown files None) _ (λ file shown. absurd (no_name files file shown))
+for_generated (Some (grouping name)) files P h = by_some (file_shown files None) _ (λ file shown. absurd (no_name files file shown))
 
 pub for_show : (f : Option Form) (files : Option Files) (P : List ℕ → Type 0) → ((name file : List ℕ) → f ≡ Some (showing name) → file_shown files (Some name) ≡ Some file → P file)
     → IfShows f files P
@@ -116,3 +120,13 @@ for_show (Some (running keys name)) files P h = by_some (file_shown files None) 
 for_show (Some (checking name)) files P h = by_some (file_shown files None) _ (λ file shown. absurd (no_name files file shown))
 for_show (Some (generating number name)) files P h = by_some (file_shown files None) _ (λ file shown. absurd (no_name files file shown))
 for_show (Some (showing name)) files P h = by_some (file_shown files (Some name)) _ (λ file shown. h name file refl shown)
+for_show (Some (grouping name)) files P h = by_some (file_shown files None) _ (λ file shown. absurd (no_name files file shown))
+
+pub for_group : (f : Option Form) (files : Option Files) (P : List ℕ → Type 0) → ((name file : List ℕ) → f ≡ Some (grouping name) → file_shown files (Some name) ≡ Some file → P file)
+    → IfGroups f files P
+for_group None files P h = by_some (file_shown files None) _ (λ file shown. absurd (no_name files file shown))
+for_group (Some (running keys name)) files P h = by_some (file_shown files None) _ (λ file shown. absurd (no_name files file shown))
+for_group (Some (checking name)) files P h = by_some (file_shown files None) _ (λ file shown. absurd (no_name files file shown))
+for_group (Some (generating number name)) files P h = by_some (file_shown files None) _ (λ file shown. absurd (no_name files file shown))
+for_group (Some (showing name)) files P h = by_some (file_shown files None) _ (λ file shown. absurd (no_name files file shown))
+for_group (Some (grouping name)) files P h = by_some (file_shown files (Some name)) _ (λ file shown. h name file refl shown)
