@@ -17,7 +17,7 @@ use Rattle.sj_group_run.proofs.Fits.{EachRow}
 -- ---- what comes next of the rows
 
 module _ (a : Aggregate) where
-  by_taking : Row → Series Row → Bool → Series Row
+  abbrev by_taking : Row → Series Row → Bool → Series Row
   by_taking row rows b = cond b (more row (kept a rows)) (raises S22004)
 
   -- a row that is taken
@@ -99,3 +99,46 @@ all_gathered a whole left old now result f none same = record { aggregate = same
 -- where it stopped, nothing is said of rows
 pub gathered_no_more : {T E : Type 0} (rows : List Row) (old now : HeldGroups) (e : E) → now.aggregate ≡ old.aggregate → Gathered {T = T} rows old now (Err e)
 gathered_no_more rows old now e same = record { aggregate = same; stands = λ before s. tt }
+
+-- ---- rows that are added, some after the others
+
+-- Those that were added stand before those that are left, behind what the groups stood for.
+pub record AddedSoFar (whole left : List Row) (old now : HeldGroups) : Type 0 where
+  pub gathered : List Row
+  pub rows : whole ≡ gathered ++ left
+  pub aggregate : now.aggregate ≡ old.aggregate
+  pub stands : (before : List Row) → StandsForRows before old → StandsForRows (before ++ gathered) now
+
+pub none_added : (whole left : List Row) (groups : HeldGroups) → left ≡ whole → AddedSoFar whole left groups groups
+none_added whole left groups is = record {
+  gathered = [];
+  rows = sym is;
+  aggregate = refl;
+  stands = λ before s. subst (λ (l : List Row). StandsForRows l groups) (sym (append-nil before)) s;
+}
+
+pub more_added : {T E : Type 0} (whole left left' rows : List Row) (old now new : HeldGroups) (result : Result T E) (x : T) → AddedSoFar whole left old now → left ≡ rows ++ left' → Gathered rows now new result → result ≡ Ok x → AddedSoFar whole left' old new
+more_added whole left left' rows old now new result x f is g ok = record {
+  gathered = f.gathered ++ rows;
+  rows = f.rows ∙ ap (λ (l : List Row). f.gathered ++ l) is ∙ sym (append_assoc f.gathered rows left');
+  aggregate = g.aggregate ∙ f.aggregate;
+  stands = λ before s. subst (λ (l : List Row). StandsForRows l new) (append_assoc before f.gathered rows) (of_ok result x ok (g.stands (before ++ f.gathered) (f.stands before s)));
+}
+  where
+    of_ok : {T E : Type 0} {A : Type 0} (r : Result T E) (x : T) → r ≡ Ok x → OnOk r A → A
+    of_ok (Ok y) x e h = h
+    of_ok (Err y) x e h = absurd (cc e)
+
+-- no row is left
+pub all_added : {T E : Type 0} (whole left : List Row) (old now : HeldGroups) (result : Result T E) → AddedSoFar whole left old now → left ≡ [] → Gathered whole old now result
+all_added whole left old now result f none = record { aggregate = f.aggregate; stands = λ before s. on result (stands before s) }
+  where
+    all : whole ≡ f.gathered
+    all = f.rows ∙ ap (λ (l : List Row). f.gathered ++ l) none ∙ append-nil f.gathered
+
+    stands : (before : List Row) → StandsForRows before old → StandsForRows (before ++ whole) now
+    stands before s = subst (λ (l : List Row). StandsForRows (before ++ l) now) (sym all) (f.stands before s)
+
+    on : {T E : Type 0} {A : Type 0} (r : Result T E) → A → OnOk r A
+    on (Ok x) h = h
+    on (Err e) h = tt

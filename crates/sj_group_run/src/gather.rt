@@ -98,12 +98,12 @@ fn gather_each<'a, O: Sink>(
 }
 
 /// Gathers the rows of a statement for lines that were read together, by cursors that are made for them alone.
-pub(crate) fn gather_batch<O: Sink>(
+pub(crate) fn gather_batch<'a, O: Sink>(
     alloc: Global,
     out: &mut Out<'_, O>,
     gatherer: &mut Gatherer,
-    statement: &Bound,
-    lines: &[ReadLine],
+    statement: &'a Bound,
+    lines: &'a [ReadLine],
 ) -> Result<(), Stop>
     requires sound { IsSound (bound_of statement.now) }
     requires fits { CanGroup gatherer.old.groups.aggregate (bound_of statement.now) }

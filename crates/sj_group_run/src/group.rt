@@ -1,7 +1,7 @@
 // A run that groups the rows of an input.
 ghost use Rattle.std.specs.Prelude.{◌≡◌, [], length, map};
 ghost use Rattle.sj_bound.specs.View.{bound_of};
-ghost use Rattle.sj_page.specs.Pages.{empty_page};
+ghost use Rattle.sj_page.specs.Pages.{empty_page, print_state};
 ghost use Rattle.sj_file.specs.Piece.{max_piece};
 ghost use Rattle.sj_file.specs.ToGroup.{IsReadyToGroup};
 ghost use Rattle.sj_stream.specs.Input.{input_at};
@@ -51,18 +51,44 @@ pub fn group_lines<I: Source, O: Sink>(
         lines: Lines::new(alloc),
         printer: Gathering::new(alloc, to_group),
     };
-    let mut written = Out {
-        sink: out,
-        page: &mut page,
+    match gather_lines(
+        input,
+        piece.as_mut_slice(),
+        &mut taker,
+        out,
+        &mut page,
         steps,
-    };
-    match take_lines(input, piece.as_mut_slice(), &mut taker, &mut written) {
+    ) {
         Status::Done => write_groups(alloc, &taker.printer.gatherer.groups, out),
         status => status,
     }
 }
 
-/// Turn after turn, to the end of the input.
+/// Gathers the rows of all lines of an input, and writes their error rows. The page begins empty.
+fn gather_lines<I: Source, O: Sink>(
+    input: &mut I,
+    piece: &mut [u8],
+    taker: &mut LinesOf<Gathering<'_>>,
+    out: &mut O,
+    page: &mut Page,
+    steps: &mut Steps,
+) -> Status
+    requires a_piece { length piece.old ≡ max_piece }
+    requires empty { page.old ≡ empty_page }
+    requires begins { (taker.old.lines ≡ kept_of []) × ((job : LineJob) × Saw taker.old.printer.to_group.now taker.old.printer.gatherer.groups job []) }
+    ensures { (job : LineJob) → Saw taker.old.printer.to_group.now taker.old.printer.gatherer.groups job [] →
+        StreamedWith (λ bytes. Saw taker.new.printer.to_group.now taker.new.printer.gatherer.groups job (map seen (lines bytes))) job
+        (input_at I.Source input.old steps.old) (input_at I.Source input.new steps.new) (out_at O.Sink out.old) (print_state O.taken O.size O.faults out.new page.new) result }
+{
+    let mut written = Out {
+        sink: out,
+        page,
+        steps,
+    };
+    take_lines(input, piece, taker, &mut written)
+}
+
+/// The same, turn after turn.
 fn take_lines<I: Source, O: Sink>(
     input: &mut I,
     piece: &mut [u8],

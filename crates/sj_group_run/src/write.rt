@@ -12,6 +12,7 @@ use sj_file::Status;
 use sj_group::Groups;
 use sj_outside::Sink;
 use sj_page::{Page, Stop};
+use sj_stream::status_of;
 use std::alloc::Global;
 
 /// Writes the texts of all groups, a page at a time, and says how that ended.
@@ -21,8 +22,7 @@ pub(crate) fn write_groups<O: Sink>(alloc: Global, groups: &Groups, out: &mut O)
     let mut page = Page::new(alloc);
     match print_groups(groups, out, &mut page) {
         Ok(()) => Status::Done,
-        Err(Stop::Memory) => Status::Memory,
-        Err(Stop::Output) => Status::WriteFault,
+        Err(stop) => status_of(stop),
     }
 }
 
@@ -34,10 +34,14 @@ fn print_groups<O: Sink>(groups: &Groups, out: &mut O, page: &mut Page) -> Resul
 {
     let mut i = 0;
     while i < groups.len() {
-        if groups.group_text(i, &mut page.text).is_err() {
-            return Err(Stop::Memory);
+        match groups.group_text(i, &mut page.text) {
+            Ok(()) => {}
+            Err(_) => return Err(Stop::Memory),
         }
-        page.row_came(out)?;
+        match page.row_came(out) {
+            Ok(()) => {}
+            Err(stop) => return Err(stop),
+        }
         i += 1;
     }
     page.write(out)

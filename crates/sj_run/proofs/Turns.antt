@@ -48,22 +48,6 @@ state_left line k (raises t) s is = raised_same line k t s is
         ap (error_print line k) (sym same)
 state_left line k (more x xs) s is = absurd (cc is)
 
-pub spent_on : (due due' steps later start whole : ℕ) → Spends due due' steps later → raised steps due ≤ raised start whole → raised later due' ≤ raised start whole
-spent_on due due' steps later start whole s all = omega (arith, s.falls, s.costs, all)
-
-pub spent_last : (due due' steps later start whole : ℕ) → Spends due due' steps later → raised steps due ≤ raised start whole → later ≤ raised start whole
-spent_last due due' steps later start whole s all = omega (arith, s.falls, s.costs, all)
-
--- ---- the rows begin
-
-pub rows_start : (s : Bound) (line : Line) (left : Series (List SqlValue)) → left ≡ statement_rows s line → left ≡ rows_given s line
-unfolding rows_given
-rows_start s line left is = is
-
-pub costs_start : (s : Bound) (line : Line) (due : ℕ) → due ≡ statement_cost s line → due ≡ cost_given s line
-unfolding cost_given
-costs_start s line due is = is
-
 -- ---- the rows go to the next
 
 pub turn_row : (line k : ℕ) (old new : Seen) (t : Turn) → Gives old new t → t ≡ turn.Row → rows_print line k old.left ≡ followed_by (row_print line k (first old.left)) (rows_print line k new.left)
@@ -130,11 +114,3 @@ pub statement_cost_first : (P : List Bound) (i n l : ℕ) (line seen : Line) (p 
     → cost (asked_from n (drop i P) l line) ≡ cost_given p seen + cost (asked_from (n + 1) (drop (i + 1) P) l line)
 statement_cost_first P i n l line seen p is same =
     ap (λ (q : List Bound). cost (asked_from n q l line)) is ∙ ap (λ (x : Line). cost_given p x + cost (asked_from (n + 1) (drop (i + 1) P) l line)) (sym same)
-
--- ---- steps
-
-pub cost_step : (start steps later whole all here left : ℕ) → later ≤ raised steps here → all ≡ here + left → raised steps all ≤ raised start whole → raised later left ≤ raised start whole
-cost_step start steps later whole all here left spent is within = omega (arith, spent, is, within)
-
-pub cost_stop : (start steps later whole all here left : ℕ) → later ≤ raised steps here → all ≡ here + left → raised steps all ≤ raised start whole → later ≤ raised start whole
-cost_stop start steps later whole all here left spent is within = omega (arith, spent, is, within)

@@ -8,3 +8,5 @@ pub mod Loans
 mod Feeding
 -- for crates above
 pub mod Then
+-- for crates above
+pub mod Pages

@@ -7,7 +7,7 @@
 //!
 //! A line job says what each line prints and how many steps that may take. For every one that a taker does, and every cut of the
 //! input, the contract of [`take_turns`] says what was written when the run is over, why it is over, and how many steps it
-//! took.
+//! took. A line job may also have a text that comes behind all lines; whoever prints that says so with `specs/Then.antt`.
 #![tactic(auto)]
 
 mod lines_of;
@@ -20,4 +20,4 @@ pub use lines_of::LinesOf;
 pub use out::Out;
 pub use prints_lines::PrintsLines;
 pub use takes_pieces::TakesPieces;
-pub use turns::{MAX_INPUT, Progress, take_turns};
+pub use turns::{MAX_INPUT, Progress, status_of, take_turns};

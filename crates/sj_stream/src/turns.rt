@@ -66,7 +66,7 @@ fn end<T: TakesPieces, O: Sink>(taker: &mut T, out: &mut Out<'_, O>) -> Result<(
 }
 
 /// How a run ends where rows are printed no further.
-fn status_of(stop: Stop) -> Status
+pub fn status_of(stop: Stop) -> Status
     ensures { result ≡ spec.status_of stop }
 {
     match stop {
