@@ -21,20 +21,25 @@ use Rattle.sj_file.specs.declared.job.Keys.TheVariants.{Any}
 use Rattle.sj_file.specs.declared.status.Status.{Status}
 use Rattle.sj_file.specs.declared.status.Status.TheVariants.{Done, Usage, Refused, ShelfFault, ReadFault, WriteFault, Memory, InputLimit, FileTooLong}
 use Rattle.sj_file.specs.Piece.{max_piece}
-use Rattle.sj_file.specs.File.{ShelfSide, Form, running, checking, generating, showing, named_in, file_named, file_run, file_shown}
+use Rattle.sj_file.specs.File.{ShelfSide, Form, running, checking, generating, showing, grouping, named_in, file_named, file_run, file_shown}
 use Rattle.sj_file.specs.Verdict.{Accepts, IsReadAs, Refuses}
+use Rattle.sj_file.specs.ToGroup.{RefusesFor}
 use Rattle.sj_file.specs.Conditions.{IfRuns, IfChecks, IfGenerates, IfShows, IfNames, IfAccepted, IfRead, IsOrMemory}
 use Rattle.sj_file.proofs.Verdicts.{one_accepted, not_both}
 use Rattle.sj_file.proofs.ShownFiles.{by_some, no_name, past_limit, long_file, left_of, no_file, accepted_as, accepted_read, accepted_short, refused_as, for_run, for_check, for_generated, for_show}
 use Rattle.sj_file.proofs.ShownAgain.{canonical}
+use Rattle.sj_file.proofs.Grouped.{one_refusal_for, not_unfit}
 use Rattle.sj_file.proofs.Unaccepted.{only_memory, this_refusal, too_long_alone, absent_alone}
 use Rattle.sj_stream.specs.Input.{InputSide}
-use Rattle.sj_stream.specs.LineJob.{LineJob, output, whole_output, allowed}
+use Rattle.sj_stream.specs.LineJob.{LineJob, output, whole_output, allowed, text_behind}
+use Rattle.sj_stream.specs.Then.{Ends, StreamedThen}
+use Rattle.sj_group_run.specs.GroupJob.{group_job}
 use Rattle.sj_run.specs.Output.{job}
 use Rattle.sj_stream.specs.Stream.{IsPrefix, IsWhy, Streamed, IsFrontOf, WroteLeast, WroteWhole, StepsWithin, TookMost}
 use Rattle.sj_run.specs.Summary.{summary_text}
-use Rattle.sj_run.specs.Ran.{Moment, accepted_text, WroteCanonical, Tells, RanGenerated, Does, Idle, Did, RanOver, Ran, IsBefore}
+use Rattle.sj_run.specs.Ran.{Moment, accepted_text, WroteCanonical, Tells, RanGenerated, Does, Idle, Did, RanOver, Ran, IsRefusedBy, IsBefore}
 use Rattle.sj_stream.proofs.Steps.{raised_none}
+use Rattle.sj_stream.proofs.Then.{all_taken}
 use Rattle.sj_stream.proofs.Streaming.{whole_output-append, output-end, prefix_trans, consumes_none, told, streamed_front}
 
 -- ---- what was done
@@ -70,23 +75,39 @@ tells_not_before text o o' ShelfFault why is = why
 tells_not_before text o o' FileTooLong why is = why
 tells_not_before text o o' (Refused k kind) why is = why
 
+ends_not_before : (text : List ℕ) (o o' : OutputSide) (status : Status) → Ends text o o' status → IsBefore status → ⊥
+ends_not_before text o o' Done why is = is
+ends_not_before text o o' ReadFault why is = is
+ends_not_before text o o' WriteFault why is = is
+ends_not_before text o o' InputLimit why is = is
+ends_not_before text o o' Memory why is = is
+ends_not_before text o o' Usage why is = why
+ends_not_before text o o' ShelfFault why is = why
+ends_not_before text o o' FileTooLong why is = why
+ends_not_before text o o' (Refused k kind) why is = why
+
+then_not_before : (K : LineJob) (i i' : InputSide) (o o' : OutputSide) (status : Status) → StreamedThen K i i' o o' status → IsBefore status → ⊥
+then_not_before K i i' o o' status (inl x) is = streamed_not_before K i i' o (record { out = o'; page = x.page }) status x.streamed is
+then_not_before K i i' o o' status (inr b) is = ends_not_before (text_behind K b.streamed.bytes) b.mid.out o' status b.ends is
+
 not_before : (f : Form) (T : List (Statement Path)) (K : List Bound) (i i' : InputSide) (o o' : OutputSide) (status : Status) → Does f T K i i' o o' status → IsBefore status → ⊥
 not_before (running keys name) T K i i' o o' status d is = streamed_not_before (job keys K) i i' o (record { out = o'; page = d.0 }) status d.1 is
 not_before (checking name) T K i i' o o' status d is = tells_not_before (accepted_text K) o o' status d.1 is
 not_before (generating number name) T K i i' o o' status d is = tells_not_before (summary_text number K) o o' status d.1 is
 not_before (showing name) T K i i' o o' status d is = tells_not_before (lines_text T) o o' status d.1 is
+not_before (grouping name) T K i i' o o' status d is = then_not_before (group_job d.aggregate d.statement) i i' o o' status d.streamed is
 
 -- ---- by the form
 
 -- either no file was accepted, or this was done with its statements
 either : (f : Form) (name : List ℕ) (b a : Moment) (status : Status) (file : List ℕ) (K : List Bound) (Q : Type 0) → file_shown b.shelf.files (Some name) ≡ Some file → Accepts file K → RanOver f (Some name) b a status
-    → (Idle name b a status → Q) → ((T : List (Statement Path)) → Does f T K b.input a.input b.out a.out status → Q) → Q
+    → (Idle f name b a status → Q) → ((T : List (Statement Path)) → Does f T K b.input a.input b.out a.out status → Q) → Q
 either f name b a status file K Q shown accepts (inl idle) h g = h idle
 either f name b a status file K Q shown accepts (inr d) h g = g d.accepted.accepted.statements (does_with f name b a status file K shown accepts d)
 
 -- What holds where no file was accepted, and where its statements were run, holds of a run. So for the other two forms.
 on_run : (f : Option Form) (b a : Moment) (status : Status) (P : Keys → List Bound → Type 0) → Ran f b a status
-    → ((keys : Keys) (K : List Bound) (name : List ℕ) → Idle name b a status → P keys K)
+    → ((keys : Keys) (K : List Bound) (name : List ℕ) → Idle (running keys name) name b a status → P keys K)
     → ((keys : Keys) (K : List Bound) (page : Page) → Streamed (job keys K) b.input a.input b.out (record { out = a.out; page = page }) status → P keys K)
     → IfRuns f b.shelf.files (λ keys file. IfAccepted file (P keys))
 on_run f b a status P r idle ran =
@@ -95,7 +116,7 @@ on_run f b a status P r idle ran =
     either (running keys name) name b a status file K (P keys K) shown accepts (subst (λ (x : Option Form). Ran x b a status) is r) (idle keys K name) (λ T d. ran keys K d.0 d.1))
 
 on_check : (f : Option Form) (b a : Moment) (status : Status) (P : List Bound → Type 0) → Ran f b a status
-    → ((K : List Bound) (name : List ℕ) → Idle name b a status → P K) → ((K : List Bound) → Tells (accepted_text K) b.out a.out status → P K)
+    → ((K : List Bound) (name : List ℕ) → Idle (checking name) name b a status → P K) → ((K : List Bound) → Tells (accepted_text K) b.out a.out status → P K)
     → IfChecks f b.shelf.files (λ file. IfAccepted file P)
 on_check f b a status P r idle told =
     for_check f b.shelf.files (λ file. IfAccepted file P)
@@ -103,7 +124,7 @@ on_check f b a status P r idle told =
     either (checking name) name b a status file K (P K) shown accepts (subst (λ (x : Option Form). Ran x b a status) is r) (idle K name) (λ T d. told K d.1))
 
 on_generated : (f : Option Form) (b a : Moment) (status : Status) (P : ℕ → List Bound → Type 0) → Ran f b a status
-    → ((number : ℕ) (K : List Bound) (name : List ℕ) → Idle name b a status → P number K)
+    → ((number : ℕ) (K : List Bound) (name : List ℕ) → Idle (generating number name) name b a status → P number K)
     → ((number : ℕ) (K : List Bound) → RanGenerated number K b.input a.input → Tells (summary_text number K) b.out a.out status → P number K)
     → IfGenerates f b.shelf.files (λ number file. IfAccepted file (P number))
 on_generated f b a status P r idle told =
@@ -113,7 +134,7 @@ on_generated f b a status P r idle told =
 
 -- What holds where no file was accepted, and where its canonical text was told, holds of a file that is shown.
 on_show : (f : Option Form) (b a : Moment) (status : Status) (P : List (Statement Path) → Type 0) → Ran f b a status
-    → ((T : List (Statement Path)) (name : List ℕ) → Idle name b a status → P T) → ((T : List (Statement Path)) → Tells (lines_text T) b.out a.out status → P T)
+    → ((T : List (Statement Path)) (name : List ℕ) → Idle (showing name) name b a status → P T) → ((T : List (Statement Path)) → Tells (lines_text T) b.out a.out status → P T)
     → IfShows f b.shelf.files (λ file. IfRead file P)
 on_show f b a status P r idle told =
     for_show f b.shelf.files (λ file. IfRead file P)
@@ -126,12 +147,6 @@ on_show f b a status P r idle told =
 
 -- ---- runs over the input
 
-pub all_taken : (left left' : Option (List ℕ)) (all bytes : List ℕ) → left ≡ Some all → Consumes left left' bytes → IsAtEnd left' → bytes ≡ all
-all_taken left left' all bytes is took end =
-    let t = told left left' all bytes is took in
-    let none : t.0 ≡ [] = subst IsAtEnd t.1 end in
-    sym (t.2 ∙ ap (λ (r : List ℕ). bytes ++ r) none ∙ append-nil bytes)
-
 -- what a run that is Done has written
 pub ran_headline : (f : Option Form) (b a : Moment) (status : Status) → Ran f b a status → status ≡ Done
     → IfRuns f b.shelf.files (λ keys file. IfAccepted file (λ K. IfSome b.input.left (λ all. Grew b.out a.out (output (job keys K) all))))
@@ -141,7 +156,7 @@ ran_headline f b a status r done =
     (λ keys K page s. by_some b.input.left _ (λ all left.
     subst (Grew b.out a.out) (s.why.0 ∙ ap (output (job keys K)) (all_taken b.input.left a.input.left all s.bytes left s.consumed s.why.1)) s.grew))
 
-idle_front : (whole : List ℕ) (o o' : OutputSide) → o' ≡ o → IsFrontOf whole o o'
+pub idle_front : (whole : List ℕ) (o o' : OutputSide) → o' ≡ o → IsFrontOf whole o o'
 idle_front whole o o' same = record { text = []; grew = subst (λ (p : OutputSide). Grew o p []) (sym same) (grew_none o); front = (whole, refl) }
 
 -- what was written is a front of the output, however the run ended
@@ -207,7 +222,7 @@ ran_least f b a status r =
     (λ keys K name idle. idle_least (job keys K) b.input a.input b.out a.out idle.input idle.out)
     (λ keys K page s. streamed_least (job keys K) b.input a.input b.out (record { out = a.out; page = page }) status s)
 
-idle_within : (K : LineJob) (i i' : InputSide) → i' ≡ i → StepsWithin K i i'
+pub idle_within : (K : LineJob) (i i' : InputSide) → i' ≡ i → StepsWithin K i i'
 idle_within K i i' same = subst (λ (p : InputSide). StepsWithin K i p) (sym same) (record { bytes = []; consumed = consumes_none i.left; costs = raised_none i.steps (allowed K []) })
 
 -- however a run ended, its steps are within what the lines of the bytes taken allow
@@ -243,6 +258,7 @@ ran_to_end (Some (running keys name)) b a status r so = at_end (subst (Ran (Some
 ran_to_end (Some (checking name)) b a status r so = tt
 ran_to_end (Some (generating number name)) b a status r so = tt
 ran_to_end (Some (showing name)) b a status r so = tt
+ran_to_end (Some (grouping name)) b a status r so = tt
 
 -- ---- when a command is done
 
@@ -269,7 +285,7 @@ ran_completes f b a status r shelf read out =
     for_run f b.shelf.files (λ keys file. length file ≤ max_file → IfAccepted file (λ K. IfSome b.input.left (λ all. length all < max_input → IsOrMemory status Done)))
     (λ keys name file is shown short K accepts. by_some b.input.left _ (λ all left fits.
     either (running keys name) name b a status file K _ shown accepts (subst (λ (x : Option Form). Ran x b a status) is r)
-    (λ idle. inr (only_memory name b.shelf a.shelf status file K shown accepts short shelf idle.why))
+    (λ idle. inr (only_memory Refuses name b.shelf a.shelf status file shown (λ k kind. not_both file K k kind accepts) short shelf idle.why))
     (λ T d. streamed_complete (job keys K) b.input a.input b.out (record { out = a.out; page = d.0 }) status all left fits read out d.1)))
 
 tells_complete : (text : List ℕ) (o o' : OutputSide) (status : Status) → (Rose o.faults o'.faults → ⊥) → Tells text o o' status → IsOrMemory status Done
@@ -313,7 +329,7 @@ ran_check_completes f b a status r shelf out =
     for_check f b.shelf.files (λ file. length file ≤ max_file → IfAccepted file (λ K. IsOrMemory status Done))
     (λ name file is shown short K accepts.
     either (checking name) name b a status file K _ shown accepts (subst (λ (x : Option Form). Ran x b a status) is r)
-    (λ idle. inr (only_memory name b.shelf a.shelf status file K shown accepts short shelf idle.why)) (λ T d. tells_complete (accepted_text K) b.out a.out status out d.1))
+    (λ idle. inr (only_memory Refuses name b.shelf a.shelf status file shown (λ k kind. not_both file K k kind accepts) short shelf idle.why)) (λ T d. tells_complete (accepted_text K) b.out a.out status out d.1))
 
 -- ---- canonical texts
 
@@ -349,7 +365,7 @@ ran_show_completes f b a status r shelf out =
     for_show f b.shelf.files (λ file. length file ≤ max_file → IfAccepted file (λ K. IsOrMemory status Done))
     (λ name file is shown short K accepts.
     either (showing name) name b a status file K _ shown accepts (subst (λ (x : Option Form). Ran x b a status) is r)
-    (λ idle. inr (only_memory name b.shelf a.shelf status file K shown accepts short shelf idle.why)) (λ T d. tells_complete (lines_text T) b.out a.out status out d.1))
+    (λ idle. inr (only_memory Refuses name b.shelf a.shelf status file shown (λ k kind. not_both file K k kind accepts) short shelf idle.why)) (λ T d. tells_complete (lines_text T) b.out a.out status out d.1))
 
 -- ---- runs over generated lines
 
@@ -370,7 +386,7 @@ ran_generated_completes f b a status r shelf out =
     for_generated f b.shelf.files (λ number file. length file ≤ max_file → IfAccepted file (λ K. IsOrMemory status Done))
     (λ number name file is shown short K accepts.
     either (generating number name) name b a status file K _ shown accepts (subst (λ (x : Option Form). Ran x b a status) is r)
-    (λ idle. inr (only_memory name b.shelf a.shelf status file K shown accepts short shelf idle.why)) (λ T d. tells_complete (summary_text number K) b.out a.out status out d.1))
+    (λ idle. inr (only_memory Refuses name b.shelf a.shelf status file shown (λ k kind. not_both file K k kind accepts) short shelf idle.why)) (λ T d. tells_complete (summary_text number K) b.out a.out status out d.1))
 
 idle_steps : (i i' : InputSide) (n : ℕ) → i' ≡ i → i'.steps ≤ raised i.steps n
 idle_steps i i' n same = subst (λ (p : InputSide). p.steps ≤ raised i.steps n) (sym same) (raised_none i.steps n)
@@ -383,27 +399,36 @@ ran_generated_within f b a status r =
 
 -- ---- refusals
 
+-- statements with which something was done are not refused
+did_not_refuse : (f : Form) (name : List ℕ) (b a : Moment) (status : Status) (file : List ℕ) (n : ℕ) (other : FileKind) → Did f name b a status → file_shown b.shelf.files (Some name) ≡ Some file → RefusesFor f file n other → ⊥
+did_not_refuse (running keys named) name b a status file n other d shown bad = not_both file d.statements n other (accepted_as name b.shelf a.shelf d.statements file shown d.accepted) bad
+did_not_refuse (checking named) name b a status file n other d shown bad = not_both file d.statements n other (accepted_as name b.shelf a.shelf d.statements file shown d.accepted) bad
+did_not_refuse (generating number named) name b a status file n other d shown bad = not_both file d.statements n other (accepted_as name b.shelf a.shelf d.statements file shown d.accepted) bad
+did_not_refuse (showing named) name b a status file n other d shown bad = not_both file d.statements n other (accepted_as name b.shelf a.shelf d.statements file shown d.accepted) bad
+did_not_refuse (grouping named) name b a status file n other d shown bad =
+    not_unfit file d.does.statement d.does.aggregate (subst (Accepts file) d.does.only (accepted_as name b.shelf a.shelf d.statements file shown d.accepted)) d.does.fits n other bad
+
 pub ran_refuses : (f : Option Form) (b a : Moment) (status : Status) → Ran f b a status → (Rose b.shelf.faults a.shelf.faults → ⊥)
-    → IfNames f b.shelf.files (λ file. length file ≤ max_file → (n : ℕ) (other : FileKind) → Refuses file n other → IsOrMemory status (Refused n other))
+    → IfNames f b.shelf.files (λ file. length file ≤ max_file → (n : ℕ) (other : FileKind) → IsRefusedBy f file n other → IsOrMemory status (Refused n other))
 ran_refuses None b a status r shelf = by_some (file_shown b.shelf.files None) _ (λ file shown. absurd (no_name b.shelf.files file shown))
 ran_refuses (Some f) b a status r shelf = over (named_in f) r
   where
-    over : (named : Option (List ℕ)) → RanOver f named b a status → IfSome (file_shown b.shelf.files named) (λ file. length file ≤ max_file → (n : ℕ) (other : FileKind) → Refuses file n other → IsOrMemory status (Refused n other))
+    over : (named : Option (List ℕ)) → RanOver f named b a status → IfSome (file_shown b.shelf.files named) (λ file. length file ≤ max_file → (n : ℕ) (other : FileKind) → RefusesFor f file n other → IsOrMemory status (Refused n other))
     over None d = by_some (file_shown b.shelf.files None) _ (λ file shown. absurd (no_name b.shelf.files file shown))
     over (Some name) (inl idle) =
-        by_some (file_shown b.shelf.files (Some name)) _ (λ file shown short n other bad. this_refusal name b.shelf a.shelf status file n other shown short bad shelf idle.why)
+        by_some (file_shown b.shelf.files (Some name)) _ (λ file shown short n other bad. this_refusal (RefusesFor f) name b.shelf a.shelf status file n other (λ k kind. one_refusal_for f file k n kind other) shown short bad shelf idle.why)
     over (Some name) (inr d) =
-        by_some (file_shown b.shelf.files (Some name)) _ (λ file shown short n other bad. absurd (not_both file d.statements n other (accepted_as name b.shelf a.shelf d.statements file shown d.accepted) bad))
+        by_some (file_shown b.shelf.files (Some name)) _ (λ file shown short n other bad. absurd (did_not_refuse f name b a status file n other d shown bad))
 
 -- a refusal is that of the file
 pub ran_refused : (f : Option Form) (b a : Moment) (status : Status) → Ran f b a status → (k : ℕ) (kind : FileKind) → status ≡ Refused k kind
-    → (a.shelf.faults ≡ b.shelf.faults) × IfNames f b.shelf.files (λ file. (length file ≤ max_file) × Refuses file k kind)
+    → (a.shelf.faults ≡ b.shelf.faults) × IfNames f b.shelf.files (λ file. (length file ≤ max_file) × IsRefusedBy f file k kind)
 ran_refused None b a status r k kind is = absurd (cc (r.0, is))
 ran_refused (Some f) b a status r k kind is = over (named_in f) (subst (Ran (Some f) b a) is r)
   where
-    over : (named : Option (List ℕ)) → RanOver f named b a (Refused k kind) → (a.shelf.faults ≡ b.shelf.faults) × IfSome (file_shown b.shelf.files named) (λ file. (length file ≤ max_file) × Refuses file k kind)
+    over : (named : Option (List ℕ)) → RanOver f named b a (Refused k kind) → (a.shelf.faults ≡ b.shelf.faults) × IfSome (file_shown b.shelf.files named) (λ file. (length file ≤ max_file) × RefusesFor f file k kind)
     over None d = absurd (not_before f [] [] b.input a.input b.out a.out (Refused k kind) d.does tt)
-    over (Some name) (inl idle) = (idle.why.holds.no_fault, by_some (file_shown b.shelf.files (Some name)) _ (λ file shown. refused_as name b.shelf a.shelf k kind file shown idle.why))
+    over (Some name) (inl idle) = (idle.why.holds.no_fault, by_some (file_shown b.shelf.files (Some name)) _ (λ file shown. refused_as (RefusesFor f) name b.shelf a.shelf k kind file shown idle.why))
     over (Some name) (inr d) = absurd (not_before f d.accepted.accepted.statements d.statements b.input a.input b.out a.out (Refused k kind) d.does tt)
 
 -- ---- files that are too long or absent
@@ -436,7 +461,7 @@ ran_finds_too_long (Some f) b a status r shelf = over (named_in f) r
   where
     over : (named : Option (List ℕ)) → RanOver f named b a status → IfSome (file_shown b.shelf.files named) (λ file. max_file < length file → IsOrMemory status FileTooLong)
     over None d = by_some (file_shown b.shelf.files None) _ (λ file shown. absurd (no_name b.shelf.files file shown))
-    over (Some name) (inl idle) = by_some (file_shown b.shelf.files (Some name)) _ (λ file shown long. too_long_alone name b.shelf a.shelf status file shown long shelf idle.why)
+    over (Some name) (inl idle) = by_some (file_shown b.shelf.files (Some name)) _ (λ file shown long. too_long_alone (RefusesFor f) name b.shelf a.shelf status file shown long shelf idle.why)
     over (Some name) (inr d) =
         by_some (file_shown b.shelf.files (Some name)) _ (λ file shown long. absurd (omega (arith, long, accepted_short name b.shelf a.shelf d.statements file shown d.accepted)))
 
@@ -447,7 +472,7 @@ ran_absent (Some f) b a status r = over (named_in f) r
   where
     over : (named : Option (List ℕ)) → RanOver f named b a status → IfSome b.shelf.files (λ files. IfSome named (λ name. files name ≡ None → IsOrMemory status ShelfFault))
     over None d = by_some b.shelf.files _ (λ files is. tt)
-    over (Some name) (inl idle) = by_some b.shelf.files _ (λ files is none. absent_alone name b.shelf a.shelf status files is none idle.why)
+    over (Some name) (inl idle) = by_some b.shelf.files _ (λ files is none. absent_alone (RefusesFor f) name b.shelf a.shelf status files is none idle.why)
     over (Some name) (inr d) = by_some b.shelf.files _ (λ files is none. absurd (no_file b.shelf.files files name d.accepted.file is none d.accepted.holds.is))
 
 -- ---- causes
@@ -485,11 +510,16 @@ ran_quiet (Some f) b a status r quiet = over (named_in f) r
         by_fault has (inl idle) = idle.why.1 quiet has
         by_fault has (inr d) = not_before f d.accepted.accepted.statements d.statements b.input a.input b.out a.out ShelfFault d.does tt
 
+then_read_rose : (K : LineJob) (i i' : InputSide) (o o' : OutputSide) → StreamedThen K i i' o o' ReadFault → Rose i.faults i'.faults × (o'.faults ≡ o.faults)
+then_read_rose K i i' o o' (inl x) = (x.streamed.why.1, x.streamed.why.2)
+then_read_rose K i i' o o' (inr b) = absurd b.ends
+
 read_rose : (f : Form) (T : List (Statement Path)) (K : List Bound) (i i' : InputSide) (o o' : OutputSide) → Does f T K i i' o o' ReadFault → Rose i.faults i'.faults × (o'.faults ≡ o.faults)
 read_rose (running keys name) T K i i' o o' d = (d.1.why.1, d.1.why.2)
 read_rose (checking name) T K i i' o o' d = absurd d.1
 read_rose (generating number name) T K i i' o o' d = absurd d.1
 read_rose (showing name) T K i i' o o' d = absurd d.1
+read_rose (grouping name) T K i i' o o' d = then_read_rose (group_job d.aggregate d.statement) i i' o o' d.streamed
 
 pub ran_read_rose : (f : Option Form) (b a : Moment) (status : Status) → Ran f b a status → status ≡ ReadFault → Rose b.input.faults a.input.faults × (a.out.faults ≡ b.out.faults)
 ran_read_rose None b a status r is = absurd (cc (r.0, is))
@@ -500,11 +530,16 @@ ran_read_rose (Some f) b a status r is = over (named_in f) (subst (Ran (Some f) 
     over (Some name) (inl idle) = absurd idle.why
     over (Some name) (inr d) = read_rose f d.accepted.accepted.statements d.statements b.input a.input b.out a.out d.does
 
+then_write_rose : (K : LineJob) (i i' : InputSide) (o o' : OutputSide) → StreamedThen K i i' o o' WriteFault → Rose o.faults o'.faults × (i'.faults ≡ i.faults)
+then_write_rose K i i' o o' (inl x) = (x.streamed.why.1, x.streamed.why.2)
+then_write_rose K i i' o o' (inr b) = (subst (λ (n : ℕ). Rose n o'.faults) b.streamed.why.4 b.ends.1, b.streamed.why.3)
+
 write_rose : (f : Form) (T : List (Statement Path)) (K : List Bound) (i i' : InputSide) (o o' : OutputSide) → Does f T K i i' o o' WriteFault → Rose o.faults o'.faults × (i'.faults ≡ i.faults)
 write_rose (running keys name) T K i i' o o' d = (d.1.why.1, d.1.why.2)
 write_rose (checking name) T K i i' o o' d = (d.1.1, ap (λ (p : InputSide). p.faults) d.0)
 write_rose (generating number name) T K i i' o o' d = (d.1.1, d.0.faults)
 write_rose (showing name) T K i i' o o' d = (d.1.1, ap (λ (p : InputSide). p.faults) d.0)
+write_rose (grouping name) T K i i' o o' d = then_write_rose (group_job d.aggregate d.statement) i i' o o' d.streamed
 
 pub ran_write_rose : (f : Option Form) (b a : Moment) (status : Status) → Ran f b a status → status ≡ WriteFault → Rose b.out.faults a.out.faults × (a.input.faults ≡ b.input.faults)
 ran_write_rose None b a status r is = absurd (cc (r.0, is))
@@ -515,11 +550,16 @@ ran_write_rose (Some f) b a status r is = over (named_in f) (subst (Ran (Some f)
     over (Some name) (inl idle) = absurd idle.why
     over (Some name) (inr d) = write_rose f d.accepted.accepted.statements d.statements b.input a.input b.out a.out d.does
 
+then_no_fault : (K : LineJob) (i i' : InputSide) (o o' : OutputSide) → StreamedThen K i i' o o' Done → (i'.faults ≡ i.faults) × (o'.faults ≡ o.faults)
+then_no_fault K i i' o o' (inl x) = absurd (x.not_done refl)
+then_no_fault K i i' o o' (inr b) = (b.streamed.why.3, b.ends.1 ∙ b.streamed.why.4)
+
 no_fault : (f : Form) (T : List (Statement Path)) (K : List Bound) (i i' : InputSide) (o o' : OutputSide) → Does f T K i i' o o' Done → (i'.faults ≡ i.faults) × (o'.faults ≡ o.faults)
 no_fault (running keys name) T K i i' o o' d = (d.1.why.3, d.1.why.4)
 no_fault (checking name) T K i i' o o' d = (ap (λ (p : InputSide). p.faults) d.0, d.1.1)
 no_fault (generating number name) T K i i' o o' d = (d.0.faults, d.1.1)
 no_fault (showing name) T K i i' o o' d = (ap (λ (p : InputSide). p.faults) d.0, d.1.1)
+no_fault (grouping name) T K i i' o o' d = then_no_fault (group_job d.aggregate d.statement) i i' o o' d.streamed
 
 pub ran_done : (f : Option Form) (b a : Moment) (status : Status) → Ran f b a status → status ≡ Done → (a.shelf.faults ≡ b.shelf.faults) × (a.input.faults ≡ b.input.faults) × (a.out.faults ≡ b.out.faults)
 ran_done None b a status r is = absurd (cc (r.0, is))
@@ -530,11 +570,16 @@ ran_done (Some f) b a status r is = over (named_in f) (subst (Ran (Some f) b a) 
     over (Some name) (inl idle) = absurd idle.why
     over (Some name) (inr d) = let same = no_fault f d.accepted.accepted.statements d.statements b.input a.input b.out a.out d.does in (d.accepted.holds.no_fault, same.0, same.1)
 
+then_no_fault_before : (K : LineJob) (i i' : InputSide) (o o' : OutputSide) → StreamedThen K i i' o o' Memory → (i'.faults ≡ i.faults) × (o'.faults ≡ o.faults)
+then_no_fault_before K i i' o o' (inl x) = (x.streamed.why.1, x.streamed.why.2)
+then_no_fault_before K i i' o o' (inr b) = (b.streamed.why.3, b.ends.1 ∙ b.streamed.why.4)
+
 no_fault_before : (f : Form) (T : List (Statement Path)) (K : List Bound) (i i' : InputSide) (o o' : OutputSide) → Does f T K i i' o o' Memory → (i'.faults ≡ i.faults) × (o'.faults ≡ o.faults)
 no_fault_before (running keys name) T K i i' o o' d = (d.1.why.1, d.1.why.2)
 no_fault_before (checking name) T K i i' o o' d = (ap (λ (p : InputSide). p.faults) d.0, ap (λ (p : OutputSide). p.faults) d.1)
 no_fault_before (generating number name) T K i i' o o' d = (d.0.faults, ap (λ (p : OutputSide). p.faults) d.1)
 no_fault_before (showing name) T K i i' o o' d = (ap (λ (p : InputSide). p.faults) d.0, ap (λ (p : OutputSide). p.faults) d.1)
+no_fault_before (grouping name) T K i i' o o' d = then_no_fault_before (group_job d.aggregate d.statement) i i' o o' d.streamed
 
 -- where memory ran out, no call had failed
 pub ran_memory : (f : Option Form) (b a : Moment) (status : Status) → Ran f b a status → status ≡ Memory → (a.shelf.faults ≡ b.shelf.faults) × (a.input.faults ≡ b.input.faults) × (a.out.faults ≡ b.out.faults)
@@ -548,11 +593,16 @@ ran_memory (Some f) b a status r is = over (named_in f) (subst (Ran (Some f) b a
 
 -- ---- the limit of an input
 
+then_took_most : (K : LineJob) (i i' : InputSide) (o o' : OutputSide) → StreamedThen K i i' o o' InputLimit → (i'.faults ≡ i.faults) × (o'.faults ≡ o.faults) × TookMost i.left i'.left
+then_took_most K i i' o o' (inl x) = (x.streamed.why.2, x.streamed.why.3, (x.streamed.bytes, x.streamed.consumed, x.streamed.why.1))
+then_took_most K i i' o o' (inr b) = absurd b.ends
+
 took_most : (f : Form) (T : List (Statement Path)) (K : List Bound) (b a : Moment) → Does f T K b.input a.input b.out a.out InputLimit → (a.input.faults ≡ b.input.faults) × (a.out.faults ≡ b.out.faults) × TookMost b.input.left a.input.left
 took_most (running keys name) T K b a d = (d.1.why.2, d.1.why.3, (d.1.bytes, d.1.consumed, d.1.why.1))
 took_most (checking name) T K b a d = absurd d.1
 took_most (generating number name) T K b a d = absurd d.1
 took_most (showing name) T K b a d = absurd d.1
+took_most (grouping name) T K b a d = then_took_most (group_job d.aggregate d.statement) b.input a.input b.out a.out d.streamed
 
 pub ran_input_limit : (f : Option Form) (b a : Moment) (status : Status) → Ran f b a status → status ≡ InputLimit → (a.input.faults ≡ b.input.faults) × (a.out.faults ≡ b.out.faults) × TookMost b.input.left a.input.left
 ran_input_limit None b a status r is = absurd (cc (r.0, is))
@@ -588,12 +638,18 @@ limit_by_why K i i' o o' ShelfFault all rest s is is' len read write = absurd s.
 limit_by_why K i i' o o' FileTooLong all rest s is is' len read write = absurd s.why
 limit_by_why K i i' o o' (Refused k kind) all rest s is is' len read write = absurd s.why
 
+then_limit_by_why : (K : LineJob) (i i' : InputSide) (o o' : OutputSide) (status : Status) (all rest : List ℕ) → StreamedThen K i i' o o' status → i.left ≡ Some all → i'.left ≡ Some rest
+    → length all ≡ length rest + max_input → (Rose i.faults i'.faults → ⊥) → (Rose o.faults o'.faults → ⊥) → IsOrMemory status InputLimit
+then_limit_by_why K i i' o o' status all rest (inl x) is is' len read write = limit_by_why K i i' o (record { out = o'; page = x.page }) status all rest x.streamed is is' len read write
+then_limit_by_why K i i' o o' status all rest (inr b) is is' len read write = absurd (omega (arith, b.streamed.why.2, taken i.left i'.left all rest b.streamed.bytes is is' b.streamed.consumed, len))
+
 does_limit : (f : Form) (T : List (Statement Path)) (K : List Bound) (i i' : InputSide) (o o' : OutputSide) (status : Status) (all rest : List ℕ) → Does f T K i i' o o' status → i.left ≡ Some all → i'.left ≡ Some rest
     → length all ≡ length rest + max_input → (Rose i.faults i'.faults → ⊥) → (Rose o.faults o'.faults → ⊥) → IsOrMemory status InputLimit
 does_limit (running keys name) T K i i' o o' status all rest d is is' len read write = limit_by_why (job keys K) i i' o (record { out = o'; page = d.0 }) status all rest d.1 is is' len read write
 does_limit (checking name) T K i i' o o' status all rest d is is' len read write = absurd (same_below i i' all rest (ap (λ (p : InputSide). p.left) d.0) is is' len)
 does_limit (generating number name) T K i i' o o' status all rest d is is' len read write = absurd (same_below i i' all rest d.0.left is is' len)
 does_limit (showing name) T K i i' o o' status all rest d is is' len read write = absurd (same_below i i' all rest (ap (λ (p : InputSide). p.left) d.0) is is' len)
+does_limit (grouping name) T K i i' o o' status all rest d is is' len read write = then_limit_by_why (group_job d.aggregate d.statement) i i' o o' status all rest d.streamed is is' len read write
 
 ends_limit : (f : Option Form) (b a : Moment) (status : Status) (all rest : List ℕ) → Ran f b a status → b.input.left ≡ Some all → a.input.left ≡ Some rest
     → length all ≡ length rest + max_input → (Rose b.input.faults a.input.faults → ⊥) → (Rose b.out.faults a.out.faults → ⊥) → IsOrMemory status InputLimit

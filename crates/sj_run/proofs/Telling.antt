@@ -23,7 +23,8 @@ use Rattle.sj_run.specs.Summary.{counts_text, summary_text}
 use Rattle.sj_run.specs.Ran.{moment, accepted_text, Tells, Ran}
 use Rattle.sj_stream.proofs.Steps.{counted_is}
 use Rattle.sj_stream.proofs.Streaming.{told}
-use Rattle.sj_run.proofs.Ending.{all_taken, streamed_complete}
+use Rattle.sj_stream.proofs.Then.{all_taken}
+use Rattle.sj_run.proofs.Ending.{streamed_complete}
 
 tells_done : {T E : Type 0} (text : List ℕ) (o o' : OutputSide) (r : Result T E) (x : T) → Wrote o o' text r → r ≡ Ok x → Tells text o o' Done
 tells_done text o o' (Ok y) x w ok = (subst (Grew o o') (sym (w.split ∙ ap (λ (t : List ℕ). w.written ++ t) w.whole ∙ append-nil w.written)) w.grew, w.cause.kept)

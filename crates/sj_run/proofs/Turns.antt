@@ -16,7 +16,8 @@ use Rattle.sj_rows.specs.RowText.{row_bytes}
 use Rattle.sj_page.specs.Pages.{Print, PrintState, Prints, Stopped, nothing, followed_by, one_row, row_print, error_print}
 use Rattle.sj_page.specs.declared.stop.Stop.{Stop}
 use Rattle.sj_page.specs.declared.stop.Stop.TheVariants.{Memory}
-use Rattle.sj_page.proofs.Printing.{Printing, print, same_print, nothing_before, printed_on, stopped_before, prints_more, prints_same, stopped_more, printing_starts, printing_more}
+use Rattle.sj_page.proofs.Printing.{Printing, same_print, nothing_before, printed_on, printing_starts, printing_more}
+use Rattle.sj_stream.proofs.Pages.{row_counted}
 use Rattle.sj_run.specs.Output.{rows_text, row_count, error_count, rows_print, asked_from, prints, cost}
 use Rattle.sj_batch.specs.Seen.{rows_given, cost_given}
 
@@ -58,16 +59,8 @@ turn_row line k old new t g is =
 pub row_put : (line k : ℕ) (old new : Seen) (t : Turn) (a b c : PrintState) (r : Result Unit Stop) → Gives old new t → t ≡ turn.Row → b.out ≡ a.out → b.page.text ≡ a.page.text ++ next_text line k old.left
     → b.page.rows ≡ a.page.rows → b.page.errors ≡ a.page.errors → Prints one_row b c r → Prints (row_print line k (first old.left)) a c r
 row_put line k old new t a b c r g is out text rows errors counted =
-    prints_same (followed_by (only_text (row_bytes line k (first old.left))) one_row) (row_print line k (first old.left)) a c r (text_and_count (row_bytes line k (first old.left)))
-    (prints_more (only_text (row_bytes line k (first old.left))) one_row a b c r
-    (printed_on (only_text (row_bytes line k (first old.left))) a b out (text ∙ ap (λ (l : List ℕ). a.page.text ++ l) (row_text_is line k old.left (sym is ∙ g.answers))) (omega (arith, rows)) (omega (arith, errors))) counted)
+    row_counted (row_bytes line k (first old.left)) a b c r out (text ∙ ap (λ (l : List ℕ). a.page.text ++ l) (row_text_is line k old.left (sym is ∙ g.answers))) rows errors counted
   where
-    only_text : List ℕ → Print
-    only_text l = print l 0 0
-
-    text_and_count : (l : List ℕ) → followed_by (only_text l) one_row ≡ print l 1 0
-    text_and_count l = same_print (l ++ []) l (0 + 1) 1 (0 + 0) 0 (append-nil l) (omega arith) (omega arith)
-
     row_text_is : (line k : ℕ) (xs : Series (List SqlValue)) → turn.Row ≡ turn_of xs → next_text line k xs ≡ row_bytes line k (first xs)
     row_text_is line k done e = absurd (cc e)
     row_text_is line k (raises s) e = absurd (cc e)
@@ -86,10 +79,6 @@ raised_text line k old new t s g is = no_text line k old.left s (sym is ∙ g.an
 pub printing_same : (whole left : Print) (a b c : PrintState) → Printing whole left a b → c.out ≡ b.out → c.page.text ≡ b.page.text ++ [] → c.page.rows ≡ b.page.rows → c.page.errors ≡ b.page.errors → Printing whole left a c
 printing_same whole left a b c x out text rows errors =
     printing_more whole left nothing left a b c x (sym (nothing_before left)) (printed_on nothing b c out text (omega (arith, rows)) (omega (arith, errors)))
-
--- memory ran out, and something may stand on the page that is not written
-pub memory_stops : (whole left : Print) (a b c : PrintState) → Printing whole left a b → c.out ≡ b.out → Stopped whole a c Memory
-memory_stops whole left a b c x out = subst (λ (t : Print). Stopped t a c Memory) (sym x.split) (stopped_more x.so_far left a b c Memory x.printed (stopped_before left b c out))
 
 pub turn_less : (old new : Seen) (t : Turn) → Gives old new t → t ≡ turn.Row → row_count new.left < row_count old.left
 turn_less old new t g is = omega (arith, row_less old.left (sym is ∙ g.answers), ap row_count g.leaves)

@@ -6,6 +6,7 @@ use Rattle.sj_outside.specs.declared.outside.Source as sources
 use Rattle.sj_outside.specs.declared.outside.Sink as sinks
 use Rattle.sj_path_tree.specs.Tree.{Path}
 use Rattle.sj_sql_grammar.specs.Tree.{Statement}
+use Rattle.sj_sql_grammar.specs.declared.refusal.FileKind.{FileKind}
 use Rattle.sj_sql_text.specs.Statements.{lines_text}
 use Rattle.sj_bound.specs.Bound.{Bound}
 use Rattle.sj_generated.specs.Lines.{generated}
@@ -116,7 +117,12 @@ abbrev pub Ran : Option Form → Moment → Moment → Status → Type 0
 Ran None before after status = (status ≡ Usage) × (after ≡ before)
 Ran (Some form) before after status = RanOver form (named_in form) before after status
 
--- a command that ended before a file was accepted
+-- statement k is the first for which the command refuses this file, and for this reason
+abbrev pub IsRefusedBy : Option Form → List ℕ → ℕ → FileKind → Type 0
+IsRefusedBy None file k kind = ⊥
+IsRefusedBy (Some form) file k kind = RefusesFor form file k kind
+
+-- a command that ended before a file was taken
 abbrev pub IsBefore : Status → Type 0
 IsBefore Usage = Unit {0}
 IsBefore ShelfFault = Unit {0}

@@ -9,16 +9,16 @@ ghost use Rattle.sj_page.specs.Sides.{Grew};
 ghost use Rattle.sj_sql_grammar.specs.Answers.{max_file};
 ghost use Rattle.sj_rows.specs.Lines.{max_input};
 ghost use Rattle.sj_file.specs.declared.job.Keys.TheVariants.{Any};
-ghost use Rattle.sj_file.specs.File.{running, command, file_named, file_run, file_checked, file_generated, file_to_show};
-ghost use Rattle.sj_file.specs.Conditions.{IfRuns, IfChecks, IfGenerates, IfShows, IfNames, IfAccepted, IfRead, IsOrMemory};
-ghost use Rattle.sj_file.specs.Verdict.{Refuses};
+ghost use Rattle.sj_file.specs.File.{running, command, file_named, file_run, file_checked, file_generated, file_to_show, file_to_group};
+ghost use Rattle.sj_file.specs.Conditions.{IfRuns, IfChecks, IfGenerates, IfShows, IfGroups, IfNames, IfAccepted, IfRead, IfToGroup, IsOrMemory};
 ghost use Rattle.sj_sql_text.specs.Statements.{lines_text};
 ghost use Rattle.sj_stream.specs.Input.{input_at};
-ghost use Rattle.sj_run.specs.Ran.{Ran, WroteCanonical, moment_at, IsBefore, accepted_text};
+ghost use Rattle.sj_run.specs.Ran.{Ran, WroteCanonical, moment_at, IsRefusedBy, IsBefore, accepted_text};
 ghost use Rattle.sj_stream.specs.Out.{out_at};
 ghost use Rattle.sj_run.specs.Summary.{summary_text};
 ghost use Rattle.sj_run.specs.Notes.{Noted, note_of};
 ghost use Rattle.sj_stream.specs.LineJob.{output, allowed};
+ghost use Rattle.sj_group_run.specs.GroupJob.{group_job, group_output};
 ghost use Rattle.sj_run.specs.Output.{job};
 ghost use Rattle.sj_stream.specs.Stream.{TookMost, IsFrontOf, WroteLeast, WroteWhole, StepsWithin};
 
@@ -163,7 +163,42 @@ pub fn run<H: Shelf, I: Source, O: Sink, N: Sink>(
         IfShows (command words.now) (H.files shelf.old) (λ file. length file ≤ max_file → IfAccepted file (λ _.
         IsOrMemory result Status.Done)) }
 
-    // If it ended before a file was accepted, no input was read and nothing was written.
+    // If a file is grouped with Done, the error rows of all lines were written, and then the groups of all rows.
+    ensures grouped { result ≡ Status.Done →
+        IfGroups (command words.now) (H.files shelf.old) (λ file. IfToGroup file (λ aggregate statement.
+        IfSome (I.left input.old) (λ bytes.
+        Grew (out_at O.Sink out.old) (out_at O.Sink out.new) (group_output aggregate statement bytes)))) }
+    // However it ended, what was written is a front of that.
+    ensures group_front { IfGroups (command words.now) (H.files shelf.old) (λ file. IfToGroup file (λ aggregate statement.
+        IfSome (I.left input.old) (λ bytes.
+        IsFrontOf (group_output aggregate statement bytes) (out_at O.Sink out.old) (out_at O.Sink out.new)))) }
+    // If the input was not read to its end, what was written is a front of the error rows, so no group was.
+    ensures group_errors_first { ¬ IsAtEnd (I.left input.new) →
+        IfGroups (command words.now) (H.files shelf.old) (λ file. IfToGroup file (λ aggregate statement.
+        IfSome (I.left input.old) (λ bytes.
+        IsFrontOf (output (group_job aggregate statement) bytes) (out_at O.Sink out.old) (out_at O.Sink out.new)))) }
+    // After a failed read, and at the limit of an input, the error rows of the whole lines that were taken were written.
+    ensures group_read_fault_writes { result ≡ Status.ReadFault →
+        IfGroups (command words.now) (H.files shelf.old) (λ file. IfToGroup file (λ aggregate statement.
+        WroteWhole (group_job aggregate statement) (input_at I.Source input.old steps.old) (input_at I.Source input.new steps.new)
+        (out_at O.Sink out.old) (out_at O.Sink out.new))) }
+    ensures group_input_limit_writes { result ≡ Status.InputLimit →
+        IfGroups (command words.now) (H.files shelf.old) (λ file. IfToGroup file (λ aggregate statement.
+        WroteWhole (group_job aggregate statement) (input_at I.Source input.old steps.old) (input_at I.Source input.new steps.new)
+        (out_at O.Sink out.old) (out_at O.Sink out.new))) }
+    // At Done it has read the input to its end.
+    ensures group_reads_to_end { result ≡ Status.Done → IfSome (file_to_group (command words.now)) (λ _. IsAtEnd (I.left input.new)) }
+    // However it ended, it took no more steps than the rows of the lines allow.
+    ensures group_within { IfGroups (command words.now) (H.files shelf.old) (λ file. IfToGroup file (λ aggregate statement.
+        StepsWithin (group_job aggregate statement) (input_at I.Source input.old steps.old) (input_at I.Source input.new steps.new))) }
+
+    // If no call failed, a file to group over an input below the limit ends with Done, unless memory ran out.
+    ensures group_completes { ¬ (Rose (H.faults shelf.old) (H.faults shelf.new)) → ¬ (Rose (I.faults input.old) (I.faults input.new)) →
+        ¬ (Rose (O.faults out.old) (O.faults out.new)) →
+        IfGroups (command words.now) (H.files shelf.old) (λ file. length file ≤ max_file → IfToGroup file (λ _ _.
+        IfSome (I.left input.old) (λ bytes. length bytes < max_input → IsOrMemory result Status.Done))) }
+
+    // If it ended before a file was taken, no input was read and nothing was written.
     ensures untouched { IsBefore result → (input.new ≡ input.old) × (out.new ≡ out.old) × (steps.new ≡ steps.old) }
 
     // At Usage the shelf is as it was too.
@@ -195,13 +230,14 @@ pub fn run<H: Shelf, I: Source, O: Sink, N: Sink>(
     ensures memory { result ≡ Status.Memory →
         (H.faults shelf.new ≡ H.faults shelf.old) × (I.faults input.new ≡ I.faults input.old) × (O.faults out.new ≡ O.faults out.old) }
 
-    // It ends with a refusal only if the shelf didn't fail and the file is refused so, whatever the command.
+    // It ends with a refusal only if the shelf didn't fail and the command refuses the file so. All commands refuse the same
+    // files for the same reasons, but that grouping asks for one statement of a form, after all else.
     ensures refused { (k : ℕ) (kind : FileKind) → result ≡ Status.Refused k kind → (H.faults shelf.new ≡ H.faults shelf.old) ×
-        IfNames (command words.now) (H.files shelf.old) (λ file. (length file ≤ max_file) × Refuses file k kind) }
+        IfNames (command words.now) (H.files shelf.old) (λ file. (length file ≤ max_file) × IsRefusedBy (command words.now) file k kind) }
     // A file that is refused is refused so, unless the shelf failed or memory ran out.
     ensures refuses { ¬ (Rose (H.faults shelf.old) (H.faults shelf.new)) →
         IfNames (command words.now) (H.files shelf.old) (λ file. length file ≤ max_file →
-        (k : ℕ) (kind : FileKind) → Refuses file k kind → IsOrMemory result (Status.Refused k kind)) }
+        (k : ℕ) (kind : FileKind) → IsRefusedBy (command words.now) file k kind → IsOrMemory result (Status.Refused k kind)) }
 
     // It ends with FileTooLong only if the shelf didn't fail and the file is longer than the limit.
     ensures too_long { result ≡ Status.FileTooLong → (H.faults shelf.new ≡ H.faults shelf.old) ×

@@ -1,4 +1,5 @@
 use Rattle.sj_run.proofs.Ending as ending
+use Rattle.sj_run.proofs.Grouping as grouping
 use Rattle.sj_run.proofs.command.run.Goals as goal
 
 pub returns-clause-headline : goal.returns-clause-headline
@@ -48,6 +49,30 @@ returns-clause-shown_again g c = ending.ran_shown_again _ _ _ _ c.answer-status.
 
 pub returns-clause-show_completes : goal.returns-clause-show_completes
 returns-clause-show_completes g c = ending.ran_show_completes _ _ _ _ c.answer-status.ensures.ran
+
+pub returns-clause-grouped : goal.returns-clause-grouped
+returns-clause-grouped g c = grouping.ran_grouped _ _ _ _ c.answer-status.ensures.ran
+
+pub returns-clause-group_front : goal.returns-clause-group_front
+returns-clause-group_front g c = grouping.ran_group_front _ _ _ _ c.answer-status.ensures.ran
+
+pub returns-clause-group_errors_first : goal.returns-clause-group_errors_first
+returns-clause-group_errors_first g c = grouping.ran_group_none _ _ _ _ c.answer-status.ensures.ran
+
+pub returns-clause-group_read_fault_writes : goal.returns-clause-group_read_fault_writes
+returns-clause-group_read_fault_writes g c = grouping.ran_group_read_fault _ _ _ _ c.answer-status.ensures.ran
+
+pub returns-clause-group_input_limit_writes : goal.returns-clause-group_input_limit_writes
+returns-clause-group_input_limit_writes g c = grouping.ran_group_limit _ _ _ _ c.answer-status.ensures.ran
+
+pub returns-clause-group_reads_to_end : goal.returns-clause-group_reads_to_end
+returns-clause-group_reads_to_end g c = grouping.ran_group_to_end _ _ _ _ c.answer-status.ensures.ran
+
+pub returns-clause-group_within : goal.returns-clause-group_within
+returns-clause-group_within g c = grouping.ran_group_within _ _ _ _ c.answer-status.ensures.ran
+
+pub returns-clause-group_completes : goal.returns-clause-group_completes
+returns-clause-group_completes g c = grouping.ran_group_completes _ _ _ _ c.answer-status.ensures.ran
 
 pub returns-clause-usage : goal.returns-clause-usage
 returns-clause-usage g c = ending.ran_usage _ _ _ _ c.answer-status.ensures.ran

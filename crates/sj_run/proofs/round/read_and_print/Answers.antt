@@ -6,7 +6,7 @@ use Rattle.sj_batch.specs.declared.batch.Behind.{Behind}
 use Rattle.sj_batch.specs.Batch.{ReadOn}
 use Rattle.sj_batch.proofs.WaitingLines.{drained_more}
 use Rattle.sj_run.proofs.Batches.{waiting_prints, waiting_cost, none_waits}
-use Rattle.sj_run.proofs.Turns.{cost_step, cost_stop}
+use Rattle.sj_batch.proofs.Given.{cost_step, cost_stop}
 use Rattle.sj_run.proofs.round.read_and_print.Goals as goal
 
 pub loop-behind-init : goal.loop-behind-init

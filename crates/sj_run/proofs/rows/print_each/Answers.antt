@@ -7,7 +7,7 @@ use Rattle.sj_run.specs.Batch.{bounds_in}
 use Rattle.sj_batch.specs.Seen.{line_read}
 use Rattle.sj_run.specs.Output.{asked_from, prints, cost}
 use Rattle.sj_run.proofs.Batches.{batch_first, batch_first_cost}
-use Rattle.sj_run.proofs.Turns.{cost_step, cost_stop}
+use Rattle.sj_batch.proofs.Given.{cost_step, cost_stop}
 use Rattle.sj_run.proofs.rows.print_each.Goals as goal
 
 pub loop-line-init : goal.loop-line-init

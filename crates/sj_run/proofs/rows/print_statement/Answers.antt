@@ -4,7 +4,9 @@ use Rattle.sj_select_list.specs.Line.{line_of}
 use Rattle.sj_page.specs.Pages.{print_state}
 use Rattle.sj_page.proofs.Printing.{printing_more, printing_done, printing_ends, printing_stops}
 use Rattle.sj_run.specs.Output.{rows_print}
-use Rattle.sj_run.proofs.Turns.{rows_start, costs_start, turn_row, row_put, raised_text, printing_same, memory_stops, turn_raised, begins, spent_on}
+use Rattle.sj_stream.proofs.Pages.{memory_stops}
+use Rattle.sj_batch.proofs.Given.{rows_start, costs_start, spent_on}
+use Rattle.sj_run.proofs.Turns.{turn_row, row_put, raised_text, printing_same, turn_raised, begins}
 use Rattle.sj_run.proofs.rows.print_statement.Goals as goal
 
 pub loop-turn-init : goal.loop-turn-init
