@@ -30,6 +30,8 @@ run f;1;-;0;99;0 => ShelfFault "" ""
 check f;1;-;0;99;99 => ShelfFault "" "statement file cannot be read\n"
 selfrun 3 f;1;-;0;99;99 => ShelfFault "" "statement file cannot be read\n"
 show f;1;-;0;99;99 => ShelfFault "" "statement file cannot be read\n"
+group f;1;-;0;99;99 => ShelfFault "" "statement file cannot be read\n"
+group f;-;-;0;99;99 => Refused(1, Group) "" "statement 1: not a statement to group\n"
 selfrun 3 g;-;-;0;99;0 => ShelfFault "" ""
 run -x;-;-;0;99;0 => Usage "" ""
 run f;-;0;17;99;99 => ReadFault "" "input failed\n"
@@ -50,8 +52,29 @@ show f;-;-;0;99;0 => Done "SELECT JSON_EXISTS(doc, 'lax $' FALSE ON ERROR);\n" "
 selfrun 3 f;-;-;0;9;99 => WriteFault "lines 3 r" "output failed\n"
 selfrun 3 f;-;-;0;99;0 => Done "lines 3 rows 3 errors 0 bytes 33\n" """#;
 
-/// What a run tells whose words and faults a text gives.
-fn told_of(rt: &impl Counts, alloc: Global, text: &str) -> Result<String, Fail> {
+const TO_GROUP: &[u8] =
+    b"SELECT JSON_VALUE(doc, '$.k'), JSON_VALUE(doc, '$.v' RETURNING INTEGER ERROR ON ERROR);";
+
+const KEYS: &[u8] = b"{\"k\":\"a\",\"v\":1}\n{\"k\":\"b\",\"v\":\"x\"}\n{\"k\":\"a\",\"v\":2}\n";
+
+/// The same of a grouping over lines of 16, 18 and 16 bytes, of which the second gives an error row.
+const GROUPS: &str = r#"group f;-;-;0;99;99 => Done "2\t1\tE\t2203G\nG\ta\t2\t[1,2]\n" ""
+group f;-;-;1;99;99 => Done "2\t1\tE\t2203G\nG\ta\t2\t[1,2]\n" ""
+group f;-;0;17;99;99 => ReadFault "" "input failed\n"
+group f;-;2;17;99;99 => ReadFault "2\t1\tE\t2203G\n" "input failed\n"
+group f;-;3;17;99;99 => ReadFault "2\t1\tE\t2203G\n" "input failed\n"
+group f;-;4;17;99;99 => Done "2\t1\tE\t2203G\nG\ta\t2\t[1,2]\n" ""
+group f;-;-;0;5;99 => WriteFault "2\t1\tE" "output failed\n"
+group f;-;-;0;20;0 => WriteFault "2\t1\tE\t2203G\nG\ta\t2\t[1" """#;
+
+/// What a run of this file over these lines tells, whose words and faults a text gives.
+fn told_of(
+    rt: &impl Counts,
+    alloc: Global,
+    file: &[u8],
+    input: &[u8],
+    text: &str,
+) -> Result<String, Fail> {
     let mut fields = text.split(';');
     let words = fields.next().ok_or("no words")?;
     let shelf_fails = numbers(alloc, fields.next().ok_or("no calls of the shelf")?)?;
@@ -61,7 +84,7 @@ fn told_of(rt: &impl Counts, alloc: Global, text: &str) -> Result<String, Fail> 
         shelf_fails: &shelf_fails,
         input_fails: &input_fails,
         room: 0,
-        ..plain(ROOT, THREE, fields.next().ok_or("no cut")?.parse()?)
+        ..plain(file, input, fields.next().ok_or("no cut")?.parse()?)
     };
     let room = fields.next().ok_or("no room")?.parse()?;
     let note_room = fields.next().ok_or("no room for the message")?.parse()?;
@@ -81,7 +104,13 @@ fn told_of(rt: &impl Counts, alloc: Global, text: &str) -> Result<String, Fail> 
 fn faults_at_each_call_and_sinks_without_room(rt: HostRuntime) -> Result<(), Fail> {
     for line in FAULTS.lines() {
         let (text, want) = line.split_once(" => ").ok_or("no arrow")?;
-        expect(&rt, told_of(&rt, rt.alloc(), text)?.as_str(), want, text);
+        let found = told_of(&rt, rt.alloc(), ROOT, THREE, text)?;
+        expect(&rt, found.as_str(), want, text);
+    }
+    for line in GROUPS.lines() {
+        let (text, want) = line.split_once(" => ").ok_or("no arrow")?;
+        let found = told_of(&rt, rt.alloc(), TO_GROUP, KEYS, text)?;
+        expect(&rt, found.as_str(), want, text);
     }
     Ok(())
 }
