@@ -58,7 +58,14 @@ impl PrintsLines for Gathering<'_> {
         out: &mut Out<'_, O>,
     ) -> Result<(), Stop> {
         let batch = self.batches.of_piece(self.alloc, piece);
-        read_and_gather(self.alloc, out, lines, batch, self.to_group, &mut self.gatherer)
+        read_and_gather(
+            self.alloc,
+            out,
+            lines,
+            batch,
+            self.to_group,
+            &mut self.gatherer,
+        )
     }
 }
 
@@ -85,7 +92,13 @@ fn read_and_gather<O: Sink>(
             Ok(behind) => behind,
             Err(_) => return Err(Stop::Memory),
         };
-        match gather_batch(alloc, out, gatherer, &to_group.statement, batch.lines.as_slice()) {
+        match gather_batch(
+            alloc,
+            out,
+            gatherer,
+            &to_group.statement,
+            batch.lines.as_slice(),
+        ) {
             Ok(()) => {}
             Err(stop) => return Err(stop),
         }
