@@ -24,6 +24,7 @@ from checks.decimals import check_decimals
 from checks.definitions import check_definitions
 from checks.edges import check_edges
 from checks.examples import check_examples
+from checks.grouping import check_grouping
 from checks.guide import check_guide
 from checks.hard import check_hard
 from checks.limits import check_limits
@@ -90,6 +91,7 @@ def check_all(tally, given):
         check_examples(tally, program, TOP / "examples")
         check_rows(tally, program, TOP / "checks" / "rows")
         check_show(tally, program, TOP)
+        check_grouping(tally, program)
         check_decimals(tally, program)
         check_guide(tally, program, TOP)
         check_recipes(tally, program, TOP)

@@ -53,6 +53,8 @@ RUNS = [
             NESTED '$' AS q COLUMNS (b INT)) PLAN (p OUTER q));""", b""),
     ("a canonical text", ["show"], """SELECT JSON_QUERY(doc, '$.a[1, 2] ? (@ starts with "it''s")' PASSING 1 AS x), 'text';
         SELECT a FROM JSON_TABLE(doc, '$' AS p COLUMNS (a INT, NESTED '$.b' AS q COLUMNS (b INT)) PLAN (p OUTER q));""", b""),
+    ("groups", ["group"], """SELECT qty, sku, JSON_ARRAY(total, 'x') FROM JSON_TABLE(doc, '$.lines[*]' COLUMNS (
+        sku VARCHAR, qty INTEGER, total NUMERIC(10,2) PATH '$.qty * $.price' ERROR ON ERROR));""", LINES),
     ("generated lines", ["selfrun", "3"], "SELECT JSON_QUERY(doc, '$'), JSON_VALUE(doc, '$.n' RETURNING INTEGER);", b""),
 ]
 

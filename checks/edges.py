@@ -22,6 +22,7 @@ USAGE = b"usage: sqljson run [--unique-keys] FILE | check FILE | selfrun N FILE 
 UNREADABLE = Ended(3, note=b"statement file cannot be read\n")
 TOO_LONG = Ended(8, note=b"statement file too long\n")
 MEMBER = b"SELECT JSON_EXISTS(doc, 'lax $.a');\n"
+GROUPS = b"SELECT JSON_VALUE(doc, 'strict $.a' ERROR ON ERROR), 'x';\n"
 NUMBER = b"SELECT JSON_VALUE(doc, 'lax $.n' RETURNING INTEGER ERROR ON ERROR);\n"
 MANY = b"SELECT JSON_VALUE(doc, '$.a' RETURNING NUMERIC(10,2) DEFAULT 0 ON EMPTY), doc IS JSON OBJECT;\n" * 1000
 LONGEST_FILE = 1_048_576
@@ -29,10 +30,12 @@ PIECE = 65_536  # bytes that are read at once
 LONGEST_PIPE = 65_536  # bytes that a pipe holds where nobody reads it
 LONGEST_WAIT = 20  # seconds: within it a pipe is opened, and a row comes
 RUN, CHECK, SELFRUN = ["run", "member.sql"], ["check", "member.sql"], ["selfrun", "3", "member.sql"]
+GROUP = ["group", "groups.sql"]
 INPUT_FAILED, OUTPUT_FAILED = b"input failed\n", b"output failed\n"
 TRUE_ROW, FALSE_ROW, NUMBER_ROW = b"%d\t1\tR\tTRUE\n", b"%d\t1\tR\tFALSE\n", b"%d\t1\tR\t%d\n"
 ROWS = TRUE_ROW % 1 + FALSE_ROW % 2  # of the whole lines among streams.LINES
 ALL_ROWS = ROWS + FALSE_ROW % 3
+NO_MEMBER, GROUPED = b"2\t1\tE\t2203A\n", b'2\t1\tE\t2203A\n3\t1\tE\t22032\nG\ttrue\t1\t["x"]\n'  # of GROUPS
 NO_INPUT, BROKEN_INPUT = Ended(4, note=INPUT_FAILED), Ended(4, ROWS, INPUT_FAILED)
 NO_OUTPUT = Ended(5, note=OUTPUT_FAILED)
 REFUSED = Ended(2, note=b"statement 1: syntax error\n")
@@ -52,7 +55,7 @@ def check_edges(tally, program):
     with tempfile.TemporaryDirectory() as room:
         folder = Path(room)
         too_long = MEMBER + b" " * (LONGEST_FILE + 1 - len(MEMBER))
-        files = {"member": MEMBER, "number": NUMBER, "many": MANY, "none": b"", "refused": b"SELECT", "too_long": too_long}
+        files = {"member": MEMBER, "number": NUMBER, "groups": GROUPS, "many": MANY, "none": b"", "refused": b"SELECT", "too_long": too_long}
         for name, file in files.items():
             (folder / f"{name}.sql").write_bytes(file)
         check_words(tally, program, folder)
@@ -74,7 +77,8 @@ def check_words(tally, program, folder):
     refused = [
         [], ["run"], ["run", ""], ["run", "-x"], ["run", "member.sql", "more"], ["RUN", "member.sql"], ["check", "-x"],
         ["run", "--unique-keys"], ["selfrun", "1000000", "member.sql"], ["selfrun", "", "member.sql"],
-        ["selfrun", "-1", "member.sql"], ["selfrun", "member.sql"], ["member.sql"], ["show", "-x"],
+        ["selfrun", "-1", "member.sql"], ["selfrun", "member.sql"], ["member.sql"], ["show", "-x"], ["group"], ["group", "-x"],
+        ["group", "--unique-keys", "groups.sql"],
     ]
     for words in refused:
         tally.check(f"the words {words}", difference(Ended(1, note=USAGE), program.run(words, b"true\n", folder)))
@@ -101,7 +105,7 @@ def check_files(tally, program, folder):
         ("a file without an end", "/dev/zero", TOO_LONG),
     ]
     for name, file, wanted in cases:
-        for words in [["run", file], ["run", "--unique-keys", file], ["check", file], ["selfrun", "3", file], ["show", file]]:
+        for words in [["run", file], ["run", "--unique-keys", file], ["check", file], ["selfrun", "3", file], ["show", file], ["group", file]]:
             tally.check(f"{name}, {words[0]}", difference(wanted, program.run(words, b"true\n", folder)))
     whole = program.run(["run", "/dev/stdin"], MEMBER, folder)
     tally.check("the input for a file, which leaves no line", difference(Ended(0), whole))
@@ -281,6 +285,10 @@ BROKEN_STREAMS = [
     ("a full pipe that isn't waited for", RUN, {"stdout": streams.full_pipe}, NO_OUTPUT),
     ("a closed output", RUN, {"stdout": CLOSED}, NO_OUTPUT),
     ("a checked file and a full disk", CHECK, {"stdout": streams.full_disk}, NO_OUTPUT),
+    ("groups", GROUP, {}, Ended(0, GROUPED)),
+    ("groups and a connection that breaks", GROUP, {"stdin": streams.broken_connection}, Ended(4, NO_MEMBER, INPUT_FAILED)),
+    ("groups and a closed input", GROUP, {"stdin": CLOSED}, NO_INPUT),
+    ("groups and a full disk", GROUP, {"stdout": streams.full_disk}, NO_OUTPUT),
     ("generated lines and a full disk", SELFRUN, {"stdout": streams.full_disk}, NO_OUTPUT),
     ("no row for a full disk", ["run", "none.sql"], {"stdout": streams.full_disk}, Ended(0)),
     ("no row for a closed output", ["run", "none.sql"], {"stdout": CLOSED}, Ended(0)),
@@ -335,17 +343,20 @@ def check_broken_writes(tally, program, folder):
     """An output that may have so many bytes has just these, where a write beyond them is refused and raises no signal."""
     whole = b"".join(NUMBER_ROW % (number, number) for number in (1, 2, 3))
     for room in range(len(whole) + 1):
-        ended, _ = into_file(program, folder, "number.sql", generated(3), room)
+        ended, _ = into_file(program, folder, ["run", "number.sql"], generated(3), room)
         wanted = Ended(0, whole) if room == len(whole) else Ended(5, whole[:room], OUTPUT_FAILED)
         tally.check(f"an output with room for {room} bytes", difference(wanted, ended))
+    for room in range(len(GROUPED)):
+        ended, _ = into_file(program, folder, GROUP, streams.LINES, room)
+        tally.check(f"groups with room for {room} bytes", difference(Ended(5, GROUPED[:room], OUTPUT_FAILED), ended))
     lines, room = b'{"a":true}\n' * 200_000, 1_000_000
     rows = b"".join(TRUE_ROW % number for number in range(1, 200_001))
-    ended, taken = into_file(program, folder, "member.sql", lines, room)
+    ended, taken = into_file(program, folder, RUN, lines, room)
     tally.check("a long output with little room", difference(Ended(5, rows[:room], OUTPUT_FAILED), ended))
     tally.check("the rows that are owed", front_problem(rows, lines, taken, ended.output))
 
 
-def into_file(program, folder, file, lines, room):
+def into_file(program, folder, words, lines, room):
     """Runs the program from a file into a file that may have so many bytes.
 
     Gives how the run ended, with what is in the file, and how many bytes of the input it took. The signal that a write
@@ -355,7 +366,7 @@ def into_file(program, folder, file, lines, room):
     with open(folder / "lines", "rb", buffering=0) as given, open(folder / "rows", "w+b", buffering=0) as rows:
         limits = [(RLIMIT_FSIZE, room)]
         how = {"stdin": given, "stdout": rows, "limits": limits, "restore_signals": False}
-        ended = program.run(["run", file], folder=folder, **how)
+        ended = program.run(words, folder=folder, **how)
         rows.seek(0)
         return Ended(ended.status, rows.read(), ended.note), given.tell()
 
@@ -382,7 +393,7 @@ def check_early_end(tally, program, folder):
 def check_unread_input(tally, program, folder):
     """The input is left alone where the words or the file are refused, in a check and in a run over generated lines."""
     (folder / "lines").write_bytes(streams.LINES)
-    for words in [["walk"], ["run", "refused.sql"], ["run", "absent.sql"], ["run", "too_long.sql"], CHECK, SELFRUN]:
+    for words in [["walk"], ["run", "refused.sql"], ["run", "absent.sql"], ["run", "too_long.sql"], ["group", "member.sql"], CHECK, SELFRUN]:
         with open(folder / "lines", "rb", buffering=0) as given:
             program.run(words, folder=folder, stdin=given)
             taken = given.tell()

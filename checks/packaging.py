@@ -13,12 +13,13 @@ STATUS = re.compile(r"^\| [^|]* \| (\d) \| (.*?) \|", re.M)
 ENTRY = re.compile(r"^\.TP\n(\w+)\n(.*)$", re.M)
 # What a user has typed behind the name of a command, and what it is completed to in the folder of the recipes.
 COMPLETED = [
-    ("sqljson", [""], "run check selfrun show"),
+    ("sqljson", [""], "run check selfrun show group"),
     ("sqljson", ["c"], "check"),
     ("sqljson", ["run", "-"], "--unique-keys"),
     ("sqljson", ["run", "o"], "objects.sql orders.sql"),
     ("sqljson", ["check", "name"], "name.sql"),
     ("sqljson", ["show", "name"], "name.sql"),
+    ("sqljson", ["group", "name"], "name.sql"),
     ("sqljson", ["selfrun", "1"], ""),
     ("sqljson-where", ["ord"], "orders.sql"),
     ("sqljson-where", ["--p"], "--program"),

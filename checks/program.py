@@ -105,12 +105,13 @@ def status_fault(wanted, ended):
 def front_problem(rows, lines, taken, output):
     """Says what is wrong with the output of a run that gave up when so many bytes of the lines were taken.
 
-    It has to be a beginning of all rows, with at least those of the lines that end before the last bytes taken.
+    It has to be a beginning of all rows, with at least those of the lines that end before the last bytes taken. A group is no
+    row of a line.
     """
     if not rows.startswith(output):
         return f"it wrote {shown(output)}, which is no beginning of its rows"
     whole = lines[: max(taken - HELD_BACK, 0)].count(b"\n")
-    owed = sum(len(row) + 1 for row in rows.split(b"\n")[:-1] if int(row.partition(b"\t")[0]) <= whole)
+    owed = sum(len(row) + 1 for row in rows.split(b"\n")[:-1] if row[:1] != b"G" and int(row.partition(b"\t")[0]) <= whole)
     return f"it wrote {len(output)} bytes, and owed {owed}" if len(output) < owed else None
 
 

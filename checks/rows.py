@@ -17,7 +17,8 @@ those that the program writes, with tabs between their fields, but without the n
 
 Below the title `$ run --unique-keys FILE` gives other words than `run FILE`; FILE stands for the statement file. A run
 that ends with another status than 0 has a last line `! STATUS MESSAGE`; what it writes is then all that stands below
-its statements, as it is. `‹..›` holds bytes as hexadecimal digits, and maybe how often they come: `‹FF›`, `‹5B * 64›`.
+its statements, as it is, and so it is for `show FILE` and `group FILE`. `‹..›` holds bytes as hexadecimal digits, and
+maybe how often they come: `‹FF›`, `‹5B * 64›`.
 
 Where many cases have one form, each is a line, with its answers behind an arrow:
 
@@ -62,6 +63,7 @@ HEX = re.compile(r"‹([0-9A-Fa-f ]*)(?:\*\s*(\d+)\s*)?›")
 ARROW = " => "
 OTHER = " ; "
 FILE = "rows.sql"
+TAKE_LINES = ["run", "group"]  # words whose runs read an input
 BYTE_BY_BYTE = 400  # so many bytes of input at most are given one at a time
 SHOWN = 12  # lines of a difference that are shown
 
@@ -226,7 +228,7 @@ def problem(program, run):
     with tempfile.TemporaryDirectory() as folder:
         Path(folder, FILE).write_bytes(run.file)
         found = told(run, program.run(run.words, run.given, folder))
-        if found or run.words[0] != "run" or not 0 < len(run.given) <= BYTE_BY_BYTE:
+        if found or run.words[0] not in TAKE_LINES or not 0 < len(run.given) <= BYTE_BY_BYTE:
             return found
         single = [run.given[at : at + 1] for at in range(len(run.given))]
         found = told(run, program.run_in_pieces(run.words, single, folder))

@@ -25,7 +25,7 @@ _sqljson() {
     local word=${COMP_WORDS[COMP_CWORD]} command=${COMP_WORDS[1]}
     COMPREPLY=()
     if ((COMP_CWORD == 1)); then
-        _sqljson_words "$word" run check selfrun show
+        _sqljson_words "$word" run check selfrun show group
     elif [[ $command == run && $word == -* ]]; then
         _sqljson_words "$word" --unique-keys
     elif [[ $command == selfrun && $COMP_CWORD -eq 2 ]]; then
