@@ -10,6 +10,7 @@ usage, at the top of the repository: python3 -m checks.definitions > docs/DEFINI
 import functools
 import re
 import sys
+import textwrap
 from dataclasses import dataclass, field
 from pathlib import Path
 
@@ -25,6 +26,7 @@ WORDS = r"(?:(?:abbrev|unfoldable|pub|data|record) )*"
 TYPED = re.compile(rf"^\s*{WORDS}([^\s(){{}}:;,]+)(?: [({{][^:]*:[^:]*[)}}])* : ")
 RECORD = re.compile(r"^\s*(?:pub )?record\b")
 BEGINS = re.compile(rf"^(?:abbrev|unfoldable|pub|data|record|mutual|module)\b|{TYPED.pattern}")
+GROUP = re.compile(r"^module _ .*\bwhere$")
 BESIDE = re.compile(r"^(?:use|mod|pub mod|infix[lr]?)\b")
 TOKEN = re.compile(r"[^\s(){},;]+")
 # The functions that have a law: where each is defined, and the call whose contract is the law.
@@ -104,7 +106,8 @@ class Rests:
                 left += self.cited(*LAWS[name])
             elif part := self.module(name[0]).parts.get(name[1]):
                 start, lines = part
-                self.found[name[0], start] = len(lines)
+                self.found |= {(name[0], it.number): 1 for it in lines if isinstance(it, Head)}
+                self.found[name[0], start] = sum(not isinstance(it, Head) for it in lines)
                 left += self.used(self.module(name[0]), name[0], "\n".join(it for it in lines if not it.strip().startswith("--")))
 
     def cited(self, file, call):
@@ -166,10 +169,25 @@ class Rests:
         return id(self)
 
 
-def blocks(text):
+class Head(str):
+    """The line with the parameters that several definitions share. It is read once."""
+
+    def __new__(cls, line, number):
+        it = super().__new__(cls, line)
+        it.number = number
+        return it
+
+
+def blocks(text, first=1):
     """The definitions of a file with the comments above them, each with the number of its first line."""
-    found, above = [], []
-    for number, line in enumerate(text.splitlines(), 1):
+    found, above, group = [], [], None
+    for number, line in enumerate(text.splitlines(), first):
+        if group and (not line.strip() or line[0].isspace()):
+            group[2].append(line)
+            continue
+        if group:
+            found += grouped(*group)
+            group = None
         if not line.strip():
             above = []
         elif line.startswith("--"):
@@ -177,13 +195,21 @@ def blocks(text):
         elif line[0].isspace():
             if found and not BESIDE.match(line.strip()):
                 found[-1][1].append(line)
+        elif GROUP.match(line):
+            group, above = (number, line, []), []
         elif not BESIDE.match(line):
             if found and not BEGINS.match(line):
                 found[-1][1].append(line)  # an equation
             else:
                 found.append((number - len(above), [*above, line]))
             above = []
-    return found
+    return found + (grouped(*group) if group else [])
+
+
+def grouped(number, head, lines):
+    """The definitions that share parameters, each with the line of these."""
+    inner = blocks(textwrap.dedent("\n".join(lines)), number + 1)
+    return [(start, [Head(head, number), *part]) for start, part in inner]
 
 
 def defined(lines):

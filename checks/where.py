@@ -284,6 +284,7 @@ EMPTY = """SELECT 'a[-1]', JSON_VALUE(doc, '$ ? (@ == "[-1]")'),
 SELECT * FROM JSON_TABLE(doc, '$.keyvalue()' COLUMNS (⟦"key"⟧ VARCHAR, k VARCHAR PATH '$.⟦key⟧', name VARCHAR,
   NESTED '$.value' COLUMNS (o FOR ORDINALITY, v VARCHAR PATH '$.key')));
 """
+UNFIT = b"not a statement to group\n"  # the file is accepted, and only `group` refuses it
 EMPTY_HINTS = [
     'a subscript that is a text finds nothing: a member is written .key or ."any key"',
     "a subscript below 0 finds nothing: the last element is [last]",
@@ -411,7 +412,7 @@ def grammar_fault(where, checker, file, wanted):
     """Says of which file the grammar differs from the program, or nothing."""
     text = file.decode("utf-8", "surrogateescape")
     statements = where.statements_of(where.tokens_of(text, where.IN_FILE))
-    if wanted.status == 0:
+    if wanted.status == 0 or wanted.note.endswith(UNFIT):
         readers = [where.StatementReader(tokens) for tokens in statements]
         return None if all(where.read(reader, reader.statement) for reader in readers) else f"it doesn't take {shown(text)}"
     number, reason = where.REFUSAL.match(wanted.note.decode()).groups()

@@ -7,7 +7,7 @@ use Rattle.sj_table.specs.Takes.{Spends}
 use Rattle.sj_bound.specs.Bound.{Bound}
 use Rattle.sj_select_list.specs.Line.{Line}
 use Rattle.sj_select.specs.Rows.{statement_rows, statement_cost}
-use Rattle.sj_batch.specs.Seen.{rows_given, cost_given}
+use Rattle.sj_batch.specs.Given.{rows_given, cost_given}
 
 -- ---- the rows begin
 

@@ -6,6 +6,7 @@ use Rattle.sj_rows.specs.HeldLines.{HeldLines}
 use Rattle.sj_json.specs.Tree.{Tree}
 use Rattle.sj_json.specs.Document.{document}
 use Rattle.sj_json.specs.UniqueKeys.{has_unique_keys}
+use Rattle.sj_select_list.specs.Line.{Line, not_json, repeated, json}
 use Rattle.sj_file.specs.declared.job.Keys.{Keys}
 use Rattle.sj_file.specs.declared.job.Keys.TheVariants.{Any, Unique}
 use Rattle.sj_batch.specs.declared.batch.ReadLine.{ReadLine}
@@ -19,6 +20,12 @@ abbrev pub reading : Keys → Option Tree → Reading
 reading keys None = r.NotJson
 reading Any (Some t) = r.Json t
 reading Unique (Some t) = if has_unique_keys t then r.Json t else r.Repeated t
+
+-- and as statements see it
+abbrev pub line_read : Reading → Line
+line_read r.NotJson = not_json
+line_read (r.Repeated t) = repeated t
+line_read (r.Json t) = json t
 
 -- a line of this number as it is seen: none where it is blank
 abbrev pub read_line : Keys → ℕ → Option (List ℕ) → List ReadLine

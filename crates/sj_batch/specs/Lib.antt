@@ -1,2 +1,2 @@
 pub mod Batch
-pub mod Seen
+pub mod Given

@@ -3,8 +3,7 @@ ghost use Rattle.std.specs.Prelude.{◌≡◌, ◌+◌, ◌++◌, ◌∷◌, [],
 ghost use Rattle.sj_rows.specs.Line.{line_seen};
 ghost use Rattle.sj_json.specs.Document.{document};
 ghost use Rattle.sj_select_list.specs.Line.{line_of};
-ghost use Rattle.sj_batch.specs.Batch.{reading, read_line, ReadOn};
-ghost use Rattle.sj_batch.specs.Seen.{line_read};
+ghost use Rattle.sj_batch.specs.Batch.{reading, read_line, ReadOn, line_read};
 
 use sj_base::{Memory, push};
 use sj_doc::{Doc, DocBuilder};

@@ -110,65 +110,37 @@ file_named (Some form) = named_in form
 
 -- where its statements are run over the input
 abbrev pub file_run : Option Form → Option (List ℕ)
-file_run None = None
 file_run (Some (running keys name)) = Some name
-file_run (Some (checking name)) = None
-file_run (Some (generating number name)) = None
-file_run (Some (showing name)) = None
-file_run (Some (grouping name)) = None
+file_run _ = None
 
 -- whether the keys of a line's objects are to be unique
 abbrev pub keys_run : Option Form → Keys
-keys_run None = Any
 keys_run (Some (running keys name)) = keys
-keys_run (Some (checking name)) = Any
-keys_run (Some (generating number name)) = Any
-keys_run (Some (showing name)) = Any
-keys_run (Some (grouping name)) = Any
+keys_run _ = Any
 
 -- where its statements are checked
 abbrev pub file_checked : Option Form → Option (List ℕ)
-file_checked None = None
-file_checked (Some (running keys name)) = None
 file_checked (Some (checking name)) = Some name
-file_checked (Some (generating number name)) = None
-file_checked (Some (showing name)) = None
-file_checked (Some (grouping name)) = None
+file_checked _ = None
 
 -- where they are run over generated lines, and how many
 abbrev pub file_generated : Option Form → Option (List ℕ)
-file_generated None = None
-file_generated (Some (running keys name)) = None
-file_generated (Some (checking name)) = None
 file_generated (Some (generating number name)) = Some name
-file_generated (Some (showing name)) = None
-file_generated (Some (grouping name)) = None
+file_generated _ = None
 
 abbrev pub lines_generated : Option Form → ℕ
-lines_generated None = 0
-lines_generated (Some (running keys name)) = 0
-lines_generated (Some (checking name)) = 0
 lines_generated (Some (generating number name)) = number
-lines_generated (Some (showing name)) = 0
-lines_generated (Some (grouping name)) = 0
+lines_generated _ = 0
 
 -- where they are shown
 abbrev pub file_to_show : Option Form → Option (List ℕ)
-file_to_show None = None
-file_to_show (Some (running keys name)) = None
-file_to_show (Some (checking name)) = None
-file_to_show (Some (generating number name)) = None
 file_to_show (Some (showing name)) = Some name
-file_to_show (Some (grouping name)) = None
+file_to_show _ = None
 
 -- where they are grouped
 abbrev pub file_to_group : Option Form → Option (List ℕ)
-file_to_group None = None
-file_to_group (Some (running keys name)) = None
-file_to_group (Some (checking name)) = None
-file_to_group (Some (generating number name)) = None
-file_to_group (Some (showing name)) = None
 file_to_group (Some (grouping name)) = Some name
+file_to_group _ = None
 
 -- the shelf as it is seen at one moment
 pub record ShelfSide : Type 0 where

@@ -37,7 +37,7 @@ use Rattle.sj_group.specs.declared.aggregate.Aggregate.{Aggregate}
 use Rattle.sj_group.specs.declared.aggregate.Aggregate.TheVariants.{Array, Object}
 use Rattle.sj_group.specs.Grouping.{Row, IsRow, IsText, HasName, columns_of, takes, value_at}
 use Rattle.sj_file.specs.ToGroup.{CanGroup}
-use Rattle.sj_batch.specs.Seen.{rows_given}
+use Rattle.sj_batch.specs.Given.{rows_given}
 
 -- each row of a series, before its end
 abbrev pub EachRow : (Row → Type 0) → Series Row → Type 0

@@ -20,8 +20,8 @@ use Rattle.sj_stream.proofs.Streaming.{lines_print-append, lines_cost-append}
 use Rattle.sj_batch.specs.declared.batch.ReadLine.{ReadLine}
 use Rattle.sj_batch.specs.declared.batch.Behind.{Behind}
 use Rattle.sj_batch.specs.declared.batch.Behind.TheVariants.{Nothing}
-use Rattle.sj_batch.specs.Batch.{reading, read_line, read_lines, ReadOn}
-use Rattle.sj_batch.specs.Seen.{line_as, line_read, rows_given, cost_given}
+use Rattle.sj_batch.specs.Batch.{reading, read_line, read_lines, ReadOn, line_read}
+use Rattle.sj_batch.specs.Given.{line_as, rows_given, cost_given}
 use Rattle.sj_group_run.specs.Kept.{kept, line_kept, rows_kept}
 use Rattle.sj_group_run.specs.GroupJob.{errors_print, line_cost, group_job}
 use Rattle.sj_group_run.specs.Gathering.{read_kept, batch_print, batch_cost, batch_rows}

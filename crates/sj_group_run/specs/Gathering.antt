@@ -11,7 +11,8 @@ use Rattle.sj_file.specs.declared.to_group.ToGroup.{ToGroup}
 use Rattle.sj_file.specs.ToGroup.{IsReadyToGroup}
 use Rattle.sj_stream.specs.LineJob.{LineJob}
 use Rattle.sj_batch.specs.declared.batch.ReadLine.{ReadLine}
-use Rattle.sj_batch.specs.Seen.{line_read, rows_given, cost_given}
+use Rattle.sj_batch.specs.Batch.{line_read}
+use Rattle.sj_batch.specs.Given.{rows_given, cost_given}
 use Rattle.sj_group_run.specs.Kept.{kept, rows_kept}
 use Rattle.sj_group_run.specs.GroupJob.{errors_print, group_job}
 

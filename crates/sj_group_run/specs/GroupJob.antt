@@ -12,7 +12,7 @@ use Rattle.sj_page.specs.Sides.{joined}
 use Rattle.sj_page.specs.Pages.{Print, nothing, error_print}
 use Rattle.sj_file.specs.declared.job.Keys.TheVariants.{Any}
 use Rattle.sj_stream.specs.LineJob.{LineJob, whole_text}
-use Rattle.sj_batch.specs.Seen.{line_as, cost_given}
+use Rattle.sj_batch.specs.Given.{line_as, cost_given}
 use Rattle.sj_group_run.specs.Kept.{line_kept, rows_kept}
 
 -- ---- the lines

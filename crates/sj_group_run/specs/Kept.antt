@@ -9,7 +9,7 @@ use Rattle.sj_bound.specs.Bound.{Bound}
 use Rattle.sj_group.specs.declared.aggregate.Aggregate.{Aggregate}
 use Rattle.sj_group.specs.Grouping.{Row, takes}
 use Rattle.sj_file.specs.declared.job.Keys.TheVariants.{Any}
-use Rattle.sj_batch.specs.Seen.{line_as, rows_given}
+use Rattle.sj_batch.specs.Given.{line_as, rows_given}
 
 -- Rows up to the first that cannot be gathered, since the name of its member is NULL. That one raises 22004, whatever would come behind it.
 abbrev pub kept : Aggregate → Series Row → Series Row

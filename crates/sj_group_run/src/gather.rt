@@ -7,7 +7,8 @@ ghost use Rattle.sj_table.specs.Series.{elements};
 ghost use Rattle.sj_page.specs.Pages.{print_state, Prints};
 ghost use Rattle.sj_file.specs.ToGroup.{CanGroup};
 ghost use Rattle.sj_stream.specs.Out.{state_at, SameLoans};
-ghost use Rattle.sj_batch.specs.Seen.{line_read, cost_given};
+ghost use Rattle.sj_batch.specs.Batch.{line_read};
+ghost use Rattle.sj_batch.specs.Given.{cost_given};
 ghost use Rattle.sj_group_run.specs.GroupJob.{errors_print};
 ghost use Rattle.sj_group_run.specs.Gathering.{read_kept, batch_print, batch_cost, batch_rows, Gathered};
 

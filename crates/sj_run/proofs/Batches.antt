@@ -24,8 +24,8 @@ use Rattle.sj_batch.specs.declared.batch.Behind.{Behind}
 use Rattle.sj_batch.specs.declared.batch.Behind.TheVariants.{Nothing}
 use Rattle.sj_stream.specs.LineJob.{lines_print, lines_cost}
 use Rattle.sj_run.specs.Output.{Asked, asked_from, tree_asked, line_asked, text_of, texts, row_count, error_count, rows_in, errors_in, total, prints, cost, line_job}
-use Rattle.sj_batch.specs.Seen.{line_as, rows_given, cost_given, line_read}
-use Rattle.sj_batch.specs.Batch.{reading, read_line, read_lines, ReadOn}
+use Rattle.sj_batch.specs.Given.{line_as, rows_given, cost_given}
+use Rattle.sj_batch.specs.Batch.{reading, read_line, read_lines, ReadOn, line_read}
 use Rattle.sj_run.specs.Batch.{batch_asked, bounds_in}
 use Rattle.sj_stream.proofs.Streaming.{lines_print-append, lines_cost-append}
 

@@ -19,7 +19,7 @@ use Rattle.sj_page.specs.declared.stop.Stop.TheVariants.{Memory}
 use Rattle.sj_page.proofs.Printing.{Printing, same_print, nothing_before, printed_on, printing_starts, printing_more}
 use Rattle.sj_stream.proofs.Pages.{row_counted}
 use Rattle.sj_run.specs.Output.{rows_text, row_count, error_count, rows_print, asked_from, prints, cost}
-use Rattle.sj_batch.specs.Seen.{rows_given, cost_given}
+use Rattle.sj_batch.specs.Given.{rows_given, cost_given}
 
 -- ---- one answer
 

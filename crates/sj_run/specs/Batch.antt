@@ -4,7 +4,7 @@ use Rattle.sj_bound.specs.Bound.{Bound}
 use Rattle.sj_bound.specs.View.{bound_of}
 use Rattle.sj_select.specs.Seen.{Seen}
 use Rattle.sj_batch.specs.declared.batch.ReadLine.{ReadLine}
-use Rattle.sj_batch.specs.Seen.{line_read}
+use Rattle.sj_batch.specs.Batch.{line_read}
 use Rattle.sj_run.specs.Output.{Asked, asked_from}
 
 -- what is asked of lines that were read

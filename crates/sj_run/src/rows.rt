@@ -7,7 +7,8 @@ ghost use Rattle.sj_page.specs.Pages.{print_state, Prints};
 ghost use Rattle.sj_file.specs.Job.{job_of, AreSound, IsReady, statement_limit};
 ghost use Rattle.sj_stream.specs.Out.{state_at, SameLoans};
 ghost use Rattle.sj_run.specs.Output.{rows_print, prints, cost, asked_from};
-ghost use Rattle.sj_batch.specs.Seen.{rows_given, cost_given, line_read};
+ghost use Rattle.sj_batch.specs.Batch.{line_read};
+ghost use Rattle.sj_batch.specs.Given.{rows_given, cost_given};
 ghost use Rattle.sj_run.specs.Batch.{batch_asked, bounds_in};
 
 use crate::kept::KeptRows;

@@ -6,7 +6,8 @@ use Rattle.sj_bound.specs.View.{bound_of}
 use Rattle.sj_group.specs.declared.aggregate.Aggregate.{Aggregate}
 use Rattle.sj_page.specs.Pages.{print_state, Printed, Stopped}
 use Rattle.sj_page.proofs.Printing.{printing_starts, printing_more, printing_stops}
-use Rattle.sj_batch.specs.Seen.{line_read, cost_given}
+use Rattle.sj_batch.specs.Batch.{line_read}
+use Rattle.sj_batch.specs.Given.{cost_given}
 use Rattle.sj_batch.proofs.Given.{cost_step, cost_stop}
 use Rattle.sj_group_run.specs.GroupJob.{errors_print}
 use Rattle.sj_group_run.specs.Gathering.{read_kept, Gathered}

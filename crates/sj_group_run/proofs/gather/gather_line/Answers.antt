@@ -11,7 +11,8 @@ use Rattle.sj_group.specs.declared.aggregate.Aggregate.{Aggregate}
 use Rattle.sj_group.specs.Grouping.{Row, IsRow, columns_of, takes}
 use Rattle.sj_page.specs.Pages.{Print, PrintState, print_state, Printed, Stopped, Prints}
 use Rattle.sj_page.proofs.Printing.{printed_none, stopped_before, prints_same}
-use Rattle.sj_batch.specs.Seen.{line_read, rows_given, cost_given}
+use Rattle.sj_batch.specs.Batch.{line_read}
+use Rattle.sj_batch.specs.Given.{rows_given, cost_given}
 use Rattle.sj_batch.proofs.Given.{rows_start, costs_start, spent_on, spent_last}
 use Rattle.sj_group_run.specs.Kept.{kept}
 use Rattle.sj_group_run.specs.GroupJob.{end_print, errors_print}

@@ -2,7 +2,8 @@ use Rattle.std.proofs.Common.{◌≡◌, ◌≤◌}
 use Rattle.sj_base.specs.Count.{raised}
 use Rattle.sj_bound.specs.View.{bound_of}
 use Rattle.sj_table.specs.Series.{size}
-use Rattle.sj_batch.specs.Seen.{line_read, rows_given, cost_given}
+use Rattle.sj_batch.specs.Batch.{line_read}
+use Rattle.sj_batch.specs.Given.{rows_given, cost_given}
 use Rattle.sj_group_run.proofs.Fits.{EachRow, FitsGroup}
 use Rattle.sj_group_run.proofs.KeptRows.{SoFar}
 use Rattle.sj_group_run.proofs.gather.gather_line.Given as goal

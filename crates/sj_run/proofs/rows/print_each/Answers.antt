@@ -4,7 +4,7 @@ use Rattle.sj_bound.specs.Bound.{Bound}
 use Rattle.sj_page.specs.Pages.{print_state, Printed, Stopped}
 use Rattle.sj_page.proofs.Printing.{printing_starts, printing_more, printing_stops}
 use Rattle.sj_run.specs.Batch.{bounds_in}
-use Rattle.sj_batch.specs.Seen.{line_read}
+use Rattle.sj_batch.specs.Batch.{line_read}
 use Rattle.sj_run.specs.Output.{asked_from, prints, cost}
 use Rattle.sj_run.proofs.Batches.{batch_first, batch_first_cost}
 use Rattle.sj_batch.proofs.Given.{cost_step, cost_stop}

@@ -6,7 +6,8 @@ use Rattle.sj_page.specs.Pages.{print_state, Printed, Stopped}
 use Rattle.sj_page.proofs.Printing.{printing_starts, printing_more, printing_stops}
 use Rattle.sj_run.specs.Batch.{bounds_in}
 use Rattle.sj_run.specs.Output.{rows_print}
-use Rattle.sj_batch.specs.Seen.{rows_given, cost_given, line_read}
+use Rattle.sj_batch.specs.Batch.{line_read}
+use Rattle.sj_batch.specs.Given.{rows_given, cost_given}
 use Rattle.sj_run.proofs.Batches.{rows_first, rows_asked}
 use Rattle.sj_batch.proofs.Given.{cost_step, cost_stop}
 use Rattle.sj_run.proofs.Turns.{statement_first, statement_cost_first}

@@ -4,7 +4,7 @@ use Rattle.sj_page.specs.Pages.{print_state}
 use Rattle.sj_page.proofs.Printing.{Printing}
 use Rattle.sj_run.specs.Output.{asked_from, prints, cost}
 use Rattle.sj_run.specs.Batch.{bounds_in}
-use Rattle.sj_batch.specs.Seen.{line_read}
+use Rattle.sj_batch.specs.Batch.{line_read}
 use Rattle.sj_run.proofs.rows.print_rows.Given as goal
 
 -- what was asked so far and what is left are all, and so with what it may take

@@ -5,7 +5,7 @@ use Rattle.sj_select_list.specs.Line.{line_of}
 use Rattle.sj_page.specs.Pages.{print_state}
 use Rattle.sj_page.proofs.Printing.{Printing}
 use Rattle.sj_run.specs.Output.{rows_print, row_count}
-use Rattle.sj_batch.specs.Seen.{rows_given, cost_given}
+use Rattle.sj_batch.specs.Given.{rows_given, cost_given}
 use Rattle.sj_run.proofs.rows.print_statement.Given as goal
 
 -- the rows so far and those that are left are all, and so with what they may take

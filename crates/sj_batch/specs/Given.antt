@@ -1,4 +1,4 @@
--- How statements see lines that were read, and what they give for them.
+-- How statements see a line, and what they give for it.
 use Rattle.std.specs.Prelude.{ℕ, List, Option, None, Some, if◌then◌else◌}
 use Rattle.sj_json.specs.Tree.{Tree}
 use Rattle.sj_json.specs.UniqueKeys.{has_unique_keys}
@@ -9,8 +9,6 @@ use Rattle.sj_select_list.specs.Line.{Line, not_json, repeated, json}
 use Rattle.sj_select.specs.Rows.{statement_rows, statement_cost}
 use Rattle.sj_file.specs.declared.job.Keys.{Keys}
 use Rattle.sj_file.specs.declared.job.Keys.TheVariants.{Any, Unique}
-use Rattle.sj_batch.specs.declared.batch.Reading.{Reading}
-use Rattle.sj_batch.specs.declared.batch.Reading.TheVariants as r
 
 -- ---- how statements see a line
 
@@ -19,12 +17,6 @@ abbrev pub line_as : Keys → Option Tree → Line
 line_as keys None = not_json
 line_as Any (Some t) = json t
 line_as Unique (Some t) = if has_unique_keys t then json t else repeated t
-
--- as it was read
-abbrev pub line_read : Reading → Line
-line_read r.NotJson = not_json
-line_read (r.Repeated t) = repeated t
-line_read (r.Json t) = json t
 
 -- ---- what a statement gives for a line, by names of their own, so that a proof about many lines does not look into how it is found
 
