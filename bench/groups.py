@@ -8,8 +8,8 @@ to be at most: that of `run`, 2.5 times the text of the groups, and 100 bytes fo
 since its time grows with their square.
 
 Then come keys that were chosen to have one hash. The map of the groups has a hash with a fixed seed, so anybody can find
-such keys. They are told beside other keys of their length. The script ends with status 1 where the groups differ or the memory is over. The benchmark is no part
-of the tests, and nothing that it says is proved.
+such keys. They are told beside other keys of their length. The script ends with status 1 where the groups differ or the
+memory is over. The benchmark is no part of the tests, and nothing that it says is proved.
 """
 import filecmp
 import importlib.util
