@@ -3,9 +3,11 @@
 Each loop writes the rows that the program writes for its statement, byte for byte: the line's number, the statement's,
 which is 1, `R` and the values, or `E` and the SQLSTATE. A loop is made for the lines that corpora.py writes, as one
 would write it by hand for a known input: `member` for lines that are objects, `is_json` for any lines, `wide`, `small`
-and `deep` for lines of these kinds, and the others for orders, which have all their members.
+and `deep` for lines of these kinds, `group` for those of groups.py, and the others for orders, which have all their
+members.
 """
 import sys
+from collections import defaultdict
 
 from orjson import JSONDecodeError, dumps, loads
 
@@ -84,6 +86,15 @@ def deep(lines, write):
         write(b"%d\t1\tR\t%d\n" % (number, found["leaf"]))
 
 
+def group(lines, write):
+    groups = defaultdict(list)
+    for line in lines:
+        found = loads(line)
+        groups[found["k"]].append(found["v"])
+    for key, values in groups.items():
+        write(b"G\t%s\t%d\t%s\n" % (text(key).encode(), len(values), json(values)))
+
+
 def text(value):
     """A text as it stands in a row. (On short texts `translate` takes longer.)"""
     return value.replace("\\", "\\\\").replace("\t", "\\t").replace("\n", "\\n").replace("\r", "\\r")
@@ -114,7 +125,7 @@ def kind_of(line):
     return OBJECT if found is dict else ARRAY if found is list else SCALAR
 
 
-LOOPS = {loop.__name__: loop for loop in (member, exists, value, query, table, is_json, aggregate, wide, small, deep)}
+LOOPS = {loop.__name__: loop for loop in (member, exists, value, query, table, is_json, aggregate, wide, small, deep, group)}
 
 
 if __name__ == "__main__":
