@@ -32,6 +32,7 @@ from checks.loading import check_loading
 from checks.machines import check_machines
 from checks.packaging import check_packaging
 from checks.program import Program
+from checks.reading import check_reading
 from checks.recipes import check_recipes
 from checks.refusals import check_refusals
 from checks.rows import check_rows
@@ -71,6 +72,7 @@ def check_quick(tally):
         return
     program = Program(CHECKED)
     check_texts(tally, TOP)
+    check_reading(tally, TOP)
     check_examples(tally, program, TOP / "examples")
     check_rows(tally, program, TOP / "checks" / "rows", MOST_BYTES)
     check_guide(tally, program, TOP)
@@ -82,6 +84,7 @@ def check_all(tally, given):
         tally.add_gate(int(status), Path(log).read_text(encoding="utf-8", errors="replace"))
     program = Program(given.program or BUILT)
     check_texts(tally, TOP)
+    check_reading(tally, TOP)
     check_refusals(tally, TOP)
     check_definitions(tally, TOP)
     check_counters(tally, TOP)

@@ -10,6 +10,8 @@ import sys
 from dataclasses import dataclass, replace
 from pathlib import Path
 
+from checks.crates import listed
+
 PAGE = "docs/REFUSALS.md"
 EVERY, OK, REFUSED = "every answer", "Ok", "a refusal"
 ITEM = re.compile(r"^(?:impl|pub trait|trait)\b.*?\{$.*?^\}$", re.M | re.S)
@@ -111,8 +113,7 @@ def check_refusals(tally, top):
 
 def calls_of(top):
     """The public calls that can refuse and have a `&mut` argument, by the names of the crates, in the order of crates.txt."""
-    crates = [line.split()[0].rstrip(":") for line in (top / "crates.txt").read_text(encoding="utf-8").split("\n") if line.strip()]
-    return {crate: found for crate in crates if (found := sorted(with_met(in_crate(top / "crates" / crate / "src")), key=lambda call: call.name))}
+    return {crate: found for crate in listed(top) if (found := sorted(with_met(in_crate(top / "crates" / crate / "src")), key=lambda call: call.name))}
 
 
 def with_met(calls):
