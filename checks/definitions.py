@@ -50,8 +50,8 @@ A proof shows that the code does what its contract says. Whether the contract sa
 and for that the definitions that it names have to be read. This page lists them with their lines, so that they can be
 counted. `checks/definitions.py` makes it of the sources, and fails where the page differs, where the sum grows past
 {most:,} lines, and where one of the modules is a view: one that says how the code holds or reads something, as the
-`Layouts` of a document or the `Machine` of the reader do. [PROOFS.md](PROOFS.md) has the definitions of each crate in
-words.
+`Layouts` of a document or the `Machine` of the reader do. [PROOFS.md](PROOFS.md) says what the
+definitions of each crate are.
 
 The list begins with what the contract of `run` names (`crates/sj_run/src/command.rt`), and goes on with what these
 definitions name. Lines are counted with the comments above a definition, and without imports and empty lines. What

@@ -70,7 +70,8 @@ USED_NO_MORE = {
 INTRODUCTION = """# What a refused call leaves
 
 For each public call that can refuse, by a `Result` or a `Status`, and each of its `&mut` arguments: what the argument is
-after a refusal, and the clauses of the contract that say what it is. [PROOFS.md](PROOFS.md) has the clauses in words.
+after a refusal, and the clauses of the contract that say what it is. [PROOFS.md](PROOFS.md) has the claim
+as a whole.
 
 - *At every answer*: the clause says it whatever the call answers. What it says of each answer is in the definition that
   it cites.
