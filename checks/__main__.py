@@ -36,6 +36,7 @@ from checks.reading import check_reading
 from checks.recipes import check_recipes
 from checks.refusals import check_refusals
 from checks.rows import check_rows
+from checks.scanning import check_scanning
 from checks.show import check_show
 from checks.tally import Tally
 from checks.texts import check_texts
@@ -95,6 +96,7 @@ def check_all(tally, given):
         check_rows(tally, program, TOP / "checks" / "rows")
         check_show(tally, program, TOP)
         check_grouping(tally, program)
+        check_scanning(tally, program)
         check_decimals(tally, program)
         check_guide(tally, program, TOP)
         check_recipes(tally, program, TOP)

@@ -18,7 +18,7 @@ from checks import streams
 from checks.answers import accepted, refusal
 from checks.program import CLOSED, Ended, difference, front_problem
 
-USAGE = b"usage: sqljson run [--unique-keys] FILE | check FILE | selfrun N FILE | show FILE | group FILE\n"
+USAGE = b"usage: sqljson run [--unique-keys] FILE | check FILE | selfrun N FILE | show FILE | group FILE | scan PATH\n"
 UNREADABLE = Ended(3, note=b"statement file cannot be read\n")
 TOO_LONG = Ended(8, note=b"statement file too long\n")
 MEMBER = b"SELECT JSON_EXISTS(doc, 'lax $.a');\n"
@@ -78,7 +78,7 @@ def check_words(tally, program, folder):
         [], ["run"], ["run", ""], ["run", "-x"], ["run", "member.sql", "more"], ["RUN", "member.sql"], ["check", "-x"],
         ["run", "--unique-keys"], ["selfrun", "1000000", "member.sql"], ["selfrun", "", "member.sql"],
         ["selfrun", "-1", "member.sql"], ["selfrun", "member.sql"], ["member.sql"], ["show", "-x"], ["group"], ["group", "-x"],
-        ["group", "--unique-keys", "groups.sql"],
+        ["group", "--unique-keys", "groups.sql"], ["scan"], ["scan", "$", "$"], ["scan", "--unique-keys", "$"],
     ]
     for words in refused:
         tally.check(f"the words {words}", difference(Ended(1, note=USAGE), program.run(words, b"true\n", folder)))
@@ -393,7 +393,7 @@ def check_early_end(tally, program, folder):
 def check_unread_input(tally, program, folder):
     """The input is left alone where the words or the file are refused, in a check and in a run over generated lines."""
     (folder / "lines").write_bytes(streams.LINES)
-    for words in [["walk"], ["run", "refused.sql"], ["run", "absent.sql"], ["run", "too_long.sql"], ["group", "member.sql"], CHECK, SELFRUN]:
+    for words in [["walk"], ["run", "refused.sql"], ["run", "absent.sql"], ["run", "too_long.sql"], ["group", "member.sql"], ["scan", "$["], ["scan", "$.a.size()"], CHECK, SELFRUN]:
         with open(folder / "lines", "rb", buffering=0) as given:
             program.run(words, folder=folder, stdin=given)
             taken = given.tell()

@@ -13,7 +13,7 @@ STATUS = re.compile(r"^\| [^|]* \| (\d) \| (.*?) \|", re.M)
 ENTRY = re.compile(r"^\.TP\n(\w+)\n(.*)$", re.M)
 # What a user has typed behind the name of a command, and what it is completed to in the folder of the recipes.
 COMPLETED = [
-    ("sqljson", [""], "run check selfrun show group"),
+    ("sqljson", [""], "run check selfrun show group scan"),
     ("sqljson", ["c"], "check"),
     ("sqljson", ["run", "-"], "--unique-keys"),
     ("sqljson", ["run", "o"], "objects.sql orders.sql"),
@@ -21,6 +21,7 @@ COMPLETED = [
     ("sqljson", ["show", "name"], "name.sql"),
     ("sqljson", ["group", "name"], "name.sql"),
     ("sqljson", ["selfrun", "1"], ""),
+    ("sqljson", ["scan", "o"], ""),
     ("sqljson-where", ["ord"], "orders.sql"),
     ("sqljson-where", ["--p"], "--program"),
     ("sqljson-split-rows", ["--n"], "--null-columns --numbers"),

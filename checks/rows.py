@@ -17,7 +17,8 @@ those that the program writes, with tabs between their fields, but without the n
 
 Below the title `$ run --unique-keys FILE` gives other words than `run FILE`; FILE stands for the statement file. A run
 that ends with another status than 0 has a last line `! STATUS MESSAGE`; what it writes is then all that stands below
-its statements, as it is, and so it is for `show FILE` and `group FILE`. `‹..›` holds bytes as hexadecimal digits, and
+its statements, as it is, and so it is for `show FILE`, `group FILE` and `scan PATH`. Words that name no file have a
+line `>` in place of statements, and a blank in a word is written `‹20›`. `‹..›` holds bytes as hexadecimal digits, and
 maybe how often they come: `‹FF›`, `‹5B * 64›`.
 
 Where many cases have one form, each is a line, with its answers behind an arrow:
@@ -63,7 +64,7 @@ HEX = re.compile(r"‹([0-9A-Fa-f ]*)(?:\*\s*(\d+)\s*)?›")
 ARROW = " => "
 OTHER = " ; "
 FILE = "rows.sql"
-TAKE_LINES = ["run", "group"]  # words whose runs read an input
+TAKE_LINES = ["run", "group", "scan"]  # words whose runs read an input
 BYTE_BY_BYTE = 400  # so many bytes of input at most are given one at a time
 SHOWN = 12  # lines of a difference that are shown
 
@@ -140,6 +141,9 @@ def case_of(title, lines):
             case.statements[-1] += f"\n{text}"
         elif sign == "> ":
             case.statements.append(text)
+            case.rows.append([])
+        elif line == ">":
+            case.statements.append("")
             case.rows.append([])
         elif sign == "| ":
             case.entries.append(text)

@@ -25,10 +25,10 @@ _sqljson() {
     local word=${COMP_WORDS[COMP_CWORD]} command=${COMP_WORDS[1]}
     COMPREPLY=()
     if ((COMP_CWORD == 1)); then
-        _sqljson_words "$word" run check selfrun show group
+        _sqljson_words "$word" run check selfrun show group scan
     elif [[ $command == run && $word == -* ]]; then
         _sqljson_words "$word" --unique-keys
-    elif [[ $command == selfrun && $COMP_CWORD -eq 2 ]]; then
+    elif [[ $command == scan || $command == selfrun && $COMP_CWORD -eq 2 ]]; then
         return
     else
         _sqljson_statements "$word"
