@@ -17,7 +17,7 @@ fn write_note<N: Sink>(notes: &mut N, status: Status) -> Result<(), Failed>
         Status::Done => write_all(notes, b""),
         Status::Usage => write_all(
             notes,
-            b"usage: sqljson run [--unique-keys] FILE | check FILE | selfrun N FILE | show FILE | group FILE\n",
+            b"usage: sqljson run [--unique-keys] FILE | check FILE | selfrun N FILE | show FILE | group FILE | scan PATH\n",
         ),
         Status::Refused(k, kind) => {
             let mut buffer = Buffer::new();
