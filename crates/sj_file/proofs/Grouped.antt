@@ -1,16 +1,15 @@
 -- What each form refuses, and what grouping does.
-use Rattle.std.proofs.Common.{◌≡◌, ◌≢◌, inl, inr, ℕ, ◌+◌, List, [], ◌∷◌, ◌++◌, length, map, Option, None, Some, Result, Ok, Err, refl, sym, ◌∙◌, ap, subst, arith}
+use Rattle.std.proofs.Common.{◌≡◌, inl, inr, ℕ, List, [], ◌∷◌, refl, sym, ◌∙◌, subst}
 use Rattle.sj_sql_grammar.specs.declared.refusal.FileKind.{FileKind}
 use Rattle.sj_sql_grammar.specs.declared.refusal.FileKind.TheVariants.{Group}
 use Rattle.sj_bound.specs.Bound.{Bound}
-use Rattle.sj_bound.specs.Sound.{IsSound}
 use Rattle.sj_group.specs.declared.aggregate.Aggregate.{Aggregate}
 use Rattle.sj_file.specs.declared.status.Status.{Status}
 use Rattle.sj_file.specs.declared.status.Status.TheVariants.{Done, Usage, Refused, ShelfFault, ReadFault, WriteFault, Memory, InputLimit, FileTooLong}
-use Rattle.sj_file.specs.File.{ShelfSide, Form, running, checking, generating, showing, grouping}
-use Rattle.sj_file.specs.Verdict.{Accepts, Refuses}
-use Rattle.sj_file.specs.Accepted.{Accepted, RefusedFile, IsUntaken, IsUnaccepted}
-use Rattle.sj_file.specs.ToGroup.{CanGroup, Unfit, IsUnfit, RefusesToGroup, RefusesFor}
+use Rattle.sj_file.specs.File.{ShelfSide, Form, running, checking, generating, showing, grouping, scanning}
+use Rattle.sj_file.specs.Verdict.{Accepts}
+use Rattle.sj_file.specs.Accepted.{Accepted, IsUntaken, IsUnaccepted}
+use Rattle.sj_file.specs.ToGroup.{CanGroup, Unfit, RefusesToGroup, RefusesFor}
 use Rattle.sj_file.proofs.Verdicts.{one_accepted, one_refusal, not_both}
 
 -- ---- a file has one refusal at the most, whatever the form
@@ -37,6 +36,7 @@ one_refusal_for (checking name) = one_refusal
 one_refusal_for (generating number name) = one_refusal
 one_refusal_for (showing name) = one_refusal
 one_refusal_for (grouping name) = one_to_group
+one_refusal_for (scanning path) = λ file k n kind other p q. absurd p
 
 -- ---- a file that is taken is not refused
 
@@ -59,13 +59,6 @@ to_group name s s' Usage why = why
 to_group name s s' ReadFault why = why
 to_group name s s' WriteFault why = why
 to_group name s s' InputLimit why = why
-
-pub untaken : (form : Form) (name : List ℕ) (s s' : ShelfSide) (status : Status) → IsUnaccepted name s s' status → IsUntaken (RefusesFor form) name s s' status
-untaken (running keys name) = λ n s s' status why. why
-untaken (checking name) = λ n s s' status why. why
-untaken (generating number name) = λ n s s' status why. why
-untaken (showing name) = λ n s s' status why. why
-untaken (grouping name) = to_group
 
 -- statements that are accepted, and are not one to group
 pub unfit_file : (name : List ℕ) (s s' : ShelfSide) (K : List Bound) (k : ℕ) → Accepted name s s' K → Unfit k K → IsUntaken RefusesToGroup name s s' (Refused k Group)

@@ -8,7 +8,7 @@ use Rattle.sj_path_tree.specs.Tree.{Path}
 use Rattle.sj_sql_grammar.specs.Tree.{Statement}
 use Rattle.sj_bound.specs.Bound.{Bound}
 use Rattle.sj_file.specs.declared.job.Keys.{Keys}
-use Rattle.sj_file.specs.File.{ShelfSide, Form, running, checking, generating, showing, grouping, file_shown, IsFile, IsTooLong}
+use Rattle.sj_file.specs.File.{ShelfSide, Form, running, checking, generating, showing, grouping, scanning, file_shown, IsFile, IsTooLong}
 use Rattle.sj_file.specs.Verdict.{Accepts, IsReadAs}
 use Rattle.sj_file.specs.Accepted.{Accepted, RefusedFile}
 use Rattle.sj_file.proofs.Texts.{read_as}
@@ -94,6 +94,7 @@ for_run (Some (checking name)) files P h = by_some (file_shown files None) _ (λ
 for_run (Some (generating number name)) files P h = by_some (file_shown files None) _ (λ file shown. absurd (no_name files file shown))
 for_run (Some (showing name)) files P h = by_some (file_shown files None) _ (λ file shown. absurd (no_name files file shown))
 for_run (Some (grouping name)) files P h = by_some (file_shown files None) _ (λ file shown. absurd (no_name files file shown))
+for_run (Some (scanning path)) files P h = by_some (file_shown files None) _ (λ file shown. absurd (no_name files file shown))
 
 pub for_check : (f : Option Form) (files : Option Files) (P : List ℕ → Type 0) → ((name file : List ℕ) → f ≡ Some (checking name) → file_shown files (Some name) ≡ Some file → P file)
     → IfChecks f files P
@@ -103,6 +104,7 @@ for_check (Some (checking name)) files P h = by_some (file_shown files (Some nam
 for_check (Some (generating number name)) files P h = by_some (file_shown files None) _ (λ file shown. absurd (no_name files file shown))
 for_check (Some (showing name)) files P h = by_some (file_shown files None) _ (λ file shown. absurd (no_name files file shown))
 for_check (Some (grouping name)) files P h = by_some (file_shown files None) _ (λ file shown. absurd (no_name files file shown))
+for_check (Some (scanning path)) files P h = by_some (file_shown files None) _ (λ file shown. absurd (no_name files file shown))
 
 pub for_generated : (f : Option Form) (files : Option Files) (P : ℕ → List ℕ → Type 0) → ((number : ℕ) (name file : List ℕ) → f ≡ Some (generating number name) → file_shown files (Some name) ≡ Some file → P number file)
     → IfGenerates f files P
@@ -112,6 +114,7 @@ for_generated (Some (checking name)) files P h = by_some (file_shown files None)
 for_generated (Some (generating number name)) files P h = by_some (file_shown files (Some name)) _ (λ file shown. h number name file refl shown)
 for_generated (Some (showing name)) files P h = by_some (file_shown files None) _ (λ file shown. absurd (no_name files file shown))
 for_generated (Some (grouping name)) files P h = by_some (file_shown files None) _ (λ file shown. absurd (no_name files file shown))
+for_generated (Some (scanning path)) files P h = by_some (file_shown files None) _ (λ file shown. absurd (no_name files file shown))
 
 pub for_show : (f : Option Form) (files : Option Files) (P : List ℕ → Type 0) → ((name file : List ℕ) → f ≡ Some (showing name) → file_shown files (Some name) ≡ Some file → P file)
     → IfShows f files P
@@ -121,6 +124,7 @@ for_show (Some (checking name)) files P h = by_some (file_shown files None) _ (�
 for_show (Some (generating number name)) files P h = by_some (file_shown files None) _ (λ file shown. absurd (no_name files file shown))
 for_show (Some (showing name)) files P h = by_some (file_shown files (Some name)) _ (λ file shown. h name file refl shown)
 for_show (Some (grouping name)) files P h = by_some (file_shown files None) _ (λ file shown. absurd (no_name files file shown))
+for_show (Some (scanning path)) files P h = by_some (file_shown files None) _ (λ file shown. absurd (no_name files file shown))
 
 pub for_group : (f : Option Form) (files : Option Files) (P : List ℕ → Type 0) → ((name file : List ℕ) → f ≡ Some (grouping name) → file_shown files (Some name) ≡ Some file → P file)
     → IfGroups f files P
@@ -130,3 +134,4 @@ for_group (Some (checking name)) files P h = by_some (file_shown files None) _ (
 for_group (Some (generating number name)) files P h = by_some (file_shown files None) _ (λ file shown. absurd (no_name files file shown))
 for_group (Some (showing name)) files P h = by_some (file_shown files None) _ (λ file shown. absurd (no_name files file shown))
 for_group (Some (grouping name)) files P h = by_some (file_shown files (Some name)) _ (λ file shown. h name file refl shown)
+for_group (Some (scanning path)) files P h = by_some (file_shown files None) _ (λ file shown. absurd (no_name files file shown))

@@ -20,13 +20,14 @@ abbrev pub is_file_name : List ℕ → Bool
 is_file_name [] = false
 is_file_name (x ∷ name) = not (x == 45)
 
--- what the words ask for: the statements of a file are run over the input, or checked, or run over so many generated lines, or shown, or grouped over the input
+-- what the words ask for: the statements of a file are run over the input, or checked, or run over so many generated lines, or shown, or grouped over the input; or the items of a path are told
 pub data Form : Type 0 where
   running : (keys : Keys) (name : List ℕ) → Form
   checking : (name : List ℕ) → Form
   generating : (number : ℕ) (name : List ℕ) → Form
   showing : (name : List ℕ) → Form
   grouping : (name : List ℕ) → Form
+  scanning : (path : List ℕ) → Form
 
 -- ---- a number of lines: one to six decimal digits
 
@@ -46,14 +47,18 @@ number_of word = if is_number word then Some (number_from 0 word) else None
 -- ---- the words
 
 -- `run FILE`, `check FILE`, `show FILE` and `group FILE`
-abbrev pub form_of : List ℕ → List ℕ → Option Form
-form_of word name =
+abbrev pub form_of_file : List ℕ → List ℕ → Option Form
+form_of_file word name =
     if is_file_name name
     then (if bytes_eq word (codes "run") then Some (running Any name)
     else (if bytes_eq word (codes "check") then Some (checking name)
     else (if bytes_eq word (codes "show") then Some (showing name)
     else (if bytes_eq word (codes "group") then Some (grouping name) else None))))
     else None
+
+-- and `scan PATH`, where any word is taken for a path
+abbrev pub form_of : List ℕ → List ℕ → Option Form
+form_of word other = if bytes_eq word (codes "scan") then Some (scanning other) else form_of_file word other
 
 abbrev pub generating_as : List ℕ → Option ℕ → Option Form
 generating_as name None = None
@@ -85,6 +90,7 @@ form_value (f.Check name) = checking name.now
 form_value (f.Generated number name) = generating number name.now
 form_value (f.Show name) = showing name.now
 form_value (f.Group name) = grouping name.now
+form_value (f.Scan path) = scanning path.now
 
 -- a number of lines has six digits at most
 abbrev pub IsWithin : declared.Form → Type 0
@@ -93,6 +99,7 @@ IsWithin (f.Check name) = Unit {0}
 IsWithin (f.Generated number name) = number ≤ most_lines
 IsWithin (f.Show name) = Unit {0}
 IsWithin (f.Group name) = Unit {0}
+IsWithin (f.Scan path) = Unit {0}
 
 -- ---- the file that is named
 
@@ -103,6 +110,7 @@ named_in (checking name) = Some name
 named_in (generating number name) = Some name
 named_in (showing name) = Some name
 named_in (grouping name) = Some name
+named_in (scanning path) = None
 
 abbrev pub file_named : Option Form → Option (List ℕ)
 file_named None = None
@@ -141,6 +149,11 @@ file_to_show _ = None
 abbrev pub file_to_group : Option Form → Option (List ℕ)
 file_to_group (Some (grouping name)) = Some name
 file_to_group _ = None
+
+-- the text of the path whose items are told
+abbrev pub path_scanned : Option Form → Option (List ℕ)
+path_scanned (Some (scanning path)) = Some path
+path_scanned _ = None
 
 -- the shelf as it is seen at one moment
 pub record ShelfSide : Type 0 where

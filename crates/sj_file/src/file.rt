@@ -19,8 +19,8 @@ const MAX_FILE: usize = 1_048_576;
 /// How many digits a number of lines may have.
 const MAX_DIGITS: usize = 6;
 
-/// What the words ask for, with the name of a file of statements. The name is a word, lent. It is not empty and does
-/// not begin with a minus.
+/// What the words ask for, with the name of a file of statements, or with the text of a path. Both are words, lent. A
+/// name is not empty and does not begin with a minus; a path may be any word.
 #[derive(Clone, Copy)]
 pub enum Form<'a> {
     /// `run FILE` or `run --unique-keys FILE`: its statements are run over the input.
@@ -33,6 +33,8 @@ pub enum Form<'a> {
     Show(&'a str),
     /// `group FILE`: the rows of its one statement are gathered over the input.
     Group(&'a str),
+    /// `scan PATH`: the items of a path are told for each line of the input.
+    Scan(&'a str),
 }
 
 /// What the words ask for, or nothing if they are of none of the forms. The words are those behind the name of the
@@ -50,8 +52,19 @@ pub fn form_of(words: &[String]) -> Option<Form<'_>>
     }
 }
 
-fn form_of_two<'a>(word: &str, name: &'a str) -> Option<Form<'a>>
-    ensures form { option_map form_value result ≡ spec.form_of word.now name.now }
+fn form_of_two<'a>(word: &str, other: &'a str) -> Option<Form<'a>>
+    ensures form { option_map form_value result ≡ spec.form_of word.now other.now }
+    ensures within { IfSome result IsWithin }
+{
+    if word == "scan" {
+        Some(Form::Scan(other))
+    } else {
+        form_of_file(word, other)
+    }
+}
+
+fn form_of_file<'a>(word: &str, name: &'a str) -> Option<Form<'a>>
+    ensures form { option_map form_value result ≡ spec.form_of_file word.now name.now }
     ensures within { IfSome result IsWithin }
 {
     if !may_be_file(name) {

@@ -1,5 +1,5 @@
 -- What follows of how a command ended.
-use Rattle.std.proofs.Common.{◌≡◌, inl, inr, ◌↔◌, ℕ, ◌+◌, ◌-◌, ◌<◌, ◌≤◌, List, [], ◌++◌, length, take, drop, Option, None, Some, IsTrue, IfSome, refl, sym, ◌∙◌, ap, subst, arith, length-append}
+use Rattle.std.proofs.Common.{◌≡◌, inl, inr, ◌↔◌, ℕ, ◌+◌, ◌-◌, ◌<◌, ◌≤◌, List, [], length, take, drop, Option, None, Some, IsTrue, IfSome, refl, sym, ◌∙◌, ap, subst, arith, length-append}
 use Rattle.std.proofs.lemmas.List.{take-append-drop, append-nil}
 use Rattle.std.specs.Io.KnownBytes.{Consumes, IsAtEnd}
 use Rattle.sj_base.specs.Count.{Rose, raised}
@@ -21,7 +21,7 @@ use Rattle.sj_file.specs.declared.job.Keys.TheVariants.{Any}
 use Rattle.sj_file.specs.declared.status.Status.{Status}
 use Rattle.sj_file.specs.declared.status.Status.TheVariants.{Done, Usage, Refused, ShelfFault, ReadFault, WriteFault, Memory, InputLimit, FileTooLong}
 use Rattle.sj_file.specs.Piece.{max_piece}
-use Rattle.sj_file.specs.File.{ShelfSide, Form, running, checking, generating, showing, grouping, named_in, file_named, file_run, file_shown}
+use Rattle.sj_file.specs.File.{ShelfSide, Form, running, checking, generating, showing, grouping, scanning, named_in, file_named, file_run, file_shown}
 use Rattle.sj_file.specs.Verdict.{Accepts, IsReadAs, Refuses}
 use Rattle.sj_file.specs.ToGroup.{RefusesFor}
 use Rattle.sj_file.specs.Conditions.{IfRuns, IfChecks, IfGenerates, IfShows, IfNames, IfAccepted, IfRead, IsOrMemory}
@@ -36,8 +36,9 @@ use Rattle.sj_stream.specs.Then.{Ends, StreamedThen}
 use Rattle.sj_group_run.specs.GroupJob.{group_job}
 use Rattle.sj_run.specs.Output.{job}
 use Rattle.sj_stream.specs.Stream.{IsPrefix, IsWhy, Streamed, IsFrontOf, WroteLeast, WroteWhole, StepsWithin, TookMost}
+use Rattle.sj_run.specs.Scanned.{scan_job, IsUnscanned}
 use Rattle.sj_run.specs.Summary.{summary_text}
-use Rattle.sj_run.specs.Ran.{Moment, accepted_text, WroteCanonical, Tells, RanGenerated, Does, Idle, Did, RanOver, Ran, IsRefusedBy, IsBefore}
+use Rattle.sj_run.specs.Ran.{Moment, accepted_text, WroteCanonical, Tells, RanGenerated, Does, Idle, Did, IsUnwanted, RanOver, Ran, IsRefusedBy, IsBefore}
 use Rattle.sj_stream.proofs.Steps.{raised_none}
 use Rattle.sj_stream.proofs.Then.{all_taken}
 use Rattle.sj_stream.proofs.Streaming.{whole_output-append, output-end, prefix_trans, consumes_none, told, streamed_front}
@@ -96,6 +97,32 @@ not_before (checking name) T K i i' o o' status d is = tells_not_before (accepte
 not_before (generating number name) T K i i' o o' status d is = tells_not_before (summary_text number K) o o' status d.1 is
 not_before (showing name) T K i i' o o' status d is = tells_not_before (lines_text T) o o' status d.1 is
 not_before (grouping name) T K i i' o o' status d is = then_not_before (group_job d.aggregate d.statement) i i' o o' status d.streamed is
+not_before (scanning text) T K i i' o o' status d is = streamed_not_before (scan_job d.path) i i' o (record { out = o'; page = d.page }) status d.streamed is
+
+-- a form that was not taken, and that names no file, ended with a refusal or for want of memory
+abbrev Unwanted : Status → Type 0
+Unwanted (Refused k kind) = Unit {0}
+Unwanted Memory = Unit {0}
+Unwanted _ = ⊥
+
+unscanned : (text : List ℕ) (status : Status) → IsUnscanned text status → Unwanted status
+unscanned text (Refused k kind) why = tt
+unscanned text Memory why = tt
+unscanned text Done why = absurd why
+unscanned text Usage why = absurd why
+unscanned text ShelfFault why = absurd why
+unscanned text ReadFault why = absurd why
+unscanned text WriteFault why = absurd why
+unscanned text InputLimit why = absurd why
+unscanned text FileTooLong why = absurd why
+
+unwanted : (f : Form) (status : Status) → IsUnwanted f status → Unwanted status
+unwanted (scanning text) status why = unscanned text status why
+unwanted (running keys name) status why = absurd why
+unwanted (checking name) status why = absurd why
+unwanted (generating number name) status why = absurd why
+unwanted (showing name) status why = absurd why
+unwanted (grouping name) status why = absurd why
 
 -- ---- by the form
 
@@ -195,7 +222,7 @@ least_by_why K i i' o o' bytes text ShelfFault why = absurd why
 least_by_why K i i' o o' bytes text FileTooLong why = absurd why
 least_by_why K i i' o o' bytes text (Refused k kind) why = absurd why
 
-streamed_least : (K : LineJob) (i i' : InputSide) (o : OutputSide) (o' : PrintState) (status : Status) → Streamed K i i' o o' status → WroteLeast K i i' o o'.out
+pub streamed_least : (K : LineJob) (i i' : InputSide) (o : OutputSide) (o' : PrintState) (status : Status) → Streamed K i i' o o' status → WroteLeast K i i' o o'.out
 unfolding front_and_least
 streamed_least K i i' o o' status s =
     let l = least_by_why K i i' o o' s.bytes s.text status s.why in
@@ -204,7 +231,7 @@ streamed_least K i i' o o' status s =
 idle_consumes : (i i' : InputSide) → i' ≡ i → Consumes i.left i'.left []
 idle_consumes i i' same = subst (λ (p : InputSide). Consumes i.left p.left []) (sym same) (consumes_none i.left)
 
-idle_least : (K : LineJob) (i i' : InputSide) (o o' : OutputSide) → i' ≡ i → o' ≡ o → WroteLeast K i i' o o'
+pub idle_least : (K : LineJob) (i i' : InputSide) (o o' : OutputSide) → i' ≡ i → o' ≡ o → WroteLeast K i i' o o'
 idle_least K i i' o o' input out = record {
   bytes = [];
   consumed = idle_consumes i i' input;
@@ -259,6 +286,7 @@ ran_to_end (Some (checking name)) b a status r so = tt
 ran_to_end (Some (generating number name)) b a status r so = tt
 ran_to_end (Some (showing name)) b a status r so = tt
 ran_to_end (Some (grouping name)) b a status r so = tt
+ran_to_end (Some (scanning text)) b a status r so = tt
 
 -- ---- when a command is done
 
@@ -407,6 +435,7 @@ did_not_refuse (generating number named) name b a status file n other d shown ba
 did_not_refuse (showing named) name b a status file n other d shown bad = not_both file d.statements n other (accepted_as name b.shelf a.shelf d.statements file shown d.accepted) bad
 did_not_refuse (grouping named) name b a status file n other d shown bad =
     not_unfit file d.does.statement d.does.aggregate (subst (Accepts file) d.does.only (accepted_as name b.shelf a.shelf d.statements file shown d.accepted)) d.does.fits n other bad
+did_not_refuse (scanning text) name b a status file n other d shown bad = bad
 
 pub ran_refuses : (f : Option Form) (b a : Moment) (status : Status) → Ran f b a status → (Rose b.shelf.faults a.shelf.faults → ⊥)
     → IfNames f b.shelf.files (λ file. length file ≤ max_file → (n : ℕ) (other : FileKind) → IsRefusedBy f file n other → IsOrMemory status (Refused n other))
@@ -427,7 +456,8 @@ ran_refused None b a status r k kind is = absurd (cc (r.0, is))
 ran_refused (Some f) b a status r k kind is = over (named_in f) (subst (Ran (Some f) b a) is r)
   where
     over : (named : Option (List ℕ)) → RanOver f named b a (Refused k kind) → (a.shelf.faults ≡ b.shelf.faults) × IfSome (file_shown b.shelf.files named) (λ file. (length file ≤ max_file) × RefusesFor f file k kind)
-    over None d = absurd (not_before f [] [] b.input a.input b.out a.out (Refused k kind) d.does tt)
+    over None (inl idle) = (ap (λ (m : Moment). m.shelf.faults) idle.same, by_some (file_shown b.shelf.files None) _ (λ file shown. absurd (no_name b.shelf.files file shown)))
+    over None (inr d) = absurd (not_before f [] [] b.input a.input b.out a.out (Refused k kind) d.does tt)
     over (Some name) (inl idle) = (idle.why.holds.no_fault, by_some (file_shown b.shelf.files (Some name)) _ (λ file shown. refused_as (RefusesFor f) name b.shelf a.shelf k kind file shown idle.why))
     over (Some name) (inr d) = absurd (not_before f d.accepted.accepted.statements d.statements b.input a.input b.out a.out (Refused k kind) d.does tt)
 
@@ -439,7 +469,8 @@ ran_too_long None b a status r is = absurd (cc (r.0, is))
 ran_too_long (Some f) b a status r is = over (named_in f) (subst (Ran (Some f) b a) is r)
   where
     over : (named : Option (List ℕ)) → RanOver f named b a FileTooLong → (a.shelf.faults ≡ b.shelf.faults) × IfSome (file_shown b.shelf.files named) (λ file. max_file < length file)
-    over None d = absurd (not_before f [] [] b.input a.input b.out a.out FileTooLong d.does tt)
+    over None (inl idle) = absurd (unwanted f FileTooLong idle.why)
+    over None (inr d) = absurd (not_before f [] [] b.input a.input b.out a.out FileTooLong d.does tt)
     over (Some name) (inl idle) = (idle.why.1, by_some (file_shown b.shelf.files (Some name)) _ (λ file shown. long_file b.shelf.files name file a.shelf.left shown idle.why.0))
     over (Some name) (inr d) = absurd (not_before f d.accepted.accepted.statements d.statements b.input a.input b.out a.out FileTooLong d.does tt)
 
@@ -450,7 +481,8 @@ ran_too_long_reads None b a status r is = absurd (cc (r.0, is))
 ran_too_long_reads (Some f) b a status r is = over (named_in f) (subst (Ran (Some f) b a) is r)
   where
     over : (named : Option (List ℕ)) → RanOver f named b a FileTooLong → IfSome (file_shown b.shelf.files named) (λ file. IfSome a.shelf.left (λ rest. length file ≡ max_file + 1 + length rest))
-    over None d = absurd (not_before f [] [] b.input a.input b.out a.out FileTooLong d.does tt)
+    over None (inl idle) = absurd (unwanted f FileTooLong idle.why)
+    over None (inr d) = absurd (not_before f [] [] b.input a.input b.out a.out FileTooLong d.does tt)
     over (Some name) (inl idle) = by_some (file_shown b.shelf.files (Some name)) _ (λ file shown. by_some a.shelf.left _ (λ rest left. left_of file a.shelf.left rest left (past_limit b.shelf.files name file a.shelf.left shown idle.why.0)))
     over (Some name) (inr d) = absurd (not_before f d.accepted.accepted.statements d.statements b.input a.input b.out a.out FileTooLong d.does tt)
 
@@ -481,7 +513,8 @@ pub not_usage : (f : Form) (named : Option (List ℕ)) (b a : Moment) (status : 
 not_usage f named b a status r is = over named (subst (RanOver f named b a) is r)
   where
     over : (named : Option (List ℕ)) → RanOver f named b a Usage → ⊥
-    over None d = not_before f [] [] b.input a.input b.out a.out Usage d.does tt
+    over None (inl idle) = unwanted f Usage idle.why
+    over None (inr d) = not_before f [] [] b.input a.input b.out a.out Usage d.does tt
     over (Some name) (inl idle) = idle.why
     over (Some name) (inr d) = not_before f d.accepted.accepted.statements d.statements b.input a.input b.out a.out Usage d.does tt
 
@@ -494,7 +527,8 @@ ran_shelf_fault None b a status r is = absurd (cc (r.0, is))
 ran_shelf_fault (Some f) b a status r is = over (named_in f) (subst (Ran (Some f) b a) is r)
   where
     over : (named : Option (List ℕ)) → RanOver f named b a ShelfFault → Rose b.shelf.faults a.shelf.faults
-    over None d = absurd (not_before f [] [] b.input a.input b.out a.out ShelfFault d.does tt)
+    over None (inl idle) = absurd (unwanted f ShelfFault idle.why)
+    over None (inr d) = absurd (not_before f [] [] b.input a.input b.out a.out ShelfFault d.does tt)
     over (Some name) (inl idle) = idle.why.0
     over (Some name) (inr d) = absurd (not_before f d.accepted.accepted.statements d.statements b.input a.input b.out a.out ShelfFault d.does tt)
 
@@ -520,13 +554,15 @@ read_rose (checking name) T K i i' o o' d = absurd d.1
 read_rose (generating number name) T K i i' o o' d = absurd d.1
 read_rose (showing name) T K i i' o o' d = absurd d.1
 read_rose (grouping name) T K i i' o o' d = then_read_rose (group_job d.aggregate d.statement) i i' o o' d.streamed
+read_rose (scanning text) T K i i' o o' d = (d.streamed.why.1, d.streamed.why.2)
 
 pub ran_read_rose : (f : Option Form) (b a : Moment) (status : Status) → Ran f b a status → status ≡ ReadFault → Rose b.input.faults a.input.faults × (a.out.faults ≡ b.out.faults)
 ran_read_rose None b a status r is = absurd (cc (r.0, is))
 ran_read_rose (Some f) b a status r is = over (named_in f) (subst (Ran (Some f) b a) is r)
   where
     over : (named : Option (List ℕ)) → RanOver f named b a ReadFault → Rose b.input.faults a.input.faults × (a.out.faults ≡ b.out.faults)
-    over None d = read_rose f [] [] b.input a.input b.out a.out d.does
+    over None (inl idle) = absurd (unwanted f ReadFault idle.why)
+    over None (inr d) = read_rose f [] [] b.input a.input b.out a.out d.does
     over (Some name) (inl idle) = absurd idle.why
     over (Some name) (inr d) = read_rose f d.accepted.accepted.statements d.statements b.input a.input b.out a.out d.does
 
@@ -540,13 +576,15 @@ write_rose (checking name) T K i i' o o' d = (d.1.1, ap (λ (p : InputSide). p.f
 write_rose (generating number name) T K i i' o o' d = (d.1.1, d.0.faults)
 write_rose (showing name) T K i i' o o' d = (d.1.1, ap (λ (p : InputSide). p.faults) d.0)
 write_rose (grouping name) T K i i' o o' d = then_write_rose (group_job d.aggregate d.statement) i i' o o' d.streamed
+write_rose (scanning text) T K i i' o o' d = (d.streamed.why.1, d.streamed.why.2)
 
 pub ran_write_rose : (f : Option Form) (b a : Moment) (status : Status) → Ran f b a status → status ≡ WriteFault → Rose b.out.faults a.out.faults × (a.input.faults ≡ b.input.faults)
 ran_write_rose None b a status r is = absurd (cc (r.0, is))
 ran_write_rose (Some f) b a status r is = over (named_in f) (subst (Ran (Some f) b a) is r)
   where
     over : (named : Option (List ℕ)) → RanOver f named b a WriteFault → Rose b.out.faults a.out.faults × (a.input.faults ≡ b.input.faults)
-    over None d = write_rose f [] [] b.input a.input b.out a.out d.does
+    over None (inl idle) = absurd (unwanted f WriteFault idle.why)
+    over None (inr d) = write_rose f [] [] b.input a.input b.out a.out d.does
     over (Some name) (inl idle) = absurd idle.why
     over (Some name) (inr d) = write_rose f d.accepted.accepted.statements d.statements b.input a.input b.out a.out d.does
 
@@ -560,13 +598,15 @@ no_fault (checking name) T K i i' o o' d = (ap (λ (p : InputSide). p.faults) d.
 no_fault (generating number name) T K i i' o o' d = (d.0.faults, d.1.1)
 no_fault (showing name) T K i i' o o' d = (ap (λ (p : InputSide). p.faults) d.0, d.1.1)
 no_fault (grouping name) T K i i' o o' d = then_no_fault (group_job d.aggregate d.statement) i i' o o' d.streamed
+no_fault (scanning text) T K i i' o o' d = (d.streamed.why.3, d.streamed.why.4)
 
 pub ran_done : (f : Option Form) (b a : Moment) (status : Status) → Ran f b a status → status ≡ Done → (a.shelf.faults ≡ b.shelf.faults) × (a.input.faults ≡ b.input.faults) × (a.out.faults ≡ b.out.faults)
 ran_done None b a status r is = absurd (cc (r.0, is))
 ran_done (Some f) b a status r is = over (named_in f) (subst (Ran (Some f) b a) is r)
   where
     over : (named : Option (List ℕ)) → RanOver f named b a Done → (a.shelf.faults ≡ b.shelf.faults) × (a.input.faults ≡ b.input.faults) × (a.out.faults ≡ b.out.faults)
-    over None d = let same = no_fault f [] [] b.input a.input b.out a.out d.does in (ap (λ (s : ShelfSide). s.faults) d.shelf, same.0, same.1)
+    over None (inl idle) = absurd (unwanted f Done idle.why)
+    over None (inr d) = let same = no_fault f [] [] b.input a.input b.out a.out d.does in (ap (λ (s : ShelfSide). s.faults) d.shelf, same.0, same.1)
     over (Some name) (inl idle) = absurd idle.why
     over (Some name) (inr d) = let same = no_fault f d.accepted.accepted.statements d.statements b.input a.input b.out a.out d.does in (d.accepted.holds.no_fault, same.0, same.1)
 
@@ -580,6 +620,7 @@ no_fault_before (checking name) T K i i' o o' d = (ap (λ (p : InputSide). p.fau
 no_fault_before (generating number name) T K i i' o o' d = (d.0.faults, ap (λ (p : OutputSide). p.faults) d.1)
 no_fault_before (showing name) T K i i' o o' d = (ap (λ (p : InputSide). p.faults) d.0, ap (λ (p : OutputSide). p.faults) d.1)
 no_fault_before (grouping name) T K i i' o o' d = then_no_fault_before (group_job d.aggregate d.statement) i i' o o' d.streamed
+no_fault_before (scanning text) T K i i' o o' d = (d.streamed.why.1, d.streamed.why.2)
 
 -- where memory ran out, no call had failed
 pub ran_memory : (f : Option Form) (b a : Moment) (status : Status) → Ran f b a status → status ≡ Memory → (a.shelf.faults ≡ b.shelf.faults) × (a.input.faults ≡ b.input.faults) × (a.out.faults ≡ b.out.faults)
@@ -587,7 +628,8 @@ ran_memory None b a status r is = absurd (cc (r.0, is))
 ran_memory (Some f) b a status r is = over (named_in f) (subst (Ran (Some f) b a) is r)
   where
     over : (named : Option (List ℕ)) → RanOver f named b a Memory → (a.shelf.faults ≡ b.shelf.faults) × (a.input.faults ≡ b.input.faults) × (a.out.faults ≡ b.out.faults)
-    over None d = let same = no_fault_before f [] [] b.input a.input b.out a.out d.does in (ap (λ (s : ShelfSide). s.faults) d.shelf, same.0, same.1)
+    over None (inl idle) = (ap (λ (m : Moment). m.shelf.faults) idle.same, ap (λ (m : Moment). m.input.faults) idle.same, ap (λ (m : Moment). m.out.faults) idle.same)
+    over None (inr d) = let same = no_fault_before f [] [] b.input a.input b.out a.out d.does in (ap (λ (s : ShelfSide). s.faults) d.shelf, same.0, same.1)
     over (Some name) (inl idle) = (idle.why, ap (λ (p : InputSide). p.faults) idle.input, ap (λ (p : OutputSide). p.faults) idle.out)
     over (Some name) (inr d) = let same = no_fault_before f d.accepted.accepted.statements d.statements b.input a.input b.out a.out d.does in (d.accepted.holds.no_fault, same.0, same.1)
 
@@ -603,13 +645,15 @@ took_most (checking name) T K b a d = absurd d.1
 took_most (generating number name) T K b a d = absurd d.1
 took_most (showing name) T K b a d = absurd d.1
 took_most (grouping name) T K b a d = then_took_most (group_job d.aggregate d.statement) b.input a.input b.out a.out d.streamed
+took_most (scanning text) T K b a d = (d.streamed.why.2, d.streamed.why.3, (d.streamed.bytes, d.streamed.consumed, d.streamed.why.1))
 
 pub ran_input_limit : (f : Option Form) (b a : Moment) (status : Status) → Ran f b a status → status ≡ InputLimit → (a.input.faults ≡ b.input.faults) × (a.out.faults ≡ b.out.faults) × TookMost b.input.left a.input.left
 ran_input_limit None b a status r is = absurd (cc (r.0, is))
 ran_input_limit (Some f) b a status r is = over (named_in f) (subst (Ran (Some f) b a) is r)
   where
     over : (named : Option (List ℕ)) → RanOver f named b a InputLimit → (a.input.faults ≡ b.input.faults) × (a.out.faults ≡ b.out.faults) × TookMost b.input.left a.input.left
-    over None d = took_most f [] [] b a d.does
+    over None (inl idle) = absurd (unwanted f InputLimit idle.why)
+    over None (inr d) = took_most f [] [] b a d.does
     over (Some name) (inl idle) = absurd idle.why
     over (Some name) (inr d) = took_most f d.accepted.accepted.statements d.statements b a d.does
 
@@ -650,6 +694,7 @@ does_limit (checking name) T K i i' o o' status all rest d is is' len read write
 does_limit (generating number name) T K i i' o o' status all rest d is is' len read write = absurd (same_below i i' all rest d.0.left is is' len)
 does_limit (showing name) T K i i' o o' status all rest d is is' len read write = absurd (same_below i i' all rest (ap (λ (p : InputSide). p.left) d.0) is is' len)
 does_limit (grouping name) T K i i' o o' status all rest d is is' len read write = then_limit_by_why (group_job d.aggregate d.statement) i i' o o' status all rest d.streamed is is' len read write
+does_limit (scanning text) T K i i' o o' status all rest d is is' len read write = limit_by_why (scan_job d.path) i i' o (record { out = o'; page = d.page }) status all rest d.streamed is is' len read write
 
 ends_limit : (f : Option Form) (b a : Moment) (status : Status) (all rest : List ℕ) → Ran f b a status → b.input.left ≡ Some all → a.input.left ≡ Some rest
     → length all ≡ length rest + max_input → (Rose b.input.faults a.input.faults → ⊥) → (Rose b.out.faults a.out.faults → ⊥) → IsOrMemory status InputLimit
@@ -657,7 +702,8 @@ ends_limit None b a status all rest r is is' len read write = absurd (same_below
 ends_limit (Some f) b a status all rest r is is' len read write = over (named_in f) r
   where
     over : (named : Option (List ℕ)) → RanOver f named b a status → IsOrMemory status InputLimit
-    over None d = does_limit f [] [] b.input a.input b.out a.out status all rest d.does is is' len read write
+    over None (inl idle) = absurd (same_below b.input a.input all rest (ap (λ (m : Moment). m.input.left) idle.same) is is' len)
+    over None (inr d) = does_limit f [] [] b.input a.input b.out a.out status all rest d.does is is' len read write
     over (Some name) (inl idle) = absurd (same_below b.input a.input all rest (ap (λ (p : InputSide). p.left) idle.input) is is' len)
     over (Some name) (inr d) = does_limit f d.accepted.accepted.statements d.statements b.input a.input b.out a.out status all rest d.does is is' len read write
 

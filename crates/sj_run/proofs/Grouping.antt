@@ -1,5 +1,5 @@
 -- What follows of how a command ended that groups.
-use Rattle.std.proofs.Common.{◌≡◌, inl, inr, ℕ, ◌<◌, ◌≤◌, List, [], ◌∷◌, length, Option, None, Some, IfSome, refl, sym, ◌∙◌, ap, subst, arith}
+use Rattle.std.proofs.Common.{◌≡◌, inl, inr, ℕ, ◌<◌, ◌≤◌, List, [], ◌∷◌, length, Option, None, Some, IfSome, refl, subst, arith}
 use Rattle.std.specs.Io.KnownBytes.{IsAtEnd}
 use Rattle.sj_base.specs.Count.{Rose}
 use Rattle.sj_bound.specs.Bound.{Bound}
@@ -10,7 +10,7 @@ use Rattle.sj_sql_grammar.specs.Answers.{max_file}
 use Rattle.sj_rows.specs.Lines.{max_input}
 use Rattle.sj_file.specs.declared.status.Status.{Status}
 use Rattle.sj_file.specs.declared.status.Status.TheVariants.{Done, Usage, Refused, ShelfFault, ReadFault, WriteFault, Memory, InputLimit, FileTooLong}
-use Rattle.sj_file.specs.File.{Form, running, checking, generating, showing, grouping, file_to_group, file_shown}
+use Rattle.sj_file.specs.File.{Form, running, checking, generating, showing, grouping, scanning, file_to_group, file_shown}
 use Rattle.sj_file.specs.Verdict.{Accepts}
 use Rattle.sj_file.specs.ToGroup.{CanGroup, RefusesToGroup}
 use Rattle.sj_file.specs.Conditions.{IfGroups, IfToGroup, IsOrMemory}
@@ -101,6 +101,7 @@ ran_group_to_end (Some (running keys name)) b a status r so = tt
 ran_group_to_end (Some (checking name)) b a status r so = tt
 ran_group_to_end (Some (generating number name)) b a status r so = tt
 ran_group_to_end (Some (showing name)) b a status r so = tt
+ran_group_to_end (Some (scanning text)) b a status r so = tt
 ran_group_to_end (Some (grouping name)) b a status r so = at_end (subst (Ran (Some (grouping name)) b a) so r)
   where
     at_end : Ran (Some (grouping name)) b a Done → IsAtEnd a.input.left

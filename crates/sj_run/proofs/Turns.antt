@@ -1,21 +1,16 @@
 -- Printing the rows of a statement one by one.
-use Rattle.std.proofs.Common.{◌≡◌, ℕ, ◌+◌, ◌<◌, ◌≤◌, List, [], ◌∷◌, ◌++◌, Result, drop, refl, sym, ◌∙◌, ap, subst, arith}
-use Rattle.std.proofs.lemmas.List.{append-nil}
-use Rattle.sj_base.specs.Count.{raised}
+use Rattle.std.proofs.Common.{◌≡◌, ℕ, ◌+◌, ◌<◌, List, [], ◌∷◌, ◌++◌, Result, drop, refl, sym, ◌∙◌, ap, subst, arith}
 use Rattle.sj_base.specs.declared.state.State.{State}
 use Rattle.sj_value.specs.declared.value.SqlValue.{SqlValue}
 use Rattle.sj_table.specs.Series.{Series, done, raises, more, first, rest}
-use Rattle.sj_table.specs.Takes.{Spends}
 use Rattle.sj_bound.specs.Bound.{Bound}
 use Rattle.sj_select_list.specs.Line.{Line}
-use Rattle.sj_select.specs.Rows.{statement_rows, statement_cost}
 use Rattle.sj_select.specs.Seen.{Seen, turn_of, next_text, Gives}
 use Rattle.sj_select.specs.declared.rows.Turn.{Turn}
 use Rattle.sj_select.specs.declared.rows.Turn.TheVariants as turn
 use Rattle.sj_rows.specs.RowText.{row_bytes}
-use Rattle.sj_page.specs.Pages.{Print, PrintState, Prints, Stopped, nothing, followed_by, one_row, row_print, error_print}
+use Rattle.sj_page.specs.Pages.{Print, PrintState, Prints, nothing, followed_by, one_row, row_print, error_print}
 use Rattle.sj_page.specs.declared.stop.Stop.{Stop}
-use Rattle.sj_page.specs.declared.stop.Stop.TheVariants.{Memory}
 use Rattle.sj_page.proofs.Printing.{Printing, same_print, nothing_before, printed_on, printing_starts, printing_more}
 use Rattle.sj_stream.proofs.Pages.{row_counted}
 use Rattle.sj_run.specs.Output.{rows_text, row_count, error_count, rows_print, asked_from, prints, cost}

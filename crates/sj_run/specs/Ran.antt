@@ -15,7 +15,7 @@ use Rattle.sj_page.specs.declared.page.Page.{Page}
 use Rattle.sj_file.specs.declared.job.Keys.TheVariants.{Any}
 use Rattle.sj_file.specs.declared.status.Status.{Status}
 use Rattle.sj_file.specs.declared.status.Status.TheVariants.{Done, Usage, Refused, ShelfFault, ReadFault, WriteFault, Memory, InputLimit, FileTooLong}
-use Rattle.sj_file.specs.File.{ShelfSide, shelf_at, Form, running, checking, generating, showing, grouping, named_in}
+use Rattle.sj_file.specs.File.{ShelfSide, shelf_at, Form, running, checking, generating, showing, grouping, scanning, named_in}
 use Rattle.sj_file.specs.Accepted.{Accepted, IsUntaken}
 use Rattle.sj_file.specs.ToGroup.{CanGroup, RefusesFor}
 use Rattle.sj_file.specs.Verdict.{IsCanonicalOf}
@@ -27,6 +27,7 @@ use Rattle.sj_stream.specs.Stream.{Streamed, IsFrontOf}
 use Rattle.sj_stream.specs.Then.{StreamedThen}
 use Rattle.sj_group.specs.declared.aggregate.Aggregate.{Aggregate}
 use Rattle.sj_group_run.specs.GroupJob.{group_job}
+use Rattle.sj_run.specs.Scanned.{Scanned, IsUnscanned}
 use Rattle.sj_run.specs.Summary.{summary_text}
 
 -- the shelf, the input and the output at one moment
@@ -87,6 +88,7 @@ Does (checking name) read statements from from' to to' status = (from' ≡ from)
 Does (generating number name) read statements from from' to to' status = RanGenerated number statements from from' × Tells (summary_text number statements) to to' status
 Does (showing name) read statements from from' to to' status = (from' ≡ from) × Tells (lines_text read) to to' status
 Does (grouping name) read statements from from' to to' status = Grouped statements from from' to to' status
+Does (scanning text) read statements from from' to to' status = Scanned text from from' to to' status
 
 -- ---- the whole
 
@@ -102,6 +104,16 @@ pub record Did (form : Form) (name : List ℕ) (before after : Moment) (status :
   pub accepted : Accepted name before.shelf after.shelf statements
   pub does : Does form accepted.accepted.statements statements before.input after.input before.out after.out status
 
+-- why a form that names no file was not taken
+abbrev pub IsUnwanted : Form → Status → Type 0
+IsUnwanted (scanning text) status = IsUnscanned text status
+IsUnwanted _ status = ⊥
+
+-- it was not taken, and nothing was read or written
+pub record IdleWithout (form : Form) (before after : Moment) (status : Status) : Type 0 where
+  pub why : IsUnwanted form status
+  pub same : after ≡ before
+
 -- no file was asked for, so there were no statements, and this was done
 pub record DidWithout (form : Form) (before after : Moment) (status : Status) : Type 0 where
   pub shelf : after.shelf ≡ before.shelf
@@ -109,7 +121,7 @@ pub record DidWithout (form : Form) (before after : Moment) (status : Status) : 
 
 -- by the file that a form names, if it names one
 abbrev pub RanOver : Form → Option (List ℕ) → Moment → Moment → Status → Type 0
-RanOver form None before after status = DidWithout form before after status
+RanOver form None before after status = IdleWithout form before after status ⊎ DidWithout form before after status
 RanOver form (Some name) before after status = Idle form name before after status ⊎ Did form name before after status
 
 -- A COMMAND: with words of one of the forms it does what the form says, and otherwise it is Usage and does nothing.

@@ -9,12 +9,14 @@ ghost use Rattle.sj_page.specs.Sides.{Grew};
 ghost use Rattle.sj_sql_grammar.specs.Answers.{max_file};
 ghost use Rattle.sj_rows.specs.Lines.{max_input};
 ghost use Rattle.sj_file.specs.declared.job.Keys.TheVariants.{Any};
-ghost use Rattle.sj_file.specs.File.{running, command, file_named, file_run, file_checked, file_generated, file_to_show, file_to_group};
+ghost use Rattle.sj_file.specs.File.{running, command, file_named, file_run, file_checked, file_generated, file_to_show, file_to_group, path_scanned};
 ghost use Rattle.sj_file.specs.Conditions.{IfRuns, IfChecks, IfGenerates, IfShows, IfGroups, IfNames, IfAccepted, IfRead, IfToGroup, IsOrMemory};
 ghost use Rattle.sj_sql_text.specs.Statements.{lines_text};
 ghost use Rattle.sj_stream.specs.Input.{input_at};
 ghost use Rattle.sj_run.specs.Ran.{Ran, WroteCanonical, moment_at, IsRefusedBy, IsBefore, accepted_text};
 ghost use Rattle.sj_stream.specs.Out.{out_at};
+ghost use Rattle.sj_scan_statement.specs.Statement.{RefusesToScan};
+ghost use Rattle.sj_run.specs.Scanned.{scan_job, IfScans, IfRefusesToScan};
 ghost use Rattle.sj_run.specs.Summary.{summary_text};
 ghost use Rattle.sj_run.specs.Notes.{Noted, note_of};
 ghost use Rattle.sj_stream.specs.LineJob.{output, allowed};
@@ -26,6 +28,7 @@ use crate::check::check_file;
 use crate::generate::run_generated;
 use crate::group::group_file;
 use crate::notes::tell;
+use crate::scan::scan;
 use crate::show::show_file;
 use crate::stream::stream;
 use sj_base::Steps;
@@ -66,6 +69,7 @@ fn run_file<H: Shelf, I: Source, O: Sink>(
 /// - `selfrun N FILE` runs the statements over N generated lines, and tells how many rows and error rows they gave.
 /// - `show FILE` writes the canonical text of the statements of a file, each on a line.
 /// - `group FILE` gathers the rows of the one statement of a file over the input, and writes their groups.
+/// - `scan PATH` tells the items of a forward path for each line of the input.
 ///
 /// Example: the words `run f`, a file `f` with `SELECT JSON_EXISTS(doc, 'lax $.a.b');` and the line `{"a":{"b":null}}`
 /// write `1`, `1`, `R` and `TRUE`, with TABs between them (`sj_run_tests::faults::lines_in_any_cut`).
@@ -198,6 +202,41 @@ pub fn run<H: Shelf, I: Source, O: Sink, N: Sink>(
         IfGroups (command words.now) (H.files shelf.old) (λ file. length file ≤ max_file → IfToGroup file (λ _ _.
         IfSome (I.left input.old) (λ bytes. length bytes < max_input → IsOrMemory result Status.Done))) }
 
+    // If a path is scanned for with Done, the output of its statement was written: a row for each item of each line, and an
+    // error row for each line that is not JSON.
+    ensures scanned { result ≡ Status.Done → IfScans (command words.now) (λ path.
+        IfSome (I.left input.old) (λ bytes.
+        Grew (out_at O.Sink out.old) (out_at O.Sink out.new) (output (scan_job path) bytes))) }
+    // However it ended, what was written is a front of that, and holds the output of the lines whose LF stands before the
+    // last piece of the bytes taken.
+    ensures scan_front { IfScans (command words.now) (λ path. IfSome (I.left input.old) (λ bytes.
+        IsFrontOf (output (scan_job path) bytes) (out_at O.Sink out.old) (out_at O.Sink out.new))) }
+    ensures scan_least { IfScans (command words.now) (λ path.
+        WroteLeast (scan_job path) (input_at I.Source input.old steps.old) (input_at I.Source input.new steps.new)
+        (out_at O.Sink out.old) (out_at O.Sink out.new)) }
+    // After a failed read, and at the limit of an input, the output of the whole lines that were taken was written.
+    ensures scan_read_fault_writes { result ≡ Status.ReadFault → IfScans (command words.now) (λ path.
+        WroteWhole (scan_job path) (input_at I.Source input.old steps.old) (input_at I.Source input.new steps.new)
+        (out_at O.Sink out.old) (out_at O.Sink out.new)) }
+    ensures scan_input_limit_writes { result ≡ Status.InputLimit → IfScans (command words.now) (λ path.
+        WroteWhole (scan_job path) (input_at I.Source input.old steps.old) (input_at I.Source input.new steps.new)
+        (out_at O.Sink out.old) (out_at O.Sink out.new)) }
+    // At Done it has read the input to its end.
+    ensures scan_reads_to_end { result ≡ Status.Done → IfSome (path_scanned (command words.now)) (λ _. IsAtEnd (I.left input.new)) }
+    // However it ended, it took no more steps than the rows of the lines allow.
+    ensures scan_within { IfScans (command words.now) (λ path.
+        StepsWithin (scan_job path) (input_at I.Source input.old steps.old) (input_at I.Source input.new steps.new)) }
+    // It leaves the shelf as it was.
+    ensures scan_asks_no_file { IfSome (path_scanned (command words.now)) (λ _. shelf.new ≡ shelf.old) }
+    // It ends with a refusal only if the text is no path, or is one that is not forward; and then the number is 1.
+    ensures scan_refused { (k : ℕ) (kind : FileKind) → result ≡ Status.Refused k kind →
+        IfSome (path_scanned (command words.now)) (λ text. (k ≡ 1) × RefusesToScan text kind) }
+    // Such a text is refused so, unless memory ran out.
+    ensures scan_refuses { IfRefusesToScan (command words.now) (λ kind. IsOrMemory result (Status.Refused 1 kind)) }
+    // If no call failed, a scan for a forward path over an input below the limit ends with Done, unless memory ran out.
+    ensures scan_completes { ¬ (Rose (I.faults input.old) (I.faults input.new)) → ¬ (Rose (O.faults out.old) (O.faults out.new)) →
+        IfScans (command words.now) (λ _. IfSome (I.left input.old) (λ bytes. length bytes < max_input → IsOrMemory result Status.Done)) }
+
     // If it ended before a file was taken, no input was read and nothing was written.
     ensures untouched { IsBefore result → (input.new ≡ input.old) × (out.new ≡ out.old) × (steps.new ≡ steps.old) }
 
@@ -301,6 +340,7 @@ fn answer<H: Shelf, I: Source, O: Sink>(
     ensures check_reads_nothing { IfSome (file_checked (command words.now)) (λ _. (input.new ≡ input.old) × (steps.new ≡ steps.old)) }
     ensures generated_reads_nothing { IfSome (file_generated (command words.now)) (λ _. input.new ≡ input.old) }
     ensures show_reads_nothing { IfSome (file_to_show (command words.now)) (λ _. (input.new ≡ input.old) × (steps.new ≡ steps.old)) }
+    ensures scan_asks_no_file { IfSome (path_scanned (command words.now)) (λ _. shelf.new ≡ shelf.old) }
 {
     match form_of(words) {
         None => Status::Usage,
@@ -311,5 +351,6 @@ fn answer<H: Shelf, I: Source, O: Sink>(
         }
         Some(Form::Show(name)) => show_file(alloc, name, shelf, out),
         Some(Form::Group(name)) => group_file(alloc, name, shelf, input, out, steps),
+        Some(Form::Scan(path)) => scan(alloc, path, input, out, steps),
     }
 }

@@ -1,4 +1,5 @@
-use Rattle.std.proofs.Common.{None, Some}
+use Rattle.std.proofs.Common.{None, Some, sym}
+use Rattle.sj_file.specs.File.{shelf_at}
 use Rattle.sj_stream.specs.Input.{input_at}
 use Rattle.sj_run.proofs.Ending.{not_usage}
 use Rattle.sj_run.proofs.command.answer.Goals as goal
@@ -13,3 +14,6 @@ returns-in-Some-Generated-clause-usage_untouched g c = λ is. absurd (not_usage 
 pub returns-in-Some-Show-clause-usage_untouched : goal.returns-in-Some-Show-clause-usage_untouched
 returns-in-Some-Show-clause-usage_untouched g c = λ is.
     absurd (not_usage _ (Some _) _ _ _ (c.show_file.ensures.ran (input_at g.I.Source c.args.input.now c.args.steps.now)) is)
+
+pub returns-in-Some-Scan-clause-ran : goal.returns-in-Some-Scan-clause-ran
+returns-in-Some-Scan-clause-ran g c = rw (sym c.in-Some-Scan.ensures.form, c.in-Some-Scan.field-0-is) (c.scan.ensures.ran (shelf_at g.H.Shelf c.args.shelf.now))

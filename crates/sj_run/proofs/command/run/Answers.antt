@@ -1,5 +1,6 @@
 use Rattle.sj_run.proofs.Ending as ending
 use Rattle.sj_run.proofs.Grouping as grouping
+use Rattle.sj_run.proofs.Scanning as scanning
 use Rattle.sj_run.proofs.command.run.Goals as goal
 
 pub returns-clause-headline : goal.returns-clause-headline
@@ -73,6 +74,36 @@ returns-clause-group_within g c = grouping.ran_group_within _ _ _ _ c.answer-sta
 
 pub returns-clause-group_completes : goal.returns-clause-group_completes
 returns-clause-group_completes g c = grouping.ran_group_completes _ _ _ _ c.answer-status.ensures.ran
+
+pub returns-clause-scanned : goal.returns-clause-scanned
+returns-clause-scanned g c = scanning.ran_scanned _ _ _ _ c.answer-status.ensures.ran
+
+pub returns-clause-scan_front : goal.returns-clause-scan_front
+returns-clause-scan_front g c = scanning.ran_scan_front _ _ _ _ c.answer-status.ensures.ran
+
+pub returns-clause-scan_least : goal.returns-clause-scan_least
+returns-clause-scan_least g c = scanning.ran_scan_least _ _ _ _ c.answer-status.ensures.ran
+
+pub returns-clause-scan_read_fault_writes : goal.returns-clause-scan_read_fault_writes
+returns-clause-scan_read_fault_writes g c = scanning.ran_scan_read_fault _ _ _ _ c.answer-status.ensures.ran
+
+pub returns-clause-scan_input_limit_writes : goal.returns-clause-scan_input_limit_writes
+returns-clause-scan_input_limit_writes g c = scanning.ran_scan_limit _ _ _ _ c.answer-status.ensures.ran
+
+pub returns-clause-scan_reads_to_end : goal.returns-clause-scan_reads_to_end
+returns-clause-scan_reads_to_end g c = scanning.ran_scan_to_end _ _ _ _ c.answer-status.ensures.ran
+
+pub returns-clause-scan_within : goal.returns-clause-scan_within
+returns-clause-scan_within g c = scanning.ran_scan_within _ _ _ _ c.answer-status.ensures.ran
+
+pub returns-clause-scan_refused : goal.returns-clause-scan_refused
+returns-clause-scan_refused g c = scanning.ran_scan_refused _ _ _ _ c.answer-status.ensures.ran
+
+pub returns-clause-scan_refuses : goal.returns-clause-scan_refuses
+returns-clause-scan_refuses g c = scanning.ran_scan_refuses _ _ _ _ c.answer-status.ensures.ran
+
+pub returns-clause-scan_completes : goal.returns-clause-scan_completes
+returns-clause-scan_completes g c = scanning.ran_scan_completes _ _ _ _ c.answer-status.ensures.ran
 
 pub returns-clause-usage : goal.returns-clause-usage
 returns-clause-usage g c = ending.ran_usage _ _ _ _ c.answer-status.ensures.ran
