@@ -67,6 +67,15 @@ group f;-;4;17;99;99 => Done "2\t1\tE\t2203G\nG\ta\t2\t[1,2]\n" ""
 group f;-;-;0;5;99 => WriteFault "2\t1\tE" "output failed\n"
 group f;-;-;0;20;0 => WriteFault "2\t1\tE\t2203G\nG\ta\t2\t[1" """#;
 
+/// The same of a scan over those lines, of which each gives a row of 8 or 10 bytes. No file is asked for.
+const SCANS: &str = r#"scan $.v;-;-;0;99;99 => Done "1\t1\tR\t1\n2\t1\tR\t\"x\"\n3\t1\tR\t2\n" ""
+scan $.v;0;-;0;99;99 => Done "1\t1\tR\t1\n2\t1\tR\t\"x\"\n3\t1\tR\t2\n" ""
+scan $.v;-;0;17;99;99 => ReadFault "" "input failed\n"
+scan $.v;-;2;17;99;99 => ReadFault "1\t1\tR\t1\n2\t1\tR\t\"x\"\n" "input failed\n"
+scan $.v;-;-;0;5;99 => WriteFault "1\t1\tR" "output failed\n"
+scan $[;0;-;0;99;99 => Refused(1, PathSyntax) "" "statement 1: path: syntax error\n"
+scan $.v.size();0;-;0;99;99 => Refused(1, NotForward) "" "statement 1: path is not forward\n""#;
+
 /// What a run of this file over these lines tells, whose words and faults a text gives.
 fn told_of(
     rt: &impl Counts,
@@ -108,6 +117,11 @@ fn faults_at_each_call_and_sinks_without_room(rt: HostRuntime) -> Result<(), Fai
         expect(&rt, found.as_str(), want, text);
     }
     for line in GROUPS.lines() {
+        let (text, want) = line.split_once(" => ").ok_or("no arrow")?;
+        let found = told_of(&rt, rt.alloc(), TO_GROUP, KEYS, text)?;
+        expect(&rt, found.as_str(), want, text);
+    }
+    for line in SCANS.lines() {
         let (text, want) = line.split_once(" => ").ok_or("no arrow")?;
         let found = told_of(&rt, rt.alloc(), TO_GROUP, KEYS, text)?;
         expect(&rt, found.as_str(), want, text);
