@@ -6,7 +6,7 @@ use Rattle.sj_sql_grammar.specs.declared.refusal.FileKind.{FileKind}
 use Rattle.sj_sql_text.specs.Statements.{lines_text}
 use Rattle.sj_bound.specs.Bound.{Bound}
 use Rattle.sj_file.specs.declared.status.Status.{Status}
-use Rattle.sj_file.specs.declared.status.Status.TheVariants.{Done, Usage, Refused, ShelfFault, ReadFault, WriteFault, Memory, InputLimit, FileTooLong}
+use Rattle.sj_file.specs.declared.status.Status.TheVariants.{Refused, ShelfFault, Memory, FileTooLong}
 use Rattle.sj_file.specs.File.{ShelfSide, IsTooLong, Holds}
 use Rattle.sj_file.specs.Verdict.{Accepts, Refuses}
 
@@ -36,11 +36,7 @@ IsUntaken refuses name old new ShelfFault = Rose old.faults new.faults × (IsTru
 IsUntaken refuses name old new FileTooLong = IsTooLong old.files name new.left × (new.faults ≡ old.faults)
 IsUntaken refuses name old new (Refused k kind) = RefusedFile refuses name old new k kind
 IsUntaken refuses name old new Memory = new.faults ≡ old.faults
-IsUntaken refuses name old new Done = ⊥
-IsUntaken refuses name old new Usage = ⊥
-IsUntaken refuses name old new ReadFault = ⊥
-IsUntaken refuses name old new WriteFault = ⊥
-IsUntaken refuses name old new InputLimit = ⊥
+IsUntaken refuses name old new _ = ⊥
 
 -- why no file was accepted
 abbrev pub IsUnaccepted : List ℕ → ShelfSide → ShelfSide → Status → Type 0

@@ -13,7 +13,7 @@ use Rattle.sj_file.specs.declared.file.Form.TheVariants as f
 use Rattle.sj_file.specs.declared.job.Keys.{Keys}
 use Rattle.sj_file.specs.declared.job.Keys.TheVariants.{Any, Unique}
 use Rattle.sj_file.specs.declared.status.Status.{Status}
-use Rattle.sj_file.specs.declared.status.Status.TheVariants.{Done, Usage, Refused, ShelfFault, ReadFault, WriteFault, Memory, InputLimit, FileTooLong}
+use Rattle.sj_file.specs.declared.status.Status.TheVariants.{ShelfFault, Memory, FileTooLong}
 
 -- a file's name isn't empty and doesn't begin with a minus
 abbrev pub is_file_name : List ℕ → Bool
@@ -94,12 +94,8 @@ form_value (f.Scan path) = scanning path.now
 
 -- a number of lines has six digits at most
 abbrev pub IsWithin : declared.Form → Type 0
-IsWithin (f.Run keys name) = Unit {0}
-IsWithin (f.Check name) = Unit {0}
 IsWithin (f.Generated number name) = number ≤ most_lines
-IsWithin (f.Show name) = Unit {0}
-IsWithin (f.Group name) = Unit {0}
-IsWithin (f.Scan path) = Unit {0}
+IsWithin _ = Unit {0}
 
 -- ---- the file that is named
 
@@ -187,12 +183,7 @@ abbrev pub IsNoFile : List ℕ → ShelfSide → ShelfSide → Status → Type 0
 IsNoFile name old new ShelfFault = Rose old.faults new.faults × (IsTrue old.quiet → HasFile old.files name → ⊥)
 IsNoFile name old new FileTooLong = IsTooLong old.files name new.left × (new.faults ≡ old.faults)
 IsNoFile name old new Memory = new.faults ≡ old.faults
-IsNoFile name old new Done = ⊥
-IsNoFile name old new Usage = ⊥
-IsNoFile name old new (Refused k kind) = ⊥
-IsNoFile name old new ReadFault = ⊥
-IsNoFile name old new WriteFault = ⊥
-IsNoFile name old new InputLimit = ⊥
+IsNoFile name old new _ = ⊥
 
 -- these bytes are the file, which isn't too long
 pub record Holds (name : List ℕ) (old new : ShelfSide) (file : List ℕ) : Type 0 where

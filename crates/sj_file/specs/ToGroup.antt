@@ -8,7 +8,7 @@ use Rattle.sj_bound.specs.View.{bound_of}
 use Rattle.sj_group.specs.declared.aggregate.Aggregate.{Aggregate}
 use Rattle.sj_group.specs.declared.aggregate.Aggregate.TheVariants.{Array, Object}
 use Rattle.sj_file.specs.declared.to_group.ToGroup.{ToGroup}
-use Rattle.sj_file.specs.File.{ShelfSide, Form, running, checking, generating, showing, grouping, scanning}
+use Rattle.sj_file.specs.File.{ShelfSide, Form, grouping, scanning}
 use Rattle.sj_file.specs.Verdict.{Accepts, Refuses}
 use Rattle.sj_file.specs.Accepted.{Accepted}
 
@@ -45,12 +45,9 @@ RefusesToGroup file k kind = Refuses file k kind ⊎ IsUnfit file k kind
 
 -- WHAT A FORM REFUSES of a file: grouping asks for more than the others, after all else. A scan has no file.
 abbrev pub RefusesFor : Form → List ℕ → ℕ → FileKind → Type 0
-RefusesFor (running keys name) = Refuses
-RefusesFor (checking name) = Refuses
-RefusesFor (generating number name) = Refuses
-RefusesFor (showing name) = Refuses
 RefusesFor (grouping name) = RefusesToGroup
 RefusesFor (scanning path) = λ file k kind. ⊥
+RefusesFor _ = Refuses
 
 -- ---- what is known of the file that the words name
 

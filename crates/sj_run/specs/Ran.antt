@@ -14,7 +14,7 @@ use Rattle.sj_page.specs.Sides.{OutputSide, Grew, joined}
 use Rattle.sj_page.specs.declared.page.Page.{Page}
 use Rattle.sj_file.specs.declared.job.Keys.TheVariants.{Any}
 use Rattle.sj_file.specs.declared.status.Status.{Status}
-use Rattle.sj_file.specs.declared.status.Status.TheVariants.{Done, Usage, Refused, ShelfFault, ReadFault, WriteFault, Memory, InputLimit, FileTooLong}
+use Rattle.sj_file.specs.declared.status.Status.TheVariants.{Done, Usage, Refused, ShelfFault, WriteFault, Memory, FileTooLong}
 use Rattle.sj_file.specs.File.{ShelfSide, shelf_at, Form, running, checking, generating, showing, grouping, scanning, named_in}
 use Rattle.sj_file.specs.Accepted.{Accepted, IsUntaken}
 use Rattle.sj_file.specs.ToGroup.{CanGroup, RefusesFor}
@@ -60,12 +60,7 @@ abbrev pub Tells : List ℕ → OutputSide → OutputSide → Status → Type 0
 Tells text to to' Done = Grew to to' text × (to'.faults ≡ to.faults)
 Tells text to to' WriteFault = IsFrontOf text to to' × Rose to.faults to'.faults
 Tells text to to' Memory = to' ≡ to
-Tells text to to' Usage = ⊥
-Tells text to to' (Refused k kind) = ⊥
-Tells text to to' ShelfFault = ⊥
-Tells text to to' ReadFault = ⊥
-Tells text to to' InputLimit = ⊥
-Tells text to to' FileTooLong = ⊥
+Tells text to to' _ = ⊥
 
 -- the statements ran over generated lines, in place of the input
 pub record RanGenerated (number : ℕ) (statements : List Bound) (from from' : InputSide) : Type 0 where
@@ -140,8 +135,4 @@ IsBefore Usage = Unit {0}
 IsBefore ShelfFault = Unit {0}
 IsBefore FileTooLong = Unit {0}
 IsBefore (Refused k kind) = Unit {0}
-IsBefore Done = ⊥
-IsBefore ReadFault = ⊥
-IsBefore WriteFault = ⊥
-IsBefore InputLimit = ⊥
-IsBefore Memory = ⊥
+IsBefore _ = ⊥

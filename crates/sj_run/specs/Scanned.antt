@@ -8,7 +8,7 @@ use Rattle.sj_page.specs.Sides.{OutputSide}
 use Rattle.sj_page.specs.declared.page.Page.{Page}
 use Rattle.sj_file.specs.declared.job.Keys.TheVariants.{Any}
 use Rattle.sj_file.specs.declared.status.Status.{Status}
-use Rattle.sj_file.specs.declared.status.Status.TheVariants.{Done, Usage, Refused, ShelfFault, ReadFault, WriteFault, Memory, InputLimit, FileTooLong}
+use Rattle.sj_file.specs.declared.status.Status.TheVariants.{Refused, Memory}
 use Rattle.sj_file.specs.File.{Form, path_scanned}
 use Rattle.sj_stream.specs.Input.{InputSide}
 use Rattle.sj_stream.specs.LineJob.{LineJob}
@@ -42,10 +42,4 @@ pub record Scanned (text : List ℕ) (from from' : InputSide) (to to' : OutputSi
 abbrev pub IsUnscanned : List ℕ → Status → Type 0
 IsUnscanned text (Refused k kind) = (k ≡ 1) × RefusesToScan text kind
 IsUnscanned text Memory = Unit {0}
-IsUnscanned text Done = ⊥
-IsUnscanned text Usage = ⊥
-IsUnscanned text ShelfFault = ⊥
-IsUnscanned text ReadFault = ⊥
-IsUnscanned text WriteFault = ⊥
-IsUnscanned text InputLimit = ⊥
-IsUnscanned text FileTooLong = ⊥
+IsUnscanned text _ = ⊥

@@ -10,7 +10,7 @@ use Rattle.sj_page.specs.declared.page.Page.{Page}
 use Rattle.sj_page.specs.declared.stop.Stop.{Stop}
 use Rattle.sj_page.specs.declared.stop.Stop.TheVariants as stop
 use Rattle.sj_file.specs.declared.status.Status.{Status}
-use Rattle.sj_file.specs.declared.status.Status.TheVariants.{Done, Usage, Refused, ShelfFault, ReadFault, WriteFault, Memory, InputLimit, FileTooLong}
+use Rattle.sj_file.specs.declared.status.Status.TheVariants.{Done, ReadFault, WriteFault, Memory, InputLimit}
 use Rattle.sj_file.specs.Piece.{max_piece}
 use Rattle.sj_stream.specs.declared.turns.Progress.{Progress}
 use Rattle.sj_stream.specs.declared.turns.Progress.TheVariants.{More, Over}
@@ -57,10 +57,7 @@ IsWhy job from from' to to' bytes text WriteFault = IsCutShort job from'.left by
 IsWhy job from from' to to' bytes text InputLimit =
     (text ≡ whole_output job bytes) × (length bytes ≡ max_input) × (from'.faults ≡ from.faults) × (to'.out.faults ≡ to.faults)
 IsWhy job from from' to to' bytes text Memory = IsCutShort job from'.left bytes text × (from'.faults ≡ from.faults) × (to'.out.faults ≡ to.faults)
-IsWhy job from from' to to' bytes text Usage = ⊥
-IsWhy job from from' to to' bytes text ShelfFault = ⊥
-IsWhy job from from' to to' bytes text FileTooLong = ⊥
-IsWhy job from from' to to' bytes text (Refused k kind) = ⊥
+IsWhy job from from' to to' bytes text _ = ⊥
 
 -- A run over an input is over: it took these bytes and wrote this text.
 pub record Streamed (job : LineJob) (from from' : InputSide) (to : OutputSide) (to' : PrintState) (status : Status) : Type 0 where

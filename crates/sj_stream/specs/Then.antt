@@ -5,7 +5,7 @@ use Rattle.sj_page.specs.Sides.{OutputSide, Grew}
 use Rattle.sj_page.specs.Pages.{PrintState}
 use Rattle.sj_page.specs.declared.page.Page.{Page}
 use Rattle.sj_file.specs.declared.status.Status.{Status}
-use Rattle.sj_file.specs.declared.status.Status.TheVariants.{Done, Usage, Refused, ShelfFault, ReadFault, WriteFault, Memory, InputLimit, FileTooLong}
+use Rattle.sj_file.specs.declared.status.Status.TheVariants.{Done, WriteFault, Memory}
 use Rattle.sj_stream.specs.Input.{InputSide}
 use Rattle.sj_stream.specs.LineJob.{LineJob, text_behind}
 use Rattle.sj_stream.specs.Stream.{Streamed, IsFrontOf}
@@ -15,12 +15,7 @@ abbrev pub Ends : List ℕ → OutputSide → OutputSide → Status → Type 0
 Ends text to to' Done = Grew to to' text × (to'.faults ≡ to.faults)
 Ends text to to' WriteFault = IsFrontOf text to to' × Rose to.faults to'.faults
 Ends text to to' Memory = IsFrontOf text to to' × (to'.faults ≡ to.faults)
-Ends text to to' Usage = ⊥
-Ends text to to' (Refused k kind) = ⊥
-Ends text to to' ShelfFault = ⊥
-Ends text to to' ReadFault = ⊥
-Ends text to to' InputLimit = ⊥
-Ends text to to' FileTooLong = ⊥
+Ends text to to' _ = ⊥
 
 -- all lines were written, and then the text, or a front of it
 pub record Behind (job : LineJob) (from from' : InputSide) (to to' : OutputSide) (status : Status) : Type 0 where
