@@ -1,0 +1,2 @@
+-- for `walk_is_all_reached`
+pub mod Walked
