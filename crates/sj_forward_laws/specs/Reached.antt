@@ -1,6 +1,6 @@
 -- What accessors reach in a tree, by whole lists: each is applied to all that those before it reach, in lax mode (ISO/IEC 9075-2,
 -- SQL/JSON path language: path accessors).
-use Rattle.std.specs.Prelude.{ℕ, suc, List, [], ◌∷◌, map, Option, Bool, if◌then◌else◌}
+use Rattle.std.specs.Prelude.{ℕ, suc, List, [], ◌∷◌, map, if◌then◌else◌}
 use Rattle.std.specs.List.{flat_map}
 use Rattle.sj_json.specs.Tree.{Tree, null, truth, string, number, array, object, Child, item_list, member_list}
 use Rattle.sj_doc.specs.Keyed.{is_key}
