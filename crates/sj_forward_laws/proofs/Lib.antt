@@ -5,3 +5,5 @@ pub mod Given
 pub mod Spans
 -- for `forward_items` and `forward_paths_end_well`
 pub mod Meanings
+-- for `forward_items_lie_apart`
+pub mod Apart

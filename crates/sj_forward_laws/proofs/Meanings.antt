@@ -45,7 +45,7 @@ elements_given (number v) x e = itself x (number v) e
 elements_given (array ts) x e = every_child x (array ts) e
 elements_given (object ms) x e = itself x (object ms) e
 
-opened : (t : Tree) (x : ItemValue) → item_tree x ≡ t → Gives (on_kind (kind_of t) unwrapped Lax x) (elements_of t)
+pub opened : (t : Tree) (x : ItemValue) → item_tree x ≡ t → Gives (on_kind (kind_of t) unwrapped Lax x) (elements_of t)
 opened null x e = itself x null e
 opened (truth b) x e = itself x (truth b) e
 opened (string s) x e = itself x (string s) e
@@ -53,7 +53,7 @@ opened (number v) x e = itself x (number v) e
 opened (array ts) x e = every_child x (array ts) e
 opened (object ms) x e = itself x (object ms) e
 
-keyed : (key : List ℕ) (t : Tree) (x : ItemValue) → item_tree x ≡ t → Gives (on_kind (kind_of t) (by_key key) Lax x) (values_under key (members_of t))
+pub keyed : (key : List ℕ) (t : Tree) (x : ItemValue) → item_tree x ≡ t → Gives (on_kind (kind_of t) (by_key key) Lax x) (values_under key (members_of t))
 keyed key null x e = (refl, refl)
 keyed key (truth b) x e = (refl, refl)
 keyed key (string s) x e = (refl, refl)
@@ -64,7 +64,7 @@ keyed key (object ms) x e =
     (gives_under (child_visits x) key false (children_of x))
     (ap (values_under key) (named_children x) ∙ ap (λ (u : Tree). values_under key (children u)) e)
 
-valued : (t : Tree) (x : ItemValue) → item_tree x ≡ t → Gives (on_kind (kind_of t) all_members Lax x) (values (members_of t))
+pub valued : (t : Tree) (x : ItemValue) → item_tree x ≡ t → Gives (on_kind (kind_of t) all_members Lax x) (values (members_of t))
 valued null x e = (refl, refl)
 valued (truth b) x e = (refl, refl)
 valued (string s) x e = (refl, refl)
@@ -96,7 +96,7 @@ found EachMember x = each (unwrap Lax x) (reach all_members Lax)
 found EachElement x = reach all_elements Lax x
 found (Span from to) x = reach (by_range (pos from) (pos to)) Lax x
 
-found_gives : (a : Accessor) (x : ItemValue) → Gives (found a x) (reached a (item_tree x))
+pub found_gives : (a : Accessor) (x : ItemValue) → Gives (found a x) (reached a (item_tree x))
 unfolding reach
 found_gives (Key key) x =
     gives_each (unwrap Lax x) (elements_of (item_tree x)) (reach (by_key key) Lax) (λ u. values_under key (members_of u))

@@ -10,4 +10,6 @@
 
 mod law;
 
-pub use law::{forward_items_are_walked, forward_paths_end_well, walk_is_all_reached};
+pub use law::{
+    forward_items_are_walked, forward_items_lie_apart, forward_paths_end_well, walk_is_all_reached,
+};
