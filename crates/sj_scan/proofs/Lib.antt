@@ -5,3 +5,6 @@ pub mod Numerals
 pub mod Units
 pub mod Follows
 pub mod Wholes
+pub mod Endings
+pub mod Lives
+pub mod Begins

@@ -20,11 +20,11 @@ none_steps : (bs : List ℕ) → is_whole (steps None bs) ≡ false
 none_steps [] = refl
 none_steps (b ∷ bs) = none_steps bs
 
-none_text : (bs : List ℕ) → ended (utf8_after None bs) ≡ false
+pub none_text : (bs : List ℕ) → ended (utf8_after None bs) ≡ false
 none_text [] = refl
 none_text (b ∷ bs) = none_text bs
 
-no_place : (bs : List ℕ) → accepts max_depth None bs ≡ false
+pub no_place : (bs : List ℕ) → accepts max_depth None bs ≡ false
 no_place [] = refl
 no_place (b ∷ bs) = refl
 
@@ -59,14 +59,14 @@ whole_is (b ∷ bs) q u n le =
     ∙ none_steps bs ∙ first_false _ _ (lt-leb (n + length (b ∷ bs)) max_length (omega (arith, ge))))
     (order n max_length)
 
-some_of : (o : Option Tree) → is_some o ≡ true → (t : Tree) × (o ≡ Some t)
+pub some_of : (o : Option Tree) → is_some o ≡ true → (t : Tree) × (o ≡ Some t)
 some_of None e = cc
 some_of (Some t) e = (t, refl)
 
 verdict_of : (bs : List ℕ) → is_whole (steps (Some begun) bs) ≡ verdict (leb (0 + length bs) max_length) (Some (s.value, [])) (Some Between) bs
 verdict_of bs = whole_is bs (s.value, []) Between 0 (omega arith)
 
-read_is : (bs : List ℕ) → is_some (m.reading max_depth bs) ≡ accepts max_depth (Some (s.value, [])) bs
+pub read_is : (bs : List ℕ) → is_some (m.reading max_depth bs) ≡ accepts max_depth (Some (s.value, [])) bs
 read_is bs = run_accepts max_depth bs m.value fresh (tt, tt)
 
 pub whole_json : (h : List ℕ) → is_whole (steps (Some begun) h) ≡ true → IsJson h

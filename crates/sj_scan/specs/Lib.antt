@@ -5,3 +5,4 @@ pub mod Modes
 pub mod Views
 pub mod Scanning
 pub mod Scans
+pub mod Beginnings

@@ -1,6 +1,7 @@
 // The recognizer: a text in pieces.
-ghost use Rattle.std.specs.Prelude.{◌≡◌, ◌↔◌, ℕ, List, [], ◌++◌, OnOk, IsTrue};
+ghost use Rattle.std.specs.Prelude.{◌≡◌, ◌↔◌, ℕ, List, [], ◌++◌, OnOk, IsTrue, is_some};
 ghost use Rattle.sj_json.specs.Spelling.{IsJson};
+ghost use Rattle.sj_scan.specs.Beginnings.{BeginsText};
 ghost use Rattle.sj_scan.specs.Scanning.{StandsFor, step_of, is_whole as whole, open_count};
 
 use crate::mode::{Container, Mode, may_end};
@@ -85,8 +86,23 @@ impl Recognizer {
         self.is_whole()
     }
 
+    /// Whether a JSON text begins with the bytes since `start`: they are not too long already, and some bytes that follow make
+    /// them one.
+    pub fn begins(&self) -> bool
+        ensures { (h : List ℕ) → StandsFor h self.now → (IsTrue result ↔ BeginsText h) }
+    {
+        self.is_live()
+    }
+
     /// How many containers are open, and 0 if no JSON text begins with the bytes since `start`.
     pub fn held(&self) -> usize
+        ensures count { result ≡ open_count self.now }
+        ensures nothing { (h : List ℕ) → StandsFor h self.now → (BeginsText h → ⊥) → result ≡ 0 }
+    {
+        self.open_containers()
+    }
+
+    fn open_containers(&self) -> usize
         ensures { result ≡ open_count self.now }
     {
         if self.failed {
@@ -94,6 +110,12 @@ impl Recognizer {
         } else {
             self.containers.len()
         }
+    }
+
+    fn is_live(&self) -> bool
+        ensures { result ≡ is_some self.now }
+    {
+        !self.failed
     }
 
     fn is_whole(&self) -> bool
