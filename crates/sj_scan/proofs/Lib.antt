@@ -1,0 +1,10 @@
+-- for `Recognizer::finish`
+pub mod Texts
+pub mod Steps
+pub mod Numerals
+pub mod Units
+pub mod Follows
+pub mod Wholes
+pub mod Endings
+pub mod Lives
+pub mod Begins
