@@ -2,9 +2,11 @@
 //!
 //! A path is forward if it is in lax mode and has only accessors on `$`, each of which is a member, `.*`, `[*]`, or one
 //! subscript or range whose ends are literals of whole numbers. `specs/Forward.antt` says which accessors these are, and
-//! [`forward`] answers exactly by it.
+//! [`forward`] answers exactly by it. `specs/Walk.antt` has the one pass: a walk down a tree with one place in the path for
+//! each node. The laws of `sj_forward_laws` say that it has exactly the items of the path, in order.
 //!
-//! The crate stands on `sj_path_tree` for paths, on `sj_decimal` for their numbers, and on `sj_base` for texts.
+//! The crate stands on `sj_path_tree` for paths, on `sj_json` for trees, on `sj_decimal` for the numbers of paths, and on
+//! `sj_base` for texts.
 #![tactic(auto)]
 
 mod form;
