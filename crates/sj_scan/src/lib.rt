@@ -13,6 +13,7 @@ mod escape;
 mod mode;
 mod numeral;
 mod recognizer;
+mod run;
 mod turn;
 mod utf8;
 
