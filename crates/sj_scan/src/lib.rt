@@ -14,6 +14,8 @@ mod mode;
 mod numeral;
 mod recognizer;
 mod run;
+#[cfg(test)]
+mod tests;
 mod turn;
 mod utf8;
 
