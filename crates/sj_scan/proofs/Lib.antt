@@ -8,3 +8,6 @@ pub mod Wholes
 pub mod Endings
 pub mod Lives
 pub mod Begins
+pub mod Lanes
+pub mod Masks
+pub mod Skims

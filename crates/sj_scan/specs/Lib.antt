@@ -6,3 +6,4 @@ pub mod Views
 pub mod Scanning
 pub mod Scans
 pub mod Beginnings
+pub mod Runs

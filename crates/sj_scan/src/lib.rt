@@ -13,6 +13,9 @@ mod escape;
 mod mode;
 mod numeral;
 mod recognizer;
+mod run;
+#[cfg(test)]
+mod tests;
 mod turn;
 mod utf8;
 

@@ -1,10 +1,12 @@
 // The recognizer: a text in pieces.
-ghost use Rattle.std.specs.Prelude.{◌≡◌, ◌↔◌, ℕ, List, [], ◌++◌, OnOk, IsTrue, is_some};
+ghost use Rattle.std.specs.Prelude.{◌≡◌, ◌↔◌, ◌<◌, ◌≤◌, ℕ, List, [], ◌++◌, length, take, OnOk, MatchResult, IsTrue, is_some, ⊤};
 ghost use Rattle.sj_json.specs.Spelling.{IsJson};
 ghost use Rattle.sj_scan.specs.Beginnings.{BeginsText};
-ghost use Rattle.sj_scan.specs.Scanning.{StandsFor, step_of, is_whole as whole, open_count};
+ghost use Rattle.sj_scan.specs.Runs.{in_string};
+ghost use Rattle.sj_scan.specs.Scanning.{StandsFor, step_of, steps, is_whole as whole, open_count};
 
 use crate::mode::{Container, Mode, may_end};
+use crate::run::run_len;
 use crate::turn::{Stop, turn};
 use crate::utf8;
 use crate::utf8::{Utf8, is_between};
@@ -73,8 +75,9 @@ impl Recognizer {
     pub fn piece(&mut self, bytes: &[u8]) -> Result<(), Memory>
         ensures { (h : List ℕ) → StandsFor h self.old → OnOk result (StandsFor (h ++ bytes.now) self.new) }
     {
-        for byte in bytes {
-            self.take(*byte)?;
+        let mut at = 0;
+        while at < bytes.len() {
+            at += self.advance(&bytes[at..])?;
         }
         Ok(())
     }
@@ -109,6 +112,44 @@ impl Recognizer {
             0
         } else {
             self.containers.len()
+        }
+    }
+
+    // Takes a run of a string, or one byte. How many bytes were taken.
+    fn advance(&mut self, bytes: &[u8]) -> Result<usize, Memory>
+        requires { 0 < length bytes.now }
+        ensures { MatchResult result (λ n. (self.new ≡ steps self.old (take n bytes.now)) × (0 < n) × (n ≤ length bytes.now)) (λ _. ⊤) }
+    {
+        let run = self.skim(bytes);
+        if run > 0 {
+            return Ok(run);
+        }
+        self.take(bytes[0])?;
+        Ok(1)
+    }
+
+    // Passes over the run of a string at the front, if it stands in a string.
+    fn skim(&mut self, bytes: &[u8]) -> usize
+        ensures taken { self.new ≡ steps self.old (take result bytes.now) }
+        ensures bound { result ≤ length bytes.now }
+    {
+        if !self.is_in_string() {
+            return 0;
+        }
+        let run = run_len(bytes);
+        if self.taken > MAX_LENGTH || run > MAX_LENGTH - self.taken {
+            return 0;
+        }
+        self.taken += run;
+        run
+    }
+
+    fn is_in_string(&self) -> bool
+        ensures { result ≡ in_string self.now }
+    {
+        match self.mode {
+            Mode::Quoted(_) => !self.failed && is_between(self.text),
+            _ => false,
         }
     }
 
