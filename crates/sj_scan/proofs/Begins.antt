@@ -1,5 +1,5 @@
 -- A scan goes on exactly as long as its bytes begin a text.
-use Rattle.std.proofs.Common.{◌≡◌, ℕ, ◌+◌, ◌<◌, ◌≤◌, ◌⊎◌, inl, inr, ⊎_elim, List, [], ◌∷◌, ◌++◌, length, Bool, true, false, ltb, Option, Some, None, IfSome, is_some, refl, sym, ap, ◌∙◌, subst, arith, le-ltb, lt-ltb}
+use Rattle.std.proofs.Common.{◌≡◌, ℕ, ◌+◌, ◌<◌, ◌≤◌, ◌⊎◌, inl, inr, ⊎_elim, List, [], ◌∷◌, ◌++◌, length, Bool, true, false, ltb, Option, Some, None, IfSome, is_some, refl, sym, ap, ◌∙◌, subst, arith, le-ltb, lt-ltb, ap₂}
 use Rattle.std.specs.Prelude.{IsTrue, ◌↔◌}
 use Rattle.std.proofs.lemmas.Bool.{cond-true, cond-false, cases_lt as order}
 use Rattle.sj_json.specs.Tree.{depth}
@@ -18,6 +18,8 @@ use Rattle.sj_scan.proofs.Texts.{ended, taken_text, text_taken}
 use Rattle.sj_scan.proofs.Follows.{accepts}
 use Rattle.sj_scan.proofs.Wholes.{some_of, read_is, no_place, none_text}
 use Rattle.sj_scan.proofs.Endings.{Lively, ending, ending_taken, ending_ascii, ascii_taken, char_end, char_taken, char_in_string}
+use Rattle.sj_scan.specs.Opened.{Quoting, opened_from, opened_at_end}
+use Rattle.sj_scan.proofs.Counts.{quoting_of, Counted, turn_counts}
 use Rattle.sj_scan.proofs.Lives.{InString, turn_lives, turn_in_string}
 
 none_is : {A : Type 0} {P : Type 0} (x : A) → ◌≡◌ {A = Option A} None (Some x) → P
@@ -99,14 +101,17 @@ record Came (n : ℕ) (h : List ℕ) (r next : Reached) : Type 0 where
   alive : Alive (n + length h) next
   place : (rest : List ℕ) → accepts max_depth (Some (r.mode, r.containers)) (h ++ rest) ≡ accepts max_depth (Some (next.mode, next.containers)) rest
   text : (rest : List ℕ) → utf8_after (Some r.text) (h ++ rest) ≡ utf8_after (Some next.text) rest
+  count : length next.containers ≡ opened_from (quoting_of r.mode) (length r.containers) h
 
 nothing_came : (n : ℕ) (r next : Reached) → Alive n r → r ≡ next → Came n [] r next
 nothing_came n r next h e =
-    subst (Came n [] r) e (record { alive = subst (λ (i : ℕ). Alive i r) (omega arith) h; place = λ rest. refl; text = λ rest. refl })
+    subst (Came n [] r) e (record { alive = subst (λ (i : ℕ). Alive i r) (omega arith) h; place = λ rest. refl; text = λ rest. refl; count = refl })
 
-one_came : (n : ℕ) (b : ℕ) (h : List ℕ) (r first next : Reached) → Moved r b first → Came (n + 1) h first next → Came n (b ∷ h) r next
-one_came n b h r first next k c =
+one_came : (n : ℕ) (b : ℕ) (h : List ℕ) (r first next : Reached) → Lively r.mode → Moved r b first → Came (n + 1) h first next → Came n (b ∷ h) r next
+one_came n b h r first next l k c =
+    let o = from_some (Counted (quoting_of r.mode) (length r.containers) b) (s.turn max_depth r.mode r.containers b) (first.mode, first.containers) (turn_counts max_depth r.mode r.containers b l) k.place in
     record {
+      count = c.count ∙ ap₂ (λ (q : Quoting) (i : ℕ). opened_from q i h) o.0 o.1;
       alive = subst (λ (i : ℕ). Alive i next) (omega arith) c.alive;
       place = λ rest. ap (λ (q : Option s.Place). accepts max_depth q (h ++ rest)) k.place ∙ c.place rest;
       text = λ rest. ap (λ (u : Option Utf8). utf8_after u (h ++ rest)) k.character ∙ c.text rest;
@@ -115,7 +120,7 @@ one_came n b h r first next k c =
 came_on : (n : ℕ) (b : ℕ) (h : List ℕ) (r next : Reached) → Alive n r → ((first : Reached) → Alive (n + 1) first → steps (Some first) h ≡ Some next → Came (n + 1) h first next)
     → (o : Option Reached) → step r b ≡ o → steps o h ≡ Some next → Came n (b ∷ h) r next
 came_on n b h r next a ih None e f = no_steps h next f
-came_on n b h r next a ih (Some first) e f = let k = moved r b first e in one_came n b h r first next k (ih first (stepped n r b first a k) f)
+came_on n b h r next a ih (Some first) e f = let k = moved r b first e in one_came n b h r first next a.lively k (ih first (stepped n r b first a k) f)
 
 came : (h : List ℕ) (n : ℕ) (r next : Reached) → Alive n r → steps (Some r) h ≡ Some next → Came n h r next
 came [] n r next a e = nothing_came n r next a (some_same r next e)
@@ -183,6 +188,11 @@ some_reached (Some r) e = (r, refl)
 pub begins_if : (h : List ℕ) (o : Option Reached) (x : Bool) → x ≡ is_some o → StandsFor h o → IsTrue x ↔ BeginsText h
 begins_if h o x e f =
     (λ k. let r = some_reached o (sym e ∙ k) in reached_begins h r.0 (sym f ∙ r.1), λ j. e ∙ ap is_some f ∙ begins_reached h j)
+
+-- what is held of bytes that begin one
+pub opened_held : (h : List ℕ) (o : Option Reached) → StandsFor h o → BeginsText h → open_count o ≡ opened_at_end h
+opened_held h None f j = false_is (ap is_some f ∙ begins_reached h j)
+opened_held h (Some r) f j = (came h 0 begun r begun_alive (sym f)).count
 
 -- nothing is held of bytes that begin no text
 pub nothing_held : (h : List ℕ) (o : Option Reached) → StandsFor h o → (BeginsText h → ⊥) → open_count o ≡ 0

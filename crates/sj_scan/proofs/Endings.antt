@@ -1,6 +1,6 @@
 -- Every place of a scan can be brought to the end of a text.
-use Rattle.std.proofs.Common.{◌≡◌, ℕ, List, [], ◌∷◌, ◌++◌, Bool, true, false, cond, ◌&&◌, eqb, ltb, Option, Some, None, refl, ap, ◌∙◌, eq-eqb}
-use Rattle.std.proofs.lemmas.Bool.{cond-true, and_parts}
+use Rattle.std.proofs.Common.{◌≡◌, ℕ, List, [], ◌∷◌, ◌++◌, Bool, true, false, cond, ◌&&◌, eqb, ltb, Option, Some, None, refl, ap, ◌∙◌, eq-eqb, ◌<◌, leb, lt-ltb, arith}
+use Rattle.std.proofs.lemmas.Bool.{cond-true, and_parts, ltb-true}
 use Rattle.sj_json.specs.Spelling.{max_depth}
 use Rattle.sj_scan.specs.declared.numeral.Numeral.{Numeral}
 use Rattle.sj_scan.specs.declared.numeral.Numeral.TheVariants.{Nothing, Minus, Zero, Whole, Point, Fraction, Mark, Sign, Exponent}
@@ -21,10 +21,18 @@ abbrev pub all_ascii : List ℕ → Bool
 all_ascii [] = true
 all_ascii (b ∷ bs) = is_ascii b && all_ascii bs
 
+-- the letters of words
+abbrev pub is_small : ℕ → Bool
+is_small b = leb 97 b && ltb b 123
+
+abbrev pub all_small : List ℕ → Bool
+all_small [] = true
+all_small (b ∷ bs) = is_small b && all_small bs
+
 -- the rest of a word has a byte at least
 abbrev pub IsRest : List ℕ → Type 0
 IsRest [] = ⊥
-IsRest (b ∷ bs) = all_ascii (b ∷ bs) ≡ true
+IsRest (b ∷ bs) = all_small (b ∷ bs) ≡ true
 
 abbrev pub Lively : Mode → Type 0
 Lively value = Unit {0}
@@ -163,7 +171,7 @@ word_ended : (r : List ℕ) (cs : List Container) → IsRest r → Takes (word r
 word_ended [] cs h = absurd h
 word_ended (x ∷ []) cs h = ap (λ (t : Bool). accepts max_depth (cond t (Some (after_value, cs)) None) (closers cs)) (same_byte x) ∙ closed cs
 word_ended (x ∷ y ∷ r) cs h =
-    ap (λ (t : Bool). accepts max_depth (cond t (Some (word (y ∷ r), cs)) None) ((y ∷ r) ++ closers cs)) (same_byte x) ∙ word_ended (y ∷ r) cs (and_parts (is_ascii x) (all_ascii (y ∷ r)) h).1
+    ap (λ (t : Bool). accepts max_depth (cond t (Some (word (y ∷ r), cs)) None) ((y ∷ r) ++ closers cs)) (same_byte x) ∙ word_ended (y ∷ r) cs (and_parts (is_small x) (all_small (y ∷ r)) h).1
 
 pub ending_taken : (o : Mode) (cs : List Container) → Lively o → Takes o cs (ending o cs)
 ending_taken value cs h = closed cs
@@ -221,9 +229,19 @@ ascii_append (b ∷ x) y h k =
     let both = and_parts (is_ascii b) (all_ascii x) h in
     ap (λ (t : Bool). t && all_ascii (x ++ y)) both.0 ∙ ascii_append x y both.1 k
 
+pub small_below : (b : ℕ) → is_small b ≡ true → b < 123
+small_below b h = ltb-true b 123 (and_parts (leb 97 b) (ltb b 123) h).1
+
+small_ascii : (r : List ℕ) → all_small r ≡ true → all_ascii r ≡ true
+small_ascii [] h = refl
+small_ascii (b ∷ r) h =
+    let both = and_parts (is_small b) (all_small r) h in
+    let low : b < 123 = small_below b both.0 in
+    ap (λ (t : Bool). t && all_ascii r) (lt-ltb b 128 (omega arith)) ∙ small_ascii r both.1
+
 rest_ascii : (r : List ℕ) → IsRest r → all_ascii r ≡ true
 rest_ascii [] h = absurd h
-rest_ascii (b ∷ r) h = h
+rest_ascii (b ∷ r) h = small_ascii (b ∷ r) h
 
 pub ending_ascii : (o : Mode) (cs : List Container) → Lively o → all_ascii (ending o cs) ≡ true
 ending_ascii value cs h = closers_ascii cs

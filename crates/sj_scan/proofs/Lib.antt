@@ -11,3 +11,4 @@ pub mod Begins
 pub mod Lanes
 pub mod Masks
 pub mod Skims
+pub mod Counts

@@ -1,5 +1,5 @@
 -- What is kept from byte to byte, so that every place of a scan can be brought to the end of a text.
-use Rattle.std.proofs.Common.{◌≡◌, ℕ, ◌<◌, ◌≤◌, List, [], ◌∷◌, length, Bool, true, false, cond, eqb, ltb, leb, Option, Some, None, IfSome, is_some, option_map, refl, sym, ap, ◌∙◌, subst, arith, ne_eqb, le-ltb, ltb-true}
+use Rattle.std.proofs.Common.{◌≡◌, ℕ, ◌<◌, ◌≤◌, List, [], ◌∷◌, length, Bool, true, false, cond, eqb, ltb, leb, Option, Some, None, IfSome, is_some, option_map, refl, sym, ap, ◌∙◌, subst, arith, ne_eqb, le-ltb}
 use Rattle.std.specs.Char.{digit_value, is_digit, is_ascii_digit}
 use Rattle.std.proofs.lemmas.Bool.{cond-false, and_parts, and_right, or_from, lt-leb}
 use Rattle.sj_base.specs.ByteClasses.{is_plain, is_blank, letter_char}
@@ -15,7 +15,7 @@ use Rattle.sj_scan.specs.declared.mode.Container.TheVariants.{Array, Object}
 use Rattle.sj_scan.specs.Numerals.{numeral_step, may_end}
 use Rattle.sj_scan.specs.Escapes.{hex_step, escape_step}
 use Rattle.sj_scan.specs.Modes.{Mode, value, value_or_close, key, key_or_close, colon, after_value, word, quoted, escaped, number, Place, Advance, number_turn, start, open_turn, close_turn, separate, quote_turn, end_quote, after_escape, after_value_turn, word_turn, turn}
-use Rattle.sj_scan.proofs.Endings.{is_ascii, all_ascii, IsRest, Lively}
+use Rattle.sj_scan.proofs.Endings.{is_small, all_small, small_below, IsRest, Lively}
 
 abbrev IsLively : Place → Type 0
 IsLively p = Lively p.0
@@ -57,7 +57,7 @@ module _ (limit : ℕ) where
   words : (r : List ℕ) (cs : List Container) (b : ℕ) → IsRest r → IfSome (word_turn r cs b) IsLively
   words [] cs b h = tt
   words (x ∷ []) cs b h = either IsLively (eqb b x) _ _ tt tt
-  words (x ∷ y ∷ r) cs b h = either IsLively (eqb b x) _ _ (and_parts (is_ascii x) (all_ascii (y ∷ r)) h).1 tt
+  words (x ∷ y ∷ r) cs b h = either IsLively (eqb b x) _ _ (and_parts (is_small x) (all_small (y ∷ r)) h).1 tt
 
   ended_string : (k : Bool) (cs : List Container) → IsLively (end_quote k, cs)
   ended_string false cs = tt
@@ -125,10 +125,13 @@ module _ (limit b : ℕ) (high : 128 ≤ b) where
   no_quote : (cs : List Container) → IfSome (quote_turn cs b) IsInString
   no_quote cs = passes IsInString (eqb b 34) _ None (is_no 34 (omega arith)) tt
 
+  no_small : (x : ℕ) → is_small x ≡ true → eqb b x ≡ false
+  no_small x h = let low : x < 123 = small_below x h in is_no x (omega arith)
+
   no_word : (r : List ℕ) (cs : List Container) → IsRest r → IfSome (word_turn r cs b) IsInString
   no_word [] cs h = tt
-  no_word (x ∷ []) cs h = passes IsInString (eqb b x) _ None (is_no x (ltb-true x 128 (and_parts (is_ascii x) true h).0)) tt
-  no_word (x ∷ y ∷ r) cs h = passes IsInString (eqb b x) _ None (is_no x (ltb-true x 128 (and_parts (is_ascii x) (all_ascii (y ∷ r)) h).0)) tt
+  no_word (x ∷ []) cs h = passes IsInString (eqb b x) _ None (no_small x (and_parts (is_small x) true h).0) tt
+  no_word (x ∷ y ∷ r) cs h = passes IsInString (eqb b x) _ None (no_small x (and_parts (is_small x) (all_small (y ∷ r)) h).0) tt
 
   no_hex : is_digit b 16 ≡ false
   no_hex = ap (λ (v : ℕ). ltb v 16) value_is

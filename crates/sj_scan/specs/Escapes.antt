@@ -1,5 +1,5 @@
 -- The escape of a string (RFC 8259, section 7), byte by byte: what came of it, and which bytes may come next. A unit of a surrogate
--- is known by its first two digits: D8 to DB for a high one, DC to DF for a low one.
+-- is known by its first two digits: "d8" to "db" begin a high one, and "dc" to "df" a low one.
 use Rattle.std.specs.Prelude.{ℕ, cond, ◌==◌, nat_lt, Option, Some, None, is_some}
 use Rattle.std.specs.Char.{digit_value, is_digit}
 use Rattle.sj_base.specs.ByteClasses.{letter_char}

@@ -7,3 +7,4 @@ pub mod Scanning
 pub mod Scans
 pub mod Beginnings
 pub mod Runs
+pub mod Opened

@@ -2,6 +2,7 @@
 ghost use Rattle.std.specs.Prelude.{◌≡◌, ◌↔◌, ◌<◌, ◌≤◌, ℕ, List, [], ◌++◌, length, take, OnOk, MatchResult, IsTrue, is_some, ⊤};
 ghost use Rattle.sj_json.specs.Spelling.{IsJson};
 ghost use Rattle.sj_scan.specs.Beginnings.{BeginsText};
+ghost use Rattle.sj_scan.specs.Opened.{opened_at_end};
 ghost use Rattle.sj_scan.specs.Runs.{in_string};
 ghost use Rattle.sj_scan.specs.Scanning.{StandsFor, step_of, steps, is_whole as whole, open_count};
 
@@ -99,7 +100,7 @@ impl Recognizer {
 
     /// How many containers are open, and 0 if no JSON text begins with the bytes since `start`.
     pub fn held(&self) -> usize
-        ensures count { result ≡ open_count self.now }
+        ensures opened { (h : List ℕ) → StandsFor h self.now → BeginsText h → result ≡ opened_at_end h }
         ensures nothing { (h : List ℕ) → StandsFor h self.now → (BeginsText h → ⊥) → result ≡ 0 }
     {
         self.open_containers()
