@@ -66,6 +66,7 @@ USED_NO_MORE = {
     ("PrintsLines::print_lines", "lines"): "the run is over",
     ("Batch::read_on", "self"): "the run is over",
     ("Batch::read_on", "waiting"): "the run is over",
+    ("Recognizer::piece", "self"): "`start` begins a text anew",
 }
 INTRODUCTION = """# What a refused call leaves
 

@@ -21,8 +21,6 @@ mod mode;
 mod numeral;
 mod recognizer;
 mod run;
-#[cfg(test)]
-mod tests;
 mod turn;
 mod utf8;
 

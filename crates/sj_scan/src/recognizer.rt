@@ -20,7 +20,7 @@ use std::marker::Model;
 /// limits of length and depth. It keeps none of these bytes.
 ///
 /// Example: after the pieces `[1` and `.5]` the bytes are JSON; after `01` nothing that follows makes them JSON
-/// (`sj_scan::tests::tells_the_byte_behind_which_no_text_follows`).
+/// (`sj_document_tests::pieces::tells_the_byte_behind_which_no_text_follows`).
 #[derive(Drop)]
 pub struct Recognizer {
     mode: Mode,

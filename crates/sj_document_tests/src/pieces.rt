@@ -1,5 +1,5 @@
 // Texts in pieces, and the byte behind which no text can follow.
-use crate::Recognizer;
+use sj_scan::Recognizer;
 use std::process::Abort;
 use std::test::Fail;
 
