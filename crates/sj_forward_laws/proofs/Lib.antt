@@ -7,3 +7,4 @@ pub mod Spans
 pub mod Meanings
 -- for `forward_items_lie_apart`
 pub mod Apart
+pub mod Placed
