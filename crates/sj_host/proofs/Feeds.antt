@@ -1,10 +1,10 @@
 -- Where lines end.
-use Rattle.std.proofs.Common.{◌≡◌, inl, inr, ℕ, ◌+◌, ◌<◌, ◌≤◌, List, [], ◌∷◌, ◌++◌, length, take, true, slice_index, sym, ◌∙◌, ap, arith}
+use Rattle.std.proofs.Common.{◌≡◌, inl, inr, ℕ, ◌+◌, ◌<◌, ◌≤◌, List, [], ◌∷◌, ◌++◌, length, take, slice_index, refl, sym, ◌∙◌, ap, arith, ◌==◌}
 use Rattle.std.proofs.lemmas.List.{take_more, take-take}
 use Rattle.std.proofs.lemmas.Bool.{eqb-true}
-use Rattle.memchr.specs.Find.{is_byte, Passes}
-use Rattle.sj_rows.specs.Lines.{open_part, open_from}
-use Rattle.sj_rows.proofs.Splits.{open-append, open_feed}
+use Rattle.memchr.specs.Find.{is_byte, Passes, Nowhere}
+use Rattle.sj_rows.specs.Lines.{whole_lines, open_part}
+use Rattle.sj_rows.proofs.Splits.{open-append, open_feed, no_feed}
 use Rattle.sj_host.specs.declared.lines.Part.{Part}
 use Rattle.sj_host.specs.declared.lines.Part.TheVariants.{Front, End}
 use Rattle.sj_host.specs.Host.{EndsLine}
@@ -23,3 +23,12 @@ ends_within xs m n within is = ap open_part (sym (take-take m n xs within)) ∙ 
 pub ends_line : (part : Part) (xs : List ℕ) (m n : ℕ) → m ≤ n → open_part (take m (take n xs)) ≡ [] → EndsLine part xs m
 ends_line Front xs m n within is = ends_within xs m n within is
 ends_line End xs m n within is = inl (ends_within xs m n within is)
+
+-- where there is no LF, there is no whole line
+pub none_there : (xs : List ℕ) → Nowhere (Passes (is_byte 10) xs) 0 (length xs) → whole_lines xs ≡ []
+none_there xs none = (no_feed [] xs (λ k below is. none k (omega arith) below (ap (λ (x : ℕ). x == 10) is))).0
+
+-- no byte is left
+pub nothing_left : (xs : List ℕ) → length xs ≡ 0 → xs ≡ []
+nothing_left [] none = refl
+nothing_left (x ∷ xs) none = absurd (omega (arith, none))

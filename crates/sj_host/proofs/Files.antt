@@ -53,7 +53,7 @@ pub copied_front : (read source copy others text : List ℕ) → read ≡ text �
 copied_front read source copy others text a b c =
     let whole : copy ≡ text = b ∙ c in
     let long : length read ≡ length copy = ap length (a ∙ sym whole) in
-    sym (ap (λ (n : ℕ). take n (copy ++ others)) long ∙ take-append-le (length copy) copy others (omega arith) ∙ take_all copy (length copy) (omega arith) ∙ whole)
+    sym (ap (λ (n : ℕ). take n (copy ++ others)) long ∙ take-append-le (length copy) copy others (omega arith) ∙ take_all (length copy) copy (omega arith) ∙ whole)
 
 -- the widths of statements as they are held
 pub held_widths : (xs : List BoundHeld) → map (λ (s : BoundHeld). width_of (bound_of s)) xs ≡ map width_of (map bound_of xs)

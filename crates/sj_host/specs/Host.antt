@@ -2,7 +2,7 @@
 use Rattle.std.specs.Prelude.{◌≡◌, ◌⊎◌, ℕ, ◌<◌, ◌≤◌, ◌==◌, if◌then◌else◌, List, [], length, map, take, codes}
 use Rattle.sj_sql_grammar.specs.Answers.{max_file}
 use Rattle.sj_bound.specs.Bound.{Bound}
-use Rattle.sj_rows.specs.Lines.{open_part}
+use Rattle.sj_rows.specs.Lines.{whole_lines, open_part}
 use Rattle.sj_file.specs.declared.job.Keys.{Keys}
 use Rattle.sj_file.specs.declared.status.Status.{Status}
 use Rattle.sj_file.specs.declared.status.Status.TheVariants as s
@@ -84,6 +84,11 @@ pub record Answers (keys : Keys) (file input text : List ℕ) : Type 0 where
 abbrev pub EndsLine : Part → List ℕ → ℕ → Type 0
 EndsLine Front input taken = open_part (take taken input) ≡ []
 EndsLine End input taken = (open_part (take taken input) ≡ []) ⊎ (taken ≡ length input)
+
+-- it has none
+abbrev pub HasNoLine : Part → List ℕ → Type 0
+HasNoLine Front input = whole_lines input ≡ []
+HasNoLine End input = input ≡ []
 
 -- ---- a document
 

@@ -1,13 +1,15 @@
 // Where lines end.
 ghost use Rattle.std.specs.Prelude.{◌≡◌, ◌<◌, ◌≤◌, [], length, take, IfSome};
-ghost use Rattle.sj_rows.specs.Lines.{open_part};
+ghost use Rattle.sj_rows.specs.Lines.{whole_lines, open_part};
 
 use memchr::{memchr, memrchr};
 
 /// How many bytes the lines have that end in a line feed.
+#[tactic(auto, using(crate::proofs::Feeds::none_there))]
 pub(crate) fn last_end(bytes: &[u8]) -> usize
     ensures within { result ≤ length bytes.now }
     ensures ends { open_part (take result bytes.now) ≡ [] }
+    ensures none { result ≡ 0 → whole_lines bytes.now ≡ [] }
 {
     match memrchr(b'\n', bytes) {
         Some(at) => at + 1,
@@ -19,6 +21,7 @@ pub(crate) fn last_end(bytes: &[u8]) -> usize
 fn first_end(bytes: &[u8]) -> Option<usize>
     ensures within { IfSome result (λ end. end ≤ length bytes.now) }
     ensures ends { IfSome result (λ end. open_part (take end bytes.now) ≡ []) }
+    ensures some { IfSome result (λ end. 0 < end) }
 {
     match memchr(b'\n', bytes) {
         Some(at) => Some(at + 1),
@@ -31,6 +34,7 @@ fn first_end(bytes: &[u8]) -> Option<usize>
 pub(crate) fn fewer(lines: &[u8]) -> Option<usize>
     ensures less { IfSome result (λ end. end < length lines.now) }
     ensures ends { IfSome result (λ end. open_part (take end lines.now) ≡ []) }
+    ensures some { IfSome result (λ end. 0 < end) }
 {
     let half = last_end(&lines[..lines.len() / 2]);
     if half > 0 {

@@ -1,6 +1,6 @@
 // The rows of whole lines.
 ghost use Rattle.std.specs.Prelude.{◌≡◌, ◌≤◌, length, take, IfOk, IfErr};
-ghost use Rattle.sj_host.specs.Host.{Answers, IsWhyUnwritten, EndsLine};
+ghost use Rattle.sj_host.specs.Host.{Answers, IsWhyUnwritten, EndsLine, HasNoLine};
 
 use crate::ends::{fewer, last_end};
 use crate::in_memory::write_rows;
@@ -29,7 +29,7 @@ pub struct Rows {
 
 /// Writes the rows that the statements of a file give for the lines of a part of an input, and says how many bytes of the
 /// input it took. If the rows of all lines have no room, it takes fewer lines, about half of them as often as that is needed.
-/// Then the caller goes on behind those that were taken. The lines are numbered from 1 in each call.
+/// Then the caller goes on behind those that were taken. It takes one at least, if there is one. The lines are numbered from 1 in each call.
 ///
 /// # Errors
 /// Each of [`Unanswered`]. [`Unanswered::Room`] comes if the rows of the first line alone have no room.
@@ -45,14 +45,12 @@ pub fn line_rows(
 ) -> Result<Rows, Unanswered>
     ensures taken { IfOk result (λ rows. rows.taken ≤ length input.now) }
     ensures ends { IfOk result (λ rows. EndsLine part input.now rows.taken) }
+    ensures some { IfOk result (λ rows. rows.taken ≡ 0 → HasNoLine part input.now) }
     ensures written { IfOk result (λ rows. rows.written ≤ length out.new) }
     ensures rows { IfOk result (λ rows. Answers keys file.now (take rows.taken input.now) (take rows.written out.new)) }
     ensures unanswered { IfErr result (λ why. IsWhyUnwritten file.now why) }
 {
-    let mut taken = match part {
-        Part::Front => last_end(input),
-        Part::End => input.len(),
-    };
+    let mut taken = whole_len(input, part);
     loop {
         let lines = &input[..taken];
         match write_rows(alloc, keys, file, lines, out, steps) {
@@ -63,5 +61,18 @@ pub fn line_rows(
             },
             Err(why) => return Err(why),
         }
+    }
+}
+
+/// How many bytes the lines of a part of an input have.
+#[tactic(auto, using(crate::proofs::Feeds::nothing_left))]
+fn whole_len(input: &[u8], part: Part) -> usize
+    ensures within { result ≤ length input.now }
+    ensures ends { EndsLine part input.now result }
+    ensures some { result ≡ 0 → HasNoLine part input.now }
+{
+    match part {
+        Part::Front => last_end(input),
+        Part::End => input.len(),
     }
 }

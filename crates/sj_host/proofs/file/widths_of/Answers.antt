@@ -1,4 +1,5 @@
-use Rattle.std.proofs.Common.{rules, ◌≡◌, ◌∙◌, map}
+use Rattle.std.proofs.Common.{◌≡◌, ◌∙◌, List, map, take, ap, arith}
+use Rattle.std.proofs.lemmas.List.{take_all}
 use Rattle.sj_bound.specs.View.{bound_of}
 use Rattle.sj_bound.specs.declared.bound.Bound.{Bound}
 use Rattle.sj_host.specs.Host.{width_of}
@@ -7,5 +8,5 @@ use Rattle.sj_host.proofs.file.widths_of.Goals as goal
 
 pub returns : goal.returns
 returns c =
-    let all : c.loop-statement.widths.items ≡ map (λ (s : Bound). width_of (bound_of s)) c.args.statements.now = search rules in
-    all ∙ held_widths c.args.statements.now
+    let whole : take c.loop-statement.statement-index c.args.statements.now ≡ c.args.statements.now = take_all c.loop-statement.statement-index c.args.statements.now (omega (arith, c.loop-statement-test.false)) in
+    c.loop-statement.invariant ∙ ap (λ (l : List Bound). map (λ (s : Bound). width_of (bound_of s)) l) whole ∙ held_widths c.args.statements.now

@@ -1,12 +1,13 @@
-use Rattle.std.proofs.Common.{◌≤◌, length}
-use Rattle.sj_host.specs.Host.{EndsLine}
+use Rattle.std.proofs.Common.{◌≡◌, ◌≤◌, length}
+use Rattle.sj_host.specs.Host.{EndsLine, HasNoLine}
 use Rattle.sj_host.proofs.lines.line_rows.Given as goal
 
 -- whole lines are tried
 abbrev pub invariant-loop-written : goal.invariant-loop-written
 invariant-loop-written l = record {
   within : l.taken ≤ length l.input;
-  ends : EndsLine l.part l.input l.taken;
+  ends : EndsLine l.fn.part l.input l.taken;
+  some : l.taken ≡ 0 → HasNoLine l.fn.part l.input;
 }
 
 abbrev pub decreases-loop-written : goal.decreases-loop-written
