@@ -6,15 +6,14 @@ use Rattle.sj_outside.specs.InMemory.{QuietShelfState, quiet_shelf_of}
 use Rattle.sj_bound.specs.Bound.{Bound}
 use Rattle.sj_bound.specs.View.{bound_of}
 use Rattle.sj_bound.specs.declared.bound.Bound.{Bound as BoundHeld}
-use Rattle.sj_sql_text.specs.Statements.{lines_text}
 use Rattle.sj_file.specs.declared.status.Status.{Status}
 use Rattle.sj_file.specs.declared.status.Status.TheVariants.{Done, Usage, Refused, ShelfFault, ReadFault, WriteFault, Memory, InputLimit, FileTooLong}
 use Rattle.sj_file.specs.File.{ShelfSide, IsFile, file_shown}
-use Rattle.sj_file.specs.Verdict.{Accepts, Refuses}
+use Rattle.sj_file.specs.Verdict.{Refuses}
 use Rattle.sj_file.specs.Accepted.{Accepted, AcceptedSoMany, AcceptedWithText, IsUnaccepted}
 use Rattle.sj_file.specs.Refusals.{AcceptsSoMany, AcceptsWithText}
 use Rattle.sj_file.proofs.ShownFiles.{accepted_as, refused_as, long_file}
-use Rattle.sj_host.specs.Host.{file_name, unanswered_by, IsWhy, IsWhyUnshown, width_of, AcceptsWithWidths}
+use Rattle.sj_host.specs.Host.{file_name, unanswered_by, IsWhy, width_of, AcceptsWithWidths}
 
 -- the shelf shows the file
 pub shown : (file : List ℕ) (shelf : QuietShelfState) → shelf ≡ quiet_shelf_of file_name file → file_shown (Some (one_file shelf.name shelf.bytes)) (Some file_name) ≡ Some file

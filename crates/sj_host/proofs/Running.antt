@@ -1,8 +1,7 @@
 -- A run over objects in memory.
-use Rattle.std.proofs.Common.{◌≡◌, inl, inr, ℕ, List, [], ◌∷◌, ◌++◌, Option, None, Some, string_bytes, codes, refl, sym, ◌∙◌, ap, subst}
+use Rattle.std.proofs.Common.{◌≡◌, inl, inr, ℕ, List, [], ◌∷◌, ◌++◌, Option, None, Some, string_bytes, codes, sym, ◌∙◌, ap, subst}
 use Rattle.std.specs.declared.string.String.{String}
 use Rattle.std.specs.Io.KnownBytes.{Appends}
-use Rattle.sj_bound.specs.Bound.{Bound}
 use Rattle.sj_file.specs.declared.job.Keys.{Keys}
 use Rattle.sj_file.specs.declared.job.Keys.TheVariants.{Any, Unique}
 use Rattle.sj_file.specs.declared.status.Status.{Status}
@@ -12,7 +11,7 @@ use Rattle.sj_file.proofs.ShownFiles.{accepted_as}
 use Rattle.sj_stream.specs.LineJob.{output}
 use Rattle.sj_stream.proofs.Then.{all_taken}
 use Rattle.sj_run.specs.Output.{job}
-use Rattle.sj_run.specs.Ran.{Moment, Idle, Did, RanOver, Ran}
+use Rattle.sj_run.specs.Ran.{Moment, Did, RanOver, Ran}
 use Rattle.sj_host.specs.Host.{file_name, unanswered_by, IsWhy, IsWhyUnwritten, Answers}
 use Rattle.sj_host.proofs.Files.{why}
 

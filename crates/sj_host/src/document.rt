@@ -25,6 +25,7 @@ pub fn document_rows(
     ensures written { IfOk result (λ count. count ≤ length out.new) }
     ensures rows { IfOk result (λ count. Answers keys file.now (on_one_line document.now) (take count out.new)) }
     ensures unanswered { IfErr result (λ why. IsWhyUnwritten file.now why) }
+    ensures room { length out.new ≡ length out.old }
 {
     let line = match line_of(alloc, document) {
         Ok(line) => line,

@@ -74,6 +74,7 @@ pub(crate) fn write_rows(
     ensures within { IfOk result (λ count. count ≤ length out.new) }
     ensures rows { IfOk result (λ count. Answers keys file.now input.now (take count out.new)) }
     ensures unanswered { IfErr result (λ why. IsWhyUnwritten file.now why) }
+    ensures room { length out.new ≡ length out.old }
 {
     let mut sink = match sink_of(alloc, out.len()) {
         Ok(sink) => sink,

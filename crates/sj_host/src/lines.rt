@@ -29,7 +29,9 @@ pub struct Rows {
 
 /// Writes the rows that the statements of a file give for the lines of a part of an input, and says how many bytes of the
 /// input it took. If the rows of all lines have no room, it takes fewer lines, about half of them as often as that is needed.
-/// Then the caller goes on behind those that were taken. It takes one at least, if there is one. The lines are numbered from 1 in each call.
+/// Then the
+/// caller goes on behind those that were taken. It takes one at least, if there is one. The lines are numbered from 1 in each
+/// call.
 ///
 /// # Errors
 /// Each of [`Unanswered`]. [`Unanswered::Room`] comes if the rows of the first line alone have no room.
@@ -49,6 +51,7 @@ pub fn line_rows(
     ensures written { IfOk result (λ rows. rows.written ≤ length out.new) }
     ensures rows { IfOk result (λ rows. Answers keys file.now (take rows.taken input.now) (take rows.written out.new)) }
     ensures unanswered { IfErr result (λ why. IsWhyUnwritten file.now why) }
+    ensures room { length out.new ≡ length out.old }
 {
     let mut taken = whole_len(input, part);
     loop {

@@ -7,6 +7,7 @@ abbrev pub invariant-loop-written : goal.invariant-loop-written
 invariant-loop-written l = record {
   within : l.taken ≤ length l.input;
   ends : EndsLine l.fn.part l.input l.taken;
+  room : length l.out ≡ length l.fn.out;
   some : l.taken ≡ 0 → HasNoLine l.fn.part l.input;
 }
 
