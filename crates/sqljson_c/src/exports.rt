@@ -1,5 +1,5 @@
 // What C calls.
-ghost use Rattle.std.specs.Prelude.{◌≡◌, ◌<◌, ◌≤◌, length, take};
+ghost use Rattle.std.specs.Prelude.{◌≡◌, ◌≢◌, ◌<◌, ◌≤◌, length, take};
 ghost use Rattle.sj_sql_grammar.specs.Answers.{max_file};
 ghost use Rattle.sj_file.specs.Refusals.{AcceptsSoMany, AcceptsWithText};
 ghost use Rattle.sj_host.specs.Host.{AcceptsWithWidths};
@@ -39,6 +39,7 @@ pub extern "C" fn sqljson_show(alloc: Global, file: &[u8], out: &mut [u8], ended
     ensures shown { ended.new.status ≡ 0 → AcceptsWithText file.now (take ended.new.count out.new) }
     ensures refused { ended.new.status ≡ 2 → IsRefusedAt file.now ended.new.statement }
     ensures too_long { ended.new.status ≡ 8 → max_file < length file.now }
+    ensures untouched { ended.new.status ≢ 0 → out.new ≡ out.old }
 {
     match show(alloc, file, out) {
         Ok(count) => done(ended, count as u64),
@@ -52,6 +53,7 @@ pub extern "C" fn sqljson_widths(alloc: Global, file: &[u8], out: &mut [u32], en
     ensures accepted { ended.new.status ≡ 0 → AcceptsWithWidths file.now (take ended.new.count out.new) }
     ensures refused { ended.new.status ≡ 2 → IsRefusedAt file.now ended.new.statement }
     ensures too_long { ended.new.status ≡ 8 → max_file < length file.now }
+    ensures untouched { ended.new.status ≢ 0 → out.new ≡ out.old }
 {
     match widths(alloc, file) {
         Ok(widths) => {
