@@ -22,6 +22,7 @@ DONE, REFUSED, TOO_LONG, NO_ROOM = 0, 2, 8, 10
 LONGEST = 1 << 21  # bytes of a canonical text
 LINKED = 12  # files that the program in C is tried with, of each kind
 SECONDS = 60
+HEADING = "## In a program in C\n"  # of the guide
 
 
 class Ended(ctypes.Structure):
@@ -75,6 +76,7 @@ def check_library(tally, program, top):
             files = [file for of in (table_files, example_files) for file, *_ in of(top)]
             check_calls(tally, Library(prefix), program, room, list(dict.fromkeys(files)))
             check_linked(tally, Library(prefix), prefix, room, top, files)
+            check_example(tally, prefix, room, top)
 
 
 def check_header(tally, top):
@@ -137,6 +139,16 @@ def check_linked(tally, library, prefix, room, top, files):
         made = subprocess.run(["cc", "-std=c99", "-Wall", "-Werror", f"-I{prefix / 'include'}", top / "checks" / "library.c", "-o", room / "called", *words], capture_output=True, text=True, timeout=SECONDS)
         wrong = [made.stderr] if made.returncode else [file[:60] for file in some_of(files) if not same_linked(library, room, file)]
         tally.check(f"a program in C with {kind}", f"{wrong[:3]}" if wrong else None)
+
+
+def check_example(tally, prefix, room, top):
+    """The example of the guide writes what stands below it."""
+    section = (top / "docs" / "GUIDE.md").read_text(encoding="utf-8").partition(HEADING)[2].partition("\n## ")[0]
+    code, output = re.findall(r"^```\n(.*?)^```$", section, re.M | re.S)
+    (room / "example.c").write_text(code, encoding="utf-8")
+    made = subprocess.run(["cc", f"-I{prefix / 'include'}", room / "example.c", "-o", room / "example", prefix / "lib" / "libsqljson.a"], capture_output=True, text=True, timeout=SECONDS)
+    ran = made if made.returncode else subprocess.run([room / "example"], capture_output=True, text=True, timeout=SECONDS)
+    tally.check("GUIDE.md, the example in C", None if (ran.returncode, ran.stdout) == (0, output) else f"{ran.stderr}{ran.stdout}")
 
 
 def some_of(files):
