@@ -20,6 +20,7 @@ TYPES = {"u32": "uint32_t", "u64": "uint64_t", "usize": "size_t"}
 WRITTEN = {"&[u8]": "const uint8_t *{0}, size_t {0}_len", "&mut [u8]": "uint8_t *{0}, size_t {0}_len", "&mut [u32]": "uint32_t *{0}, size_t {0}_len", "&mut Ended": "struct sqljson_ended *{0}"}
 DONE, REFUSED, TOO_LONG, NO_ROOM = 0, 2, 8, 10
 LONGEST = 1 << 21  # bytes of a canonical text
+MOST_WIDTHS = 1 << 17  # statements
 LINKED = 12  # files that the program in C is tried with, of each kind
 SECONDS = 60
 HEADING = "## In a program in C\n"  # of the guide
@@ -51,14 +52,15 @@ class Library:
         self.calls.sqljson_show(file, ctypes.c_size_t(len(file)), out, ctypes.c_size_t(room), ctypes.byref(ended))
         return ended.told(), out.raw[: ended.count]
 
-    def widths(self, file, room=1000):
+    def widths(self, file, room=MOST_WIDTHS):
         ended, out = Ended(), (ctypes.c_uint32 * max(room, 1))()
         self.calls.sqljson_widths(file, ctypes.c_size_t(len(file)), out, ctypes.c_size_t(room), ctypes.byref(ended))
         return ended.told(), list(out[: ended.count])
 
     def message(self, file, room=1000):
         out = ctypes.create_string_buffer(max(room, 1))
-        return out.raw[: self.calls.sqljson_message(file, ctypes.c_size_t(len(file)), out, ctypes.c_size_t(room))]
+        length = self.calls.sqljson_message(file, ctypes.c_size_t(len(file)), out, ctypes.c_size_t(room))
+        return out.raw[:length]
 
 
 def check_library(tally, program, top):
