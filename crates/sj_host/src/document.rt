@@ -12,6 +12,8 @@ use std::alloc::Global;
 /// they have. It is line 1. Each line feed is read as a carriage return: JSON takes both as white space between its tokens, and
 /// neither in a string (RFC 8259, sections 2 and 7).
 ///
+/// The library for C does not call this; its tests do, and a host in Rattle may.
+///
 /// # Errors
 /// Each of [`Unanswered`].
 pub fn document_rows(

@@ -29,9 +29,10 @@ pub struct Rows {
 
 /// Writes the rows that the statements of a file give for the lines of a part of an input, and says how many bytes of the
 /// input it took. If the rows of all lines have no room, it takes fewer lines, about half of them as often as that is needed.
-/// Then the
-/// caller goes on behind those that were taken. It takes one at least, if there is one. The lines are numbered from 1 in each
-/// call.
+/// Then the caller goes on behind those that were taken. It takes one at least, if there is one. The lines are numbered from
+/// 1 in each call.
+///
+/// The library for C does not call this; its tests do, and a host in Rattle may.
 ///
 /// # Errors
 /// Each of [`Unanswered`]. [`Unanswered::Room`] comes if the rows of the first line alone have no room.
