@@ -27,6 +27,7 @@ from checks.examples import check_examples
 from checks.grouping import check_grouping
 from checks.guide import check_guide
 from checks.hard import check_hard
+from checks.library import check_library
 from checks.limits import check_limits
 from checks.loading import check_loading
 from checks.machines import check_machines
@@ -105,6 +106,7 @@ def check_all(tally, given):
         check_loading(tally, program, TOP)
         check_machines(tally, program, TOP)
         check_packaging(tally, program, TOP)
+        check_library(tally, program, TOP)
         check_edges(tally, program)
         check_limits(tally, program)
         check_hard(tally, program)

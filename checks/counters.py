@@ -9,7 +9,8 @@ import re
 
 from checks.crates import listed as listed_crates
 
-WORDS = re.compile(r"\b(?:HostRuntime|LibcRuntime)\b|\bSteps\s*>?\s*::\s*new\b|\bunsafe\b")
+# (the attribute of what C calls has the last of the words, and lets no code do more)
+WORDS = re.compile(r"\b(?:HostRuntime|LibcRuntime)\b|\bSteps\s*>?\s*::\s*new\b|\bunsafe\b(?!\(no_mangle\)\])")
 # The places where one stands, with how often: the runtime in `main`, the counter that it makes, the counter's own maker, and
 # two texts of bytes that are UTF-8.
 ALLOWED = {

@@ -67,6 +67,8 @@ USED_NO_MORE = {
     ("Batch::read_on", "self"): "the run is over",
     ("Batch::read_on", "waiting"): "the run is over",
     ("Recognizer::piece", "self"): "`start` begins a text anew",
+    ("line_rows", "steps"): "no bound on them is promised, since lines are tried again",
+    ("document_rows", "steps"): "no bound on them is promised, as of line_rows",
 }
 INTRODUCTION = """# What a refused call leaves
 
