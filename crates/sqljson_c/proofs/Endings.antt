@@ -1,5 +1,5 @@
 -- What the number of an end says.
-use Rattle.std.proofs.Common.{◌≡◌, ℕ, ◌<◌, List, length, sym, ◌∙◌, subst}
+use Rattle.std.proofs.Common.{◌≡◌, ℕ, ◌<◌, List, length, sym, subst}
 use Rattle.sj_sql_grammar.specs.Answers.{max_file}
 use Rattle.sj_host.specs.declared.unanswered.Unanswered.{Unanswered}
 use Rattle.sj_host.specs.declared.unanswered.Unanswered.TheVariants.{Refused, FileTooLong, Memory, Room}

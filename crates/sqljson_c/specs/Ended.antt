@@ -1,5 +1,5 @@
 -- How a call ended, as C sees it.
-use Rattle.std.specs.Prelude.{◌≡◌, ℕ, ◌≤◌, List, length}
+use Rattle.std.specs.Prelude.{ℕ, ◌≤◌, List, length}
 use Rattle.sj_sql_grammar.specs.Answers.{max_file}
 use Rattle.sj_sql_grammar.specs.declared.refusal.FileKind.{FileKind}
 use Rattle.sj_file.specs.Verdict.{Refuses}
